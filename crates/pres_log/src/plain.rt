@@ -1,0 +1,88 @@
+//! The log of one writer without sessions.
+
+ghost use Rattle.std.specs.Prelude.{◌≡◌, ◌↔◌, ◌+◌, ◌≤◌, IfOk, IsErrOf, OnErr};
+ghost use Rattle.pres_log.specs.Plains.{fresh, last_number, state_after, kept_after};
+
+use crate::fault::Fault;
+use pres_tree::Tree;
+use pres_write::{Kept, Moment, Op, Outcome, apply_owned};
+use std::alloc::Global;
+use std::marker::Model;
+
+// 2^53 - 1, the greatest number that messages carry.
+const LAST: u64 = 9007199254740991;
+
+/// The log of one writer: how many operations it took, the greatest moment so far, and the tree
+/// that they left. It keeps no operation, so its memory grows with the tree alone.
+#[derive(Drop)]
+pub struct Plain {
+    alloc: Global,
+    number: u64,
+    moment: Moment,
+    tree: Tree,
+}
+
+impl Model for Plain {
+    ghost use Rattle.std.specs.Prelude.{◌≤◌};
+    ghost use Rattle.pres_log.specs.Plains.{PlainState, last_number};
+
+    ghost Value = { PlainState };
+
+    ghost view = { λ p. record { number = p.number; moment = p.moment; tree = p.tree } };
+
+    ghost invariant = { λ p. p.number ≤ last_number };
+}
+
+impl Plain {
+    /// The log before the first operation. It keeps the allocator and takes no memory.
+    pub fn new(alloc: Global) -> Plain
+        ensures { result ≡ fresh }
+    {
+        Plain {
+            alloc,
+            number: 0,
+            moment: Moment::at(0),
+            tree: Tree::empty(),
+        }
+    }
+
+    /// Carries out the operation at the later of the given moment and the greatest one so far,
+    /// and answers its number. At Busy and at Spent the log is as it was.
+    pub fn apply(&mut self, op: &Op, now: Moment) -> Result<(u64, Kept), Fault>
+        ensures answer { IfOk result (λ answer. answer ≡ (self.old.number + 1, kept_after self.old op.now now)) }
+        ensures ok { IfOk result (λ _. self.new ≡ state_after self.old op.now now) }
+        ensures spent { IsErrOf result Fault.Spent ↔ (self.old.number ≡ last_number) }
+        ensures err { OnErr result (self.new ≡ self.old) }
+    {
+        if self.number == LAST {
+            return Err(Fault::Spent);
+        }
+        let moment = self.moment.max(now);
+        let Ok(outcome) = op.resolve(self.alloc, &self.tree, moment) else {
+            return Err(Fault::Busy);
+        };
+        let kept = outcome.kept();
+        let Outcome::Wrote(writes) = outcome;
+        if apply_owned(self.alloc, &mut self.tree, writes).is_err() {
+            return Err(Fault::Busy);
+        }
+        self.number += 1;
+        self.moment = moment;
+        Ok((self.number, kept))
+    }
+
+    /// How many operations it took: the number of the last one.
+    pub fn number(&self) -> u64
+        ensures number { result ≡ self.now.number }
+        ensures bound { result ≤ last_number }
+    {
+        self.number
+    }
+
+    /// The tree after all of them.
+    pub fn tree(&self) -> &Tree
+        ensures { result.now ≡ self.now.tree }
+    {
+        &self.tree
+    }
+}

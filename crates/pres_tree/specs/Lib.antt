@@ -1,0 +1,10 @@
+pub mod Falls
+pub mod Faults
+pub mod Keys
+pub mod Layer
+pub mod Paths
+pub mod Printing
+pub mod Reading
+pub mod Rows
+pub mod Scalars
+pub mod Writes

@@ -1,0 +1,22 @@
+//! Keys, paths and values of the shared JSON tree.
+//!
+//! A contract sees a value as the list of its rows, the path and the leaf of each place that
+//! holds one, in path order. Null is the empty list.
+#![tactic(auto)]
+
+mod fault;
+mod key;
+mod nested;
+mod path;
+mod print;
+mod read;
+mod scalar;
+
+pub use fault::TreeFault;
+pub use key::Key;
+pub use nested::{Change, Leaf, Nested};
+pub use path::Path;
+pub use scalar::{Scalar, Text};
+
+/// A value: null, a scalar, or an object of values under keys.
+pub type Tree = Nested<Scalar>;

@@ -1,0 +1,359 @@
+//! Values: nothing, one leaf, or values under keys.
+
+ghost use Rattle.std.specs.Prelude.{◌≡◌, ◌∷◌, MatchOption, IfOk, IfErr, false, [], option_map};
+ghost use Rattle.std.specs.BTreeMap.{IsOrdered};
+ghost use Rattle.pres_tree.specs.declared.fault.TreeFault.TheVariants.{Memory};
+ghost use Rattle.pres_tree.specs.Keys.{key_cmp};
+ghost use Rattle.pres_tree.specs.Paths.{path_cmp, sorted_by};
+ghost use Rattle.pres_tree.specs.Layer.{Children, child_rows, deepest_of};
+ghost use Rattle.pres_tree.specs.Rows.{IsValue, Fits, is_null, leaf_at, value_at, depth_of, with_leaves, children_with, rows_in};
+ghost use Rattle.pres_tree.specs.Writes.{write, after};
+
+use crate::fault::TreeFault;
+use crate::key::Key;
+use crate::path::Path;
+use serde_json::Value;
+use std::alloc::{AllocError, Global};
+use std::collections::BTreeMap;
+use std::marker::Model;
+
+/// What may stand at a place of a value, and how JSON tells it.
+pub trait Leaf: Drop {
+    ghost use Rattle.std.specs.Prelude.{◌≡◌, ◌⊎◌, true, IfOk, MatchResult};
+    ghost use Rattle.serde_json.specs.Data.{Data, Members, null, object};
+    ghost use Rattle.serde_json.specs.View.{view};
+    ghost use Rattle.pres_tree.specs.Reading.{Reading, HasKeys, branch, leaf, bad, is_leaf};
+    ghost use Rattle.pres_tree.specs.declared.fault.TreeFault.TheVariants.{Memory};
+
+    ghost reading: { Data → Reading Self };
+
+    ghost printing: { Self → Data };
+
+    /// An equal leaf.
+    fn copy(&self, alloc: Global) -> Result<Self, AllocError>
+        ensures { IfOk result (λ made. made ≡ self.now) };
+
+    /// Whether the JSON value is a leaf, or refused as one.
+    fn is_leaf(value: &Value) -> bool
+        ensures { result ≡ is_leaf (reading (view value.now)) };
+
+    /// The leaf of a JSON value.
+    fn read(alloc: Global, value: &Value) -> Result<Self, TreeFault>
+        requires { is_leaf (reading (view value.now)) ≡ true }
+        ensures { MatchResult result
+            (λ made. reading (view value.now) ≡ leaf made)
+            (λ e. (e ≡ Memory) ⊎ (reading (view value.now) ≡ bad e)) };
+
+    /// The JSON value of the leaf.
+    fn print(&self, alloc: Global) -> Result<Value, AllocError>
+        ensures json { IfOk result (λ made. view made ≡ printing self.now) }
+        ensures reads_back { IfOk result (λ made. reading (view made) ≡ leaf self.now) };
+
+    // Null is no leaf, and neither is an object whose names are keys.
+    ghost null_is_branch: { reading null ≡ branch };
+
+    ghost object_is_branch: { (members : Members) → HasKeys members → reading (object members) ≡ branch };
+}
+
+/// A value over leaves of the type `L`: null, one leaf, or values under keys. Null has one form:
+/// no object stands without children, and no child is null.
+#[cycle(tree)]
+#[derive(Drop)]
+pub struct Nested<L> {
+    pub(crate) node: Node<L>,
+}
+
+#[cycle(tree)]
+#[derive(Drop)]
+pub(crate) enum Node<L> {
+    Empty,
+    Leaf(L),
+    Object(BTreeMap<Key, Nested<L>>),
+}
+
+impl<L> Model for Nested<L> {
+    ghost use Rattle.pres_tree.specs.Rows.{Rows, height};
+
+    ghost Value = { Rows L };
+
+    ghost use Rattle.pres_tree.specs.Layer.{rows_of_node, IsNode};
+
+    ghost view = { λ t. rows_of_node t.node };
+
+    ghost invariant = { λ t. IsNode t.node };
+
+    ghost size = { height };
+
+    ghost use Rattle.pres_tree.specs.Falls.{falls};
+
+    ghost size_decreases = { λ t h. falls t.node h };
+}
+
+impl<L> Nested<L> {
+    /// Null.
+    pub fn empty() -> Nested<L>
+        ensures { result ≡ [] }
+    {
+        Nested { node: Node::Empty }
+    }
+
+    /// The value that is one leaf.
+    pub fn scalar(leaf: L) -> Nested<L>
+        ensures { result ≡ ([], leaf) ∷ [] }
+    {
+        Nested {
+            node: Node::Leaf(leaf),
+        }
+    }
+
+    /// Whether it is null.
+    pub fn is_empty(&self) -> bool
+        ensures null { result ≡ is_null self.now }
+        ensures value { IsValue self.now }
+    {
+        matches!(&self.node, Node::Empty)
+    }
+
+    /// The leaf that is all of it.
+    pub fn as_scalar(&self) -> Option<&L>
+        ensures { option_map (λ leaf. leaf.now) result ≡ leaf_at self.now [] }
+    {
+        match &self.node {
+            Node::Leaf(leaf) => Some(leaf),
+            _ => None,
+        }
+    }
+
+    /// The value at the path, where something stands there: the value of a null is `None`.
+    pub fn at(&self, path: &Path) -> Option<&Nested<L>>
+        ensures { MatchOption result
+            (value_at path.now self.now ≡ [])
+            (λ t. (is_null t.now ≡ false) × IsValue t.now × (value_at path.now self.now ≡ t.now)) }
+    {
+        self.find(path.keys())
+    }
+
+    // The value at the place that the keys name, where something stands there.
+    fn find(&self, keys: &[Key]) -> Option<&Nested<L>>
+        ensures { MatchOption result
+            (value_at keys.now self.now ≡ [])
+            (λ t. (is_null t.now ≡ false) × IsValue t.now × (value_at keys.now self.now ≡ t.now)) }
+    {
+        match keys.split_first() {
+            None => { if self.is_empty() { None } else { Some(self) } }
+            Some((key, rest)) => match &self.node {
+                Node::Object(children) => match children.get(key) {
+                    Some(child) => child.find(rest),
+                    None => None,
+                },
+                _ => None,
+            },
+        }
+    }
+
+    /// The most keys from its root to a leaf, 0 for null and for a leaf alone.
+    #[cycle(depth)]
+    pub fn depth(&self) -> usize
+        ensures depth { result ≡ depth_of self.now }
+        ensures value { IsValue self.now }
+    {
+        match &self.node {
+            Node::Object(children) => deepest(children) + 1,
+            _ => 0,
+        }
+    }
+}
+
+// The most keys from the root of a child to a leaf.
+#[cycle(depth)]
+fn deepest<L>(children: &BTreeMap<Key, Nested<L>>) -> usize
+    ensures { result ≡ deepest_of children.now.entries }
+{
+    let mut deepest = 0;
+    for child in children.values() {
+        deepest = child.depth().max(deepest);
+    }
+    deepest
+}
+
+impl<L: Drop> Nested<L> {
+    // The value with these children.
+    pub(crate) fn of_children(children: BTreeMap<Key, Nested<L>>) -> Nested<L>
+        requires some { Children children.entries }
+        requires order { IsOrdered key_cmp children }
+        requires value { IsValue (sorted_by path_cmp (child_rows children.entries)) }
+        ensures { result ≡ sorted_by path_cmp (child_rows children.entries) }
+    {
+        if children.is_empty() {
+            Nested { node: Node::Empty }
+        } else {
+            Nested {
+                node: Node::Object(children),
+            }
+        }
+    }
+
+    /// Puts a value in the place of all that stands at the path; none takes it away. A scalar
+    /// above the path goes where something is put, and stays where nothing is. At Memory, the
+    /// one refusal, the value is as it was.
+    pub fn set(
+        &mut self,
+        alloc: Global,
+        path: &Path,
+        value: Option<Nested<L>>,
+    ) -> Result<(), TreeFault>
+        requires { Fits path.now (rows_in value) }
+        ensures ok { IfOk result (λ _. self.new ≡ after self.old (write path.now (rows_in value) ∷ [])) }
+        ensures err { IfErr result (λ e. (e ≡ Memory) × (self.new ≡ self.old)) }
+    {
+        match value {
+            Some(value) => {
+                if value.is_empty() {
+                    self.clear(path.keys());
+                } else {
+                    self.put(alloc, path.keys(), value)?;
+                }
+            }
+            None => self.clear(path.keys()),
+        }
+        Ok(())
+    }
+
+    // The value with `value` alone, below the keys.
+    fn branch(alloc: Global, keys: &[Key], value: Nested<L>) -> Result<Nested<L>, AllocError>
+        requires some { is_null value ≡ false }
+        requires value { IsValue value }
+        requires fits { Fits keys.now value }
+        ensures { IfOk result (λ t. t ≡ after [] (write keys.now value ∷ [])) }
+    {
+        match keys.split_first() {
+            None => Ok(value),
+            Some((key, rest)) => {
+                let child = Nested::branch(alloc, rest, value)?;
+                let mut children = BTreeMap::new(alloc);
+                drop(children.insert(key.copy(alloc)?, child)?);
+                Ok(Nested {
+                    node: Node::Object(children),
+                })
+            }
+        }
+    }
+
+    // Puts a value that is not null.
+    fn put(&mut self, alloc: Global, keys: &[Key], value: Nested<L>) -> Result<(), AllocError>
+        requires some { is_null value ≡ false }
+        requires value { IsValue value }
+        requires fits { Fits keys.now value }
+        ensures ok { IfOk result (λ _. self.new ≡ after self.old (write keys.now value ∷ [])) }
+        ensures err { IfErr result (λ _. self.new ≡ self.old) }
+    {
+        let Some((key, rest)) = keys.split_first() else {
+            *self = value;
+            return Ok(());
+        };
+        if let Node::Object(children) = &mut self.node {
+            if let Some(child) = children.get_mut(key) {
+                child.put(alloc, rest, value)?;
+                return Ok(());
+            }
+            let child = Nested::branch(alloc, rest, value)?;
+            drop(children.insert(key.copy(alloc)?, child)?);
+            return Ok(());
+        }
+        *self = Nested::branch(alloc, keys, value)?;
+        Ok(())
+    }
+
+    // Takes away what stands at or below the keys.
+    fn clear(&mut self, keys: &[Key])
+        ensures { self.new ≡ after self.old (write keys.now [] ∷ []) }
+    {
+        let Some((key, rest)) = keys.split_first() else {
+            self.node = Node::Empty;
+            return;
+        };
+        if let Node::Object(children) = &mut self.node {
+            let Some(child) = children.get_mut(key) else {
+                return;
+            };
+            child.clear(rest);
+            if !child.is_empty() {
+                return;
+            }
+            children.remove(key);
+            if children.is_empty() {
+                self.node = Node::Empty;
+            }
+        }
+    }
+}
+
+/// How a leaf is copied into one of another kind.
+pub trait Change<L, M>: Drop {
+    ghost makes: { Self → L → M };
+
+    /// The leaf of the other kind.
+    fn change(&self, alloc: Global, leaf: &L) -> Result<M, AllocError>
+        ensures { IfOk result (λ made. made ≡ makes self.now leaf.now) };
+}
+
+// Leaves are copied as they are.
+#[derive(Drop)]
+struct Same {}
+
+impl<L: Leaf> Change<L, L> for Same {
+    ghost makes = { λ _ leaf. leaf };
+
+    fn change(&self, alloc: Global, leaf: &L) -> Result<L, AllocError> {
+        leaf.copy(alloc)
+    }
+}
+
+impl<L: Leaf> Nested<L> {
+    /// An equal value.
+    pub fn copy(&self, alloc: Global) -> Result<Nested<L>, AllocError>
+        ensures { IfOk result (λ t. t ≡ self.now) }
+    {
+        self.changed(alloc, &Same {})
+    }
+}
+
+impl<L> Nested<L> {
+    /// The value with each leaf changed, made in one walk.
+    #[cycle(changed)]
+    pub fn changed<M: Drop, C: Change<L, M>>(
+        &self,
+        alloc: Global,
+        how: &C,
+    ) -> Result<Nested<M>, AllocError>
+        ensures { IfOk result (λ t. t ≡ with_leaves (C.makes how.now) self.now) }
+    {
+        match &self.node {
+            Node::Empty => Ok(Nested::empty()),
+            Node::Leaf(leaf) => Ok(Nested::scalar(how.change(alloc, leaf)?)),
+            Node::Object(children) => {
+                let changed = changed_children(alloc, children, how)?;
+                Ok(Nested {
+                    node: Node::Object(changed),
+                })
+            }
+        }
+    }
+}
+
+#[cycle(changed)]
+fn changed_children<L, M: Drop, C: Change<L, M>>(
+    alloc: Global,
+    children: &BTreeMap<Key, Nested<L>>,
+    how: &C,
+) -> Result<BTreeMap<Key, Nested<M>>, AllocError>
+    ensures entries { IfOk result (λ m. m.entries ≡ children_with (C.makes how.now) children.now.entries) }
+    ensures ordered { IfOk result (λ m. IsOrdered key_cmp m) }
+{
+    let mut changed = BTreeMap::new(alloc);
+    for (key, child) in children.iter() {
+        let name = key.copy(alloc)?;
+        drop(changed.insert(name, child.changed(alloc, how)?)?);
+    }
+    Ok(changed)
+}

@@ -1,0 +1,198 @@
+//! Paths: the keys from the root to a place.
+
+ghost use Rattle.std.specs.Prelude.{◌≡◌, ◌⊎◌, ◌↔◌, [], length, IsTrue, IfOk, MatchResult, Some, None, option_map, string_bytes};
+ghost use Rattle.pres_tree.specs.Keys.{key_cmp};
+ghost use Rattle.pres_tree.specs.Paths.{IsPath, below, is_prefix, segments, path_fault, path_text, keys_text};
+ghost use Rattle.pres_tree.specs.declared.fault.TreeFault.TheVariants.{Memory};
+
+use crate::fault::TreeFault;
+use crate::key::Key;
+use std::alloc::{AllocError, Global};
+use std::cmp::Ordering;
+use std::marker::Model;
+
+// The keys of the deepest path.
+const DEEPEST: usize = 32;
+
+/// A path: at most 32 keys from the root to a place. Contracts see it as the list of its keys.
+/// Paths are ordered key by key in byte order, a prefix first.
+#[derive(Drop)]
+pub struct Path {
+    keys: Vec<Key>,
+}
+
+impl Model for Path {
+    ghost use Rattle.std.specs.Prelude.{ℕ, List};
+    ghost use Rattle.pres_tree.specs.Paths.{IsPath};
+
+    ghost Value = { List (List ℕ) };
+
+    ghost view = { λ p. p.keys.items };
+
+    ghost invariant = { λ p. IsPath p.keys.items };
+}
+
+impl Path {
+    /// The path of the root. It keeps the allocator and takes no memory.
+    pub fn root(alloc: Global) -> Path
+        ensures { result ≡ [] }
+    {
+        Path {
+            keys: Vec::new(alloc),
+        }
+    }
+
+    /// The path of a text, its keys after slashes. The leading slash is optional and empty
+    /// pieces are skipped. Refused where a key is (LongKey, BadKey), all keys in their order, and
+    /// then where there are more than 32 (TooDeep).
+    pub fn parse(alloc: Global, text: &str) -> Result<Path, TreeFault>
+        ensures path { MatchResult result
+            (λ p. (p ≡ segments text.now) × (path_fault text.now ≡ None))
+            (λ e. (e ≡ Memory) ⊎ (path_fault text.now ≡ Some e)) }
+    {
+        let mut keys = Vec::new(alloc);
+        let mut is_deep = false;
+        for piece in text.split('/') {
+            if piece.is_empty() {
+                continue;
+            }
+            if keys.len() < DEEPEST {
+                keys.push(Key::parse(alloc, piece)?)?;
+            } else {
+                Key::check(piece)?;
+                is_deep = true;
+            }
+        }
+        if is_deep {
+            return Err(TreeFault::TooDeep);
+        }
+        Ok(Path { keys })
+    }
+
+    /// Its text: a slash for the root, else each key after a slash.
+    pub fn text(&self, alloc: Global) -> Result<String, AllocError>
+        ensures { IfOk result (λ t. string_bytes t ≡ path_text self.now) }
+    {
+        if self.keys.is_empty() {
+            return String::from_str(alloc, "/");
+        }
+        let mut text = String::new(alloc);
+        for key in &self.keys {
+            text.push('/')?;
+            text.push_str(key.text())?;
+        }
+        Ok(text)
+    }
+
+    pub(crate) fn keys(&self) -> &[Key]
+        ensures keys { result.now ≡ self.now }
+        ensures path { IsPath self.now }
+    {
+        &self.keys
+    }
+
+    /// How many keys it has.
+    pub fn len(&self) -> usize
+        ensures len { result ≡ length self.now }
+        ensures path { IsPath self.now }
+    {
+        self.keys.len()
+    }
+
+    /// Whether it is the root.
+    pub fn is_root(&self) -> bool
+        ensures { IsTrue result ↔ (self.now ≡ []) }
+    {
+        self.keys.is_empty()
+    }
+
+    /// Whether the other path is this one or below it.
+    pub fn is_prefix_of(&self, other: &Path) -> bool
+        ensures { result ≡ is_prefix self.now other.now }
+    {
+        rest(&self.keys, &other.keys).is_some()
+    }
+
+    /// An equal path.
+    pub fn copy(&self, alloc: Global) -> Result<Path, AllocError>
+        ensures { IfOk result (λ p. p ≡ self.now) }
+    {
+        let mut keys = Vec::new(alloc);
+        for key in &self.keys {
+            keys.push(key.copy(alloc)?)?;
+        }
+        Ok(Path { keys })
+    }
+}
+
+// The keys after these first ones.
+fn rest<'a>(prefix: &[Key], keys: &'a [Key]) -> Option<&'a [Key]>
+    ensures rest { option_map (λ ks. ks.now) result ≡ below prefix.now keys.now }
+{
+    let Some((key, prefix)) = prefix.split_first() else {
+        return Some(keys);
+    };
+    let (other, keys) = keys.split_first()?;
+    if key == other {
+        rest(prefix, keys)
+    } else {
+        None
+    }
+}
+
+impl PartialEq for Path {
+    ghost use Rattle.std.specs.Prelude.{◌==◌};
+    ghost use Rattle.std.specs.Cmp.Lexicographic.{pointwise};
+    ghost use Rattle.std.proofs.Common.{rules};
+    ghost use Rattle.std.specs.Cmp.Rules.{comparing};
+
+    ghost eq = { pointwise (pointwise ◌==◌) };
+
+    ghost laws = { Prim.search (comparing, rules) };
+
+    fn eq(&self, other: &Path) -> bool {
+        self.keys == other.keys
+    }
+}
+
+impl Eq for Path {
+    ghost use Rattle.std.proofs.Common.{rules};
+    ghost use Rattle.std.specs.Cmp.Rules.{comparing};
+
+    ghost laws = { Prim.search (comparing, rules) };
+}
+
+impl PartialOrd for Path {
+    ghost use Rattle.std.specs.Ordering.{nat_cmp, as_partial_cmp};
+    ghost use Rattle.std.specs.Cmp.Lexicographic.{slice_cmp};
+    ghost use Rattle.std.specs.Cmp.{partial_order_from_own_ties};
+    ghost use Rattle.std.proofs.Common.{rules};
+    ghost use Rattle.std.specs.Cmp.Rules.{comparing};
+
+    ghost partial_cmp = { as_partial_cmp (slice_cmp (slice_cmp nat_cmp)) };
+
+    ghost laws = { partial_order_from_own_ties (Prim.search (comparing, rules)) (Prim.search (comparing, rules)) };
+
+    fn partial_cmp(&self, other: &Path) -> Option<Ordering> {
+        Some(self.cmp(other))
+    }
+}
+
+impl Ord for Path {
+    ghost use Rattle.std.specs.Ordering.{nat_cmp};
+    ghost use Rattle.std.specs.Cmp.Lexicographic.{slice_cmp};
+    ghost use Rattle.std.proofs.Common.{rules};
+    ghost use Rattle.std.specs.Cmp.Rules.{comparing};
+
+    ghost cmp = { slice_cmp (slice_cmp nat_cmp) };
+
+    ghost total = { Prim.search (comparing, rules) };
+
+    ghost matches_partial_cmp = { Prim.search (comparing, rules) };
+
+    ghost matches_eq = { Prim.search (comparing, rules) };
+
+    fn cmp(&self, other: &Path) -> Ordering {
+        self.keys.cmp(&other.keys)
+    }
+}

@@ -1,0 +1,136 @@
+//! Values from JSON.
+
+ghost use Rattle.std.specs.Prelude.{◌≡◌, ◌+◌, ◌-◌, ◌≤◌, ◌⊎◌, MatchResult, IfOk, Some, None, length, option_map};
+ghost use Rattle.serde_json.specs.View.{view, items_view, members_view};
+ghost use Rattle.pres_tree.specs.declared.fault.TreeFault.TheVariants.{Memory};
+ghost use Rattle.pres_tree.specs.Paths.{path_cmp, sorted_by};
+ghost use Rattle.pres_tree.specs.Rows.{Fits};
+ghost use Rattle.pres_tree.specs.Reading.{rows_of, fault_of, items_rows, items_fault, members_rows, members_fault, first_of, fault_in, Shallow};
+
+use crate::fault::TreeFault;
+use crate::key::Key;
+use crate::nested::{Leaf, Nested};
+use crate::path::Path;
+use serde_json::{Map, Value};
+use std::alloc::Global;
+use std::collections::BTreeMap;
+
+// The keys from the root to a leaf, and one more.
+const LEVELS: usize = 33;
+
+// A fault, and the key of the item that has it.
+type KeyedFault = (Key, TreeFault);
+
+impl<L: Leaf> Nested<L> {
+    /// The value of a JSON value: arrays under their indexes, nulls and objects without
+    /// children left out. The first fault of a depth-first walk in byte order of keys is
+    /// answered: at a key EmptyKey, LongKey, BadKey, at a leaf TooDeep, NotWhole, Range.
+    pub fn from_value(alloc: Global, value: &Value) -> Result<Nested<L>, TreeFault>
+        ensures { MatchResult result
+            (λ t. (fault_of L.reading 33 (view value.now) ≡ None) × (t ≡ rows_of L.reading (view value.now)))
+            (λ e. (e ≡ Memory) ⊎ (fault_of L.reading 33 (view value.now) ≡ Some e)) }
+    {
+        read_at(alloc, value, LEVELS)
+    }
+
+    /// The same for a value that is to stand at the path, whose keys count as depth.
+    pub fn from_value_below(
+        alloc: Global,
+        value: &Value,
+        path: &Path,
+    ) -> Result<Nested<L>, TreeFault>
+        ensures read { MatchResult result
+            (λ t. (fault_of L.reading (33 - length path.now) (view value.now) ≡ None) × (t ≡ rows_of L.reading (view value.now)))
+            (λ e. (e ≡ Memory) ⊎ (fault_of L.reading (33 - length path.now) (view value.now) ≡ Some e)) }
+        ensures fits { IfOk result (λ t. Fits path.now t) }
+    {
+        read_at(alloc, value, LEVELS - path.len())
+    }
+}
+
+// The value, with so many levels left for its leaves.
+#[cycle(read)]
+fn read_at<L: Leaf>(alloc: Global, value: &Value, left: usize) -> Result<Nested<L>, TreeFault>
+    requires { left ≤ 33 }
+    ensures read { MatchResult result
+        (λ t. (fault_of L.reading left (view value.now) ≡ None) × (t ≡ rows_of L.reading (view value.now)))
+        (λ e. (e ≡ Memory) ⊎ (fault_of L.reading left (view value.now) ≡ Some e)) }
+    ensures shallow { IfOk result (λ t. Shallow left t) }
+{
+    if L::is_leaf(value) {
+        if left == 0 {
+            return Err(TreeFault::TooDeep);
+        }
+        return Ok(Nested::scalar(L::read(alloc, value)?));
+    }
+    match value {
+        Value::Array(items) => read_items(alloc, items, left.saturating_sub(1)),
+        Value::Object(members) => read_members(alloc, members, left.saturating_sub(1)),
+        _ => Ok(Nested::empty()),
+    }
+}
+
+#[cycle(read)]
+fn read_items<L: Leaf>(
+    alloc: Global,
+    items: &Vec<Value>,
+    left: usize,
+) -> Result<Nested<L>, TreeFault>
+    requires { left ≤ 32 }
+    ensures read { MatchResult result
+        (λ t. (items_fault L.reading left 0 (items_view items.now.items) ≡ None) × (t ≡ sorted_by path_cmp (items_rows L.reading 0 (items_view items.now.items))))
+        (λ e. (e ≡ Memory) ⊎ (fault_in (items_fault L.reading left 0 (items_view items.now.items)) ≡ Some e)) }
+    ensures shallow { IfOk result (λ t. Shallow (left + 1) t) }
+{
+    let mut children = BTreeMap::new(alloc);
+    let mut first = None;
+    let mut index: usize = 0;
+    for item in items {
+        let key = Key::of_index(alloc, index)?;
+        match read_at(alloc, item, left) {
+            Ok(child) => if !child.is_empty() {
+                drop(children.insert(key, child)?);
+            },
+            Err(TreeFault::Memory) => return Err(TreeFault::Memory),
+            Err(fault) => first = Some(earlier(first, key, fault)),
+        }
+        index += 1;
+    }
+    match first {
+        Some((_, fault)) => Err(fault),
+        None => Ok(Nested::of_children(children)),
+    }
+}
+
+// The fault whose key comes first.
+fn earlier(first: Option<KeyedFault>, key: Key, fault: TreeFault) -> KeyedFault
+    ensures { Some result ≡ first_of first (Some (key, fault)) }
+{
+    match first {
+        Some(first) => if key < first.0 { (key, fault) } else { first },
+        None => (key, fault),
+    }
+}
+
+#[cycle(read)]
+fn read_members<L: Leaf>(
+    alloc: Global,
+    members: &Map<String, Value>,
+    left: usize,
+) -> Result<Nested<L>, TreeFault>
+    requires { left ≤ 32 }
+    ensures read { MatchResult result
+        (λ t. (members_fault L.reading left (members_view members.now.entries) ≡ None) × (t ≡ sorted_by path_cmp (members_rows L.reading (members_view members.now.entries))))
+        (λ e. (e ≡ Memory) ⊎ (members_fault L.reading left (members_view members.now.entries) ≡ Some e)) }
+    ensures shallow { IfOk result (λ t. Shallow (left + 1) t) }
+{
+    let mut children = BTreeMap::new(alloc);
+    for (name, member) in members.iter() {
+        let key = Key::parse(alloc, name.as_str())?;
+        let child = read_at(alloc, member, left)?;
+        if !child.is_empty() {
+            drop(children.insert(key, child)?);
+        }
+    }
+    Ok(Nested::of_children(children))
+}

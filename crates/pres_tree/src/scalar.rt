@@ -1,0 +1,111 @@
+//! What a place of a tree holds.
+
+ghost use Rattle.std.specs.Prelude.{◌≡◌, IfOk, string_bytes};
+
+use crate::fault::TreeFault;
+use crate::nested::Leaf;
+use serde_json::Value;
+use std::alloc::{AllocError, Global};
+use std::marker::Model;
+
+/// A text that contracts see as its bytes.
+#[derive(Drop)]
+pub struct Text {
+    text: String,
+}
+
+impl Model for Text {
+    ghost use Rattle.std.specs.Prelude.{List, ℕ, string_bytes};
+
+    ghost Value = { List ℕ };
+
+    ghost view = { λ a. string_bytes a.text };
+}
+
+impl Text {
+    /// The text of a string, which is moved.
+    pub fn of(text: String) -> Text
+        ensures { result ≡ string_bytes text }
+    {
+        Text { text }
+    }
+
+    /// The characters.
+    pub fn as_str(&self) -> &str
+        ensures { result.now ≡ self.now }
+    {
+        self.text.as_str()
+    }
+
+    /// An equal text.
+    pub fn copy(&self, alloc: Global) -> Result<Text, AllocError>
+        ensures { IfOk result (λ t. t ≡ self.now) }
+    {
+        Ok(Text {
+            text: String::from_str(alloc, self.text.as_str())?,
+        })
+    }
+}
+
+/// What a place of a tree holds: a truth, a whole number of 64 bits, or a text.
+#[derive(Drop)]
+pub enum Scalar {
+    Bool(bool),
+    Int(i64),
+    Text(Text),
+}
+
+impl Leaf for Scalar {
+    ghost use Rattle.pres_tree.specs.Scalars.{scalar_reading, scalar_printing};
+
+    ghost reading = { scalar_reading };
+
+    ghost printing = { scalar_printing };
+
+    fn copy(&self, alloc: Global) -> Result<Scalar, AllocError> {
+        match self {
+            Scalar::Bool(truth) => Ok(Scalar::Bool(*truth)),
+            Scalar::Int(number) => Ok(Scalar::Int(*number)),
+            Scalar::Text(text) => Ok(Scalar::Text(text.copy(alloc)?)),
+        }
+    }
+
+    fn is_leaf(value: &Value) -> bool {
+        matches!(value, Value::Bool(_) | Value::Number(_) | Value::String(_))
+    }
+
+    fn read(alloc: Global, value: &Value) -> Result<Scalar, TreeFault> {
+        match value {
+            Value::Bool(truth) => Ok(Scalar::Bool(*truth)),
+            Value::String(text) => Ok(Scalar::Text(Text::of(String::from_str(
+                alloc,
+                text.as_str(),
+            )?))),
+            Value::Number(number) => match number.as_i64() {
+                Some(whole) => Ok(Scalar::Int(whole)),
+                None => {
+                    if number.is_u64() {
+                        Err(TreeFault::Range)
+                    } else {
+                        Err(TreeFault::NotWhole)
+                    }
+                }
+            },
+            _ => Err(TreeFault::Memory),
+        }
+    }
+
+    fn print(&self, alloc: Global) -> Result<Value, AllocError> {
+        match self {
+            Scalar::Bool(truth) => Ok(Value::Bool(*truth)),
+            Scalar::Int(number) => Ok(Value::from(*number)),
+            Scalar::Text(text) => Ok(Value::String(String::from_str(alloc, text.as_str())?)),
+        }
+    }
+
+    ghost use Rattle.std.specs.Prelude.{refl};
+
+    ghost null_is_branch = { refl };
+
+    ghost object_is_branch = { λ _ _. refl };
+}

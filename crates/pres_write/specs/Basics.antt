@@ -1,0 +1,27 @@
+-- Basic writes as code holds them, where null is `None`.
+use Rattle.std.specs.Prelude.{◌≡◌, ◌<◌, ℕ, List, map, length, take}
+use Rattle.pres_tree.specs.declared.scalar.Scalar.{Scalar}
+use Rattle.pres_tree.specs.Paths.{Path}
+use Rattle.pres_tree.specs.Rows.{Rows, Fits, option_of, rows_in}
+use Rattle.pres_tree.specs.Writes.{Write, write, after}
+use Rattle.pres_write.specs.declared.basic.Basic.{Basic}
+
+abbrev pub write_of : Basic → Write Scalar
+write_of b = write b.path (rows_in b.value)
+
+abbrev pub basic : Path → Rows Scalar → Basic
+basic p v = record { path = p; value = option_of v }
+
+-- the value may stand at the path
+abbrev pub FitsThere : Basic → Type 0
+FitsThere b = Fits b.path (rows_in b.value)
+
+-- the tree after these writes
+abbrev pub applied : Rows Scalar → List Basic → Rows Scalar
+applied tree writes = after tree (map write_of writes)
+
+-- the first k of the writes stand, and the rest do not
+pub record AppliesFirst (writes : List Basic) (old new : Rows Scalar) : Type 0 where
+  pub k : ℕ
+  pub some_left : k < length writes
+  pub stands : new ≡ applied old (take k writes)

@@ -1,0 +1,60 @@
+-- What a JSON value is to a draft, and what a draft comes to at a moment. An object with the name `.sv` is a
+-- placeholder, as in Firebase Realtime Database's server values, or refused.
+use Rattle.std.specs.Prelude.{◌==◌, ◌&&◌, ℕ, Bool, true, false, if◌then◌else◌, codes, pos, Option, Some, None}
+use Rattle.std.specs.Cmp.Lexicographic.{pointwise}
+use Rattle.serde_json.specs.Data.{Data, null, boolean, number, string, array, object, Members, no_members, member}
+use Rattle.serde_json.specs.Find.{get_member}
+use Rattle.pres_tree.specs.declared.fault.TreeFault.TheVariants.{Placeholder}
+use Rattle.pres_tree.specs.declared.scalar.Scalar.{Scalar}
+use Rattle.pres_tree.specs.declared.scalar.Scalar.TheVariants.{Int}
+use Rattle.pres_tree.specs.Reading.{Reading, branch, leaf, bad}
+use Rattle.pres_tree.specs.Rows.{Rows, with_leaves}
+use Rattle.pres_tree.specs.Scalars.{scalar_reading, scalar_printing}
+use Rattle.pres_write.specs.declared.draft.Slot.{Slot}
+use Rattle.pres_write.specs.declared.draft.Slot.TheVariants.{Fixed, Timestamp}
+
+-- a placeholder becomes the moment
+abbrev pub settled_slot : ℕ → Slot → Scalar
+settled_slot moment (Fixed s) = s
+settled_slot moment Timestamp = Int (pos moment)
+
+-- what a draft comes to
+abbrev pub settled : ℕ → Rows Slot → Rows Scalar
+settled moment draft = with_leaves (settled_slot moment) draft
+
+-- ---- JSON
+
+abbrev pub fixed : Reading Scalar → Reading Slot
+fixed branch = branch
+fixed (leaf s) = leaf (Fixed s)
+fixed (bad e) = bad e
+
+abbrev pub is_timestamp : Data → Bool
+is_timestamp null = false
+is_timestamp (boolean b) = false
+is_timestamp (number n) = false
+is_timestamp (string s) = pointwise ◌==◌ s (codes "timestamp")
+is_timestamp (array ds) = false
+is_timestamp (object ms) = false
+
+abbrev pub is_one : Members → Bool
+is_one no_members = false
+is_one (member k d no_members) = true
+is_one (member k d (member l e ms)) = false
+
+-- an object by its member `.sv`: that alone, and the word for the moment
+abbrev pub placeholder : Members → Option Data → Reading Slot
+placeholder ms None = branch
+placeholder ms (Some d) = if is_one ms && is_timestamp d then leaf Timestamp else bad Placeholder
+
+abbrev pub slot_reading : Data → Reading Slot
+slot_reading null = branch
+slot_reading (boolean b) = fixed (scalar_reading (boolean b))
+slot_reading (number n) = fixed (scalar_reading (number n))
+slot_reading (string s) = fixed (scalar_reading (string s))
+slot_reading (array ds) = branch
+slot_reading (object ms) = placeholder ms (get_member (codes ".sv") ms)
+
+abbrev pub slot_printing : Slot → Data
+slot_printing (Fixed s) = scalar_printing s
+slot_printing Timestamp = object (member (codes ".sv") (string (codes "timestamp")) no_members)

@@ -1,0 +1,68 @@
+//! Basic writes, and how they change the tree.
+
+ghost use Rattle.std.specs.Prelude.{◌≡◌, ◌∷◌, [], All, IfOk, IfErr};
+ghost use Rattle.pres_tree.specs.Rows.{Fits, rows_in};
+ghost use Rattle.pres_tree.specs.Writes.{write, after};
+ghost use Rattle.pres_tree.specs.declared.fault.TreeFault.TheVariants.{Memory};
+ghost use Rattle.pres_write.specs.Basics.{FitsThere, AppliesFirst, applied};
+ghost use Rattle.pres_write.specs.declared.fault.WriteFault.TheVariants.{Tree as TreeRefused};
+
+use crate::fault::WriteFault;
+use crate::items::Items;
+use pres_tree::{Path, Tree};
+use std::alloc::{AllocError, Global};
+
+/// One write: a value that takes the place of all that stands at the path, or none, which
+/// removes it.
+#[derive(Drop)]
+pub struct Basic {
+    pub path: Path,
+    pub value: Option<Tree>,
+}
+
+impl Basic {
+    /// An equal write.
+    pub fn copy(&self, alloc: Global) -> Result<Basic, AllocError>
+        ensures { IfOk result (λ made. made ≡ self.now) }
+    {
+        let value = match &self.value {
+            Some(value) => Some(value.copy(alloc)?),
+            None => None,
+        };
+        Ok(Basic {
+            path: self.path.copy(alloc)?,
+            value,
+        })
+    }
+}
+
+/// Applies the writes in their order, with copies of their values. At Memory, the one refusal, a
+/// prefix of the writes stands, none of them in part.
+pub fn apply(alloc: Global, tree: &mut Tree, writes: &[Basic]) -> Result<(), WriteFault>
+    requires { All FitsThere writes.now }
+    ensures ok { IfOk result (λ _. tree.new ≡ applied tree.old writes.now) }
+    ensures err { IfErr result (λ e. (e ≡ TreeRefused Memory) × AppliesFirst writes.now tree.old tree.new) }
+{
+    for write in writes {
+        let value = match &write.value {
+            Some(value) => Some(value.copy(alloc)?),
+            None => None,
+        };
+        tree.set(alloc, &write.path, value)?;
+    }
+    Ok(())
+}
+
+/// Applies the writes in their order, and moves their values into the tree. At Memory, the one
+/// refusal, a prefix of the writes stands, none of them in part.
+pub fn apply_owned(alloc: Global, tree: &mut Tree, writes: Items<Basic>) -> Result<(), WriteFault>
+    requires { All FitsThere writes }
+    ensures ok { IfOk result (λ _. tree.new ≡ applied tree.old writes) }
+    ensures err { IfErr result (λ e. (e ≡ TreeRefused Memory) × AppliesFirst writes tree.old tree.new) }
+{
+    for write in writes.into_vec() {
+        let Basic {path, value} = write;
+        tree.set(alloc, &path, value)?;
+    }
+    Ok(())
+}

@@ -1,0 +1,118 @@
+//! Drafts: values whose leaves may be placeholders.
+
+ghost use Rattle.std.specs.Prelude.{◌≡◌, IfOk};
+ghost use Rattle.serde_json.specs.View.{view};
+ghost use Rattle.pres_write.specs.Drafts.{is_timestamp, settled};
+
+use crate::moment::Moment;
+use pres_tree::{Change, Leaf, Nested, Scalar, Tree, TreeFault};
+use serde_json::{Map, Value};
+use std::alloc::{AllocError, Global};
+
+/// The name that only placeholders have, as in Firebase Realtime Database's server values.
+const PLACEHOLDER: &str = ".sv";
+
+/// A scalar, or a placeholder for the moment.
+#[derive(Drop)]
+pub enum Slot {
+    Fixed(Scalar),
+    /// `{".sv":"timestamp"}`: the server's time.
+    Timestamp,
+}
+
+/// A value that may hold placeholders.
+pub type Draft = Nested<Slot>;
+
+// Whether the value is the word for the moment.
+fn is_timestamp(value: &Value) -> bool
+    ensures { result ≡ is_timestamp (view value.now) }
+{
+    match value {
+        Value::String(text) => text.as_str() == "timestamp",
+        _ => false,
+    }
+}
+
+impl Leaf for Slot {
+    ghost use Rattle.pres_write.specs.Drafts.{slot_reading, slot_printing};
+
+    ghost reading = { slot_reading };
+
+    ghost printing = { slot_printing };
+
+    fn copy(&self, alloc: Global) -> Result<Slot, AllocError> {
+        match self {
+            Slot::Fixed(scalar) => Ok(Slot::Fixed(scalar.copy(alloc)?)),
+            Slot::Timestamp => Ok(Slot::Timestamp),
+        }
+    }
+
+    fn is_leaf(value: &Value) -> bool {
+        match value {
+            Value::Object(_) => value.get(PLACEHOLDER).is_some(),
+            _ => Scalar::is_leaf(value),
+        }
+    }
+
+    fn read(alloc: Global, value: &Value) -> Result<Slot, TreeFault> {
+        match value {
+            Value::Object(members) => match value.get(PLACEHOLDER) {
+                Some(word) => {
+                    if members.len() == 1 && is_timestamp(word) {
+                        Ok(Slot::Timestamp)
+                    } else {
+                        Err(TreeFault::Placeholder)
+                    }
+                }
+                None => Err(TreeFault::Memory),
+            },
+            _ => Ok(Slot::Fixed(Scalar::read(alloc, value)?)),
+        }
+    }
+
+    fn print(&self, alloc: Global) -> Result<Value, AllocError> {
+        match self {
+            Slot::Fixed(scalar) => scalar.print(alloc),
+            Slot::Timestamp => {
+                let mut members = Map::new(alloc);
+                let name = String::from_str(alloc, PLACEHOLDER)?;
+                let word = Value::String(String::from_str(alloc, "timestamp")?);
+                drop(members.insert(name, word)?);
+                Ok(Value::Object(members))
+            }
+        }
+    }
+
+    ghost use Rattle.std.specs.Prelude.{refl};
+    ghost use Rattle.pres_write.specs.Placeholders.{keys_are_no_placeholder};
+
+    ghost null_is_branch = { refl };
+
+    ghost object_is_branch = { keys_are_no_placeholder };
+}
+
+// Placeholders become the moment.
+#[derive(Drop)]
+struct Settling {
+    moment: Moment,
+}
+
+impl Change<Slot, Scalar> for Settling {
+    ghost use Rattle.pres_write.specs.Drafts.{settled_slot};
+
+    ghost makes = { λ how slot. settled_slot how.moment slot };
+
+    fn change(&self, alloc: Global, slot: &Slot) -> Result<Scalar, AllocError> {
+        match slot {
+            Slot::Fixed(scalar) => scalar.copy(alloc),
+            Slot::Timestamp => Ok(Scalar::Int(self.moment.millis() as i64)),
+        }
+    }
+}
+
+/// The value of the draft at the moment, made in one walk.
+pub fn settle(alloc: Global, draft: &Draft, moment: Moment) -> Result<Tree, AllocError>
+    ensures { IfOk result (λ t. t ≡ settled moment draft.now) }
+{
+    draft.changed(alloc, &Settling { moment })
+}

@@ -1,0 +1,79 @@
+//! Drafts at their paths.
+
+ghost use Rattle.std.specs.Prelude.{◌≡◌, ◌+◌, ◌<◌, length, IfOk, MatchResult};
+ghost use Rattle.pres_tree.specs.Rows.{Fits, depth_of};
+
+use crate::draft::Draft;
+use pres_tree::{Path, TreeFault};
+use std::alloc::{AllocError, Global};
+use std::marker::Model;
+
+// The keys from the root to the deepest leaf.
+const DEEPEST: usize = 32;
+
+/// A draft and the path that it is to stand at, where no leaf of it is more than 32 keys from
+/// the root. Contracts see the pair of both.
+#[derive(Drop)]
+pub struct Placement {
+    path: Path,
+    draft: Draft,
+}
+
+impl Model for Placement {
+    ghost use Rattle.pres_tree.specs.Paths.{Path};
+    ghost use Rattle.pres_tree.specs.Rows.{Rows, Fits};
+    ghost use Rattle.pres_write.specs.declared.draft.Slot.{Slot};
+
+    ghost Value = { Path × Rows Slot };
+
+    ghost view = { λ p. (p.path, p.draft) };
+
+    ghost invariant = { λ p. Fits p.path p.draft };
+}
+
+impl Placement {
+    /// The draft at the path, refused as TooDeep where a leaf would stand below 32 keys.
+    pub fn new(path: Path, draft: Draft) -> Result<Placement, TreeFault>
+        ensures { MatchResult result
+            (λ p. p ≡ (path, draft))
+            (λ e. (e ≡ TreeFault.TooDeep) × (32 < length path + depth_of draft)) }
+    {
+        if path.len() + draft.depth() > DEEPEST {
+            return Err(TreeFault::TooDeep);
+        }
+        Ok(Placement { path, draft })
+    }
+
+    // The same where it is known to fit.
+    pub(crate) fn fitting(path: Path, draft: Draft) -> Placement
+        requires { Fits path draft }
+        ensures { result ≡ (path, draft) }
+    {
+        Placement { path, draft }
+    }
+
+    /// The path.
+    pub fn path(&self) -> &Path
+        ensures path { result.now ≡ self.now.0 }
+        ensures fits { Fits self.now.0 self.now.1 }
+    {
+        &self.path
+    }
+
+    /// The draft.
+    pub fn draft(&self) -> &Draft
+        ensures { result.now ≡ self.now.1 }
+    {
+        &self.draft
+    }
+
+    /// An equal placement.
+    pub fn copy(&self, alloc: Global) -> Result<Placement, AllocError>
+        ensures { IfOk result (λ p. p ≡ self.now) }
+    {
+        Ok(Placement {
+            path: self.path.copy(alloc)?,
+            draft: self.draft.copy(alloc)?,
+        })
+    }
+}

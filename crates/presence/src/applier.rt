@@ -1,0 +1,112 @@
+//! What the lines of operations do, and what is answered to each.
+
+ghost use Rattle.std.specs.Prelude.{◌≡◌, ◌++◌, OnOk, IfOk, option_map};
+ghost use Rattle.serde_json.specs.View.{view};
+ghost use Rattle.presence.specs.Replies.{refusal, refused, answer, next, tree_line, data_of, moment_in, start};
+
+use crate::faults::{LineFault, RunFault};
+use pres_log::{Fault, Plain};
+use pres_tree::TreeFault;
+use pres_write::{Kept, Moment, Op, WriteFault};
+use serde_json::Value;
+use std::alloc::{AllocError, Global};
+
+// 2^53 - 1, the greatest moment that a line may name.
+const LAST_MOMENT: u64 = 9007199254740991;
+
+/// The log that the lines so far have made, and whether one of them was refused.
+#[derive(Drop)]
+pub struct Applier {
+    alloc: Global,
+    plain: Plain,
+    refused: bool,
+}
+
+impl Applier {
+    /// Before the first line.
+    pub fn new(alloc: Global) -> Applier {
+        Applier {
+            alloc,
+            plain: Plain::new(alloc),
+            refused: false,
+        }
+    }
+
+    /// Whether a line was refused.
+    pub fn has_refused(&self) -> bool {
+        self.refused
+    }
+
+    /// Takes a line that isn't too long, and adds its reply to the output.
+    pub fn line(&mut self, line: &[u8], out: &mut Vec<u8>) -> Result<(), RunFault> {
+        let Some(value) = json_of(self.alloc, line)? else {
+            return self.refuse(LineFault::NotJson, out);
+        };
+        let Some(now) = moment_of(&value) else {
+            return self.refuse(LineFault::NoMoment, out);
+        };
+        match Op::from_value(self.alloc, &value) {
+            Ok(op) => self.carry_out(&op, now, out),
+            Err(WriteFault::Tree(TreeFault::Memory)) => Err(RunFault::Memory),
+            Err(fault) => self.refuse(LineFault::Write(fault), out),
+        }
+    }
+
+    fn carry_out(&mut self, op: &Op, now: Moment, out: &mut Vec<u8>) -> Result<(), RunFault> {
+        let (number, kept) = match self.plain.apply(op, now) {
+            Ok(answer) => answer,
+            Err(Fault::Busy) => return Err(RunFault::Memory),
+            Err(Fault::Spent) => return Err(RunFault::Spent),
+        };
+        let text = match kept {
+            Kept::Wrote => format!(in self.alloc; "{number} wrote\n")?,
+        };
+        out.extend_from_slice(text.as_bytes())?;
+        Ok(())
+    }
+
+    /// Refuses a line.
+    pub fn refuse(&mut self, fault: LineFault, out: &mut Vec<u8>) -> Result<(), RunFault> {
+        let number = fault.number();
+        let name = fault.name();
+        let text = format!(in self.alloc; "refused {number} {name}\n")?;
+        out.extend_from_slice(text.as_bytes())?;
+        self.refused = true;
+        Ok(())
+    }
+
+    /// Adds the last line, which shows the tree.
+    pub fn tree_line(&self, out: &mut Vec<u8>) -> Result<(), RunFault> {
+        let value = self.plain.tree().to_value(self.alloc)?;
+        let text = value.to_string(self.alloc)?;
+        out.extend_from_slice(b"tree ")?;
+        out.extend_from_slice(text.as_bytes())?;
+        out.extend_from_slice(b"\n")?;
+        Ok(())
+    }
+}
+
+// The JSON value that a line is.
+fn json_of(alloc: Global, line: &[u8]) -> Result<Option<Value>, AllocError>
+    ensures { IfOk result (λ o. option_map view o ≡ data_of line.now) }
+{
+    match Value::from_slice(alloc, line) {
+        Ok(value) => Ok(Some(value)),
+        Err(error) => if error.is_memory() {
+            Err(AllocError)
+        } else {
+            Ok(None)
+        },
+    }
+}
+
+// The moment that a line names.
+fn moment_of(value: &Value) -> Option<Moment>
+    ensures { result ≡ moment_in (view value.now) }
+{
+    let now = value.get("now").and_then(Value::as_u64)?;
+    if now > LAST_MOMENT {
+        return None;
+    }
+    Some(Moment::at(now))
+}

@@ -1,0 +1,33 @@
+//! The words of the command line.
+
+use clap::{Command, Error};
+use std::alloc::{AllocError, Global};
+
+/// What the program is asked to do.
+#[derive(Clone, Copy, Debug, PartialEq, Eq)]
+pub enum Request {
+    /// Answers operations from the input with replies and the tree.
+    Apply,
+}
+
+fn command<'a>(alloc: Global) -> Result<Command<'a>, AllocError> {
+    let apply = Command::new(alloc, "apply")
+        .about("Carries out operations, a JSON line each, and prints replies and the tree");
+    Command::new(alloc, "presence")
+        .version("0.1.0")
+        .about("A presence server: one shared JSON tree, with actions at disconnection")
+        .subcommand_required(true)
+        .disable_help_subcommand(true)
+        .subcommand(apply)
+}
+
+/// Reads the words of the command line, the program's name first. `None` stands for words that
+/// `clap` took and no request has, which it never answers.
+pub fn read_words<'a>(alloc: Global, words: &'a [&'a str]) -> Result<Option<Request>, Error> {
+    let command = command(alloc)?;
+    let matches = command.try_get_matches_from(words)?;
+    let Some((name, _)) = matches.subcommand() else {
+        return Ok(None);
+    };
+    Ok(if name == "apply" { Some(Request::Apply) } else { None })
+}
