@@ -7,6 +7,7 @@ use Rattle.pres_tree.specs.Keys.{Key}
 use Rattle.pres_tree.specs.Paths.{Path, path_cmp, sorted_by}
 use Rattle.pres_tree.specs.Rows.{Rows, is_null, placed, with_leaves, children_with}
 use Rattle.pres_tree.specs.Layer.{child_rows, Children}
+use Rattle.pres_tree.proofs.Values.{in_order-with}
 
 pub with_leaves-same : {A : Type 0} (v : Rows A) → with_leaves (λ a. a) v ≡ v
 with_leaves-same [] = refl
@@ -51,7 +52,7 @@ changed_not_null f (r ∷ v) h = refl
 
 pub changed_children : {A B : Type 0} (f : A → B) (es : List (Key × Rows A)) → Children es → Children (children_with f es)
 changed_children f [] h = tt
-changed_children f (e ∷ es) h = (changed_not_null f e.1 h.0, changed_children f es h.1)
+changed_children f (e ∷ es) h = ((changed_not_null f e.1 h.0.0, in_order-with f e.1 h.0.1), changed_children f es h.1)
 
 pub changed_length : {A B : Type 0} (f : A → B) (es : List (Key × Rows A)) → length (children_with f es) ≡ length es
 changed_length f [] = refl

@@ -5,3 +5,4 @@ pub mod Keys
 pub mod Changed
 pub mod Reading
 pub mod Values
+pub mod Depths

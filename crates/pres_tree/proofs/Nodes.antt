@@ -13,7 +13,7 @@ use Rattle.std.specs.FinMap.Entries.{is_sorted, below_all}
 use Rattle.std.specs.List.Sorted.{IsStrictlySortedBy}
 use Rattle.pres_tree.specs.Keys.{Key, key_cmp, same_key}
 use Rattle.pres_tree.specs.Paths.{Path, path_cmp, below, sorted_by}
-use Rattle.pres_tree.specs.Rows.{Rows, is_null, leaf_at, value_at, placed, height, InOrder}
+use Rattle.pres_tree.specs.Rows.{Rows, IsValue, is_null, leaf_at, value_at, placed, height, InOrder}
 use Rattle.pres_tree.specs.Layer.{child_rows, rows_of_node, Children, IsNode}
 use Rattle.pres_tree.specs.Falls.{height-positive, height-append, height-placed}
 use Rattle.pres_tree.specs.declared.nested.Node.{Node}
@@ -124,10 +124,10 @@ value_at_absent k p t es has at g = same_rows (value_at (k ∷ p) t) [] (in_orde
 -- what was found below one child is what is found
 pub found_child : {A B : Type 0} (rows : B → Rows A) (o : Option B) (q p : Path) (t u : Rows A)
     → ((s : Rows A) → InOrder s → value_at p u ≡ s → value_at q t ≡ s)
-    → MatchOption o (value_at p u ≡ []) (λ b. (is_null (rows b) ≡ false) × InOrder (rows b) × (value_at p u ≡ rows b))
-    → MatchOption o (value_at q t ≡ []) (λ b. (is_null (rows b) ≡ false) × InOrder (rows b) × (value_at q t ≡ rows b))
+    → MatchOption o (value_at p u ≡ []) (λ b. (is_null (rows b) ≡ false) × IsValue (rows b) × (value_at p u ≡ rows b))
+    → MatchOption o (value_at q t ≡ []) (λ b. (is_null (rows b) ≡ false) × IsValue (rows b) × (value_at q t ≡ rows b))
 found_child rows None q p t u same h = same [] tt h
-found_child rows (Some b) q p t u same h = (h.0, h.1, same (rows b) h.1 h.2)
+found_child rows (Some b) q p t u same h = (h.0, h.1, same (rows b) h.1.in_order h.2)
 
 -- ---- what the code knows of a value t whose node has children, or has none
 
@@ -138,6 +138,8 @@ pub record At {A : Type 0} (t : Rows A) (es : List (Key × Rows A)) : Type 0 whe
   pub some : 0 < length es
   pub children : Children es
   pub order : InOrder t
+  pub whole : IsValue (sorted_by path_cmp (child_rows es))
+  pub value : IsValue t
 
 pub at_object : {A : Type 0} {n : Node A} {t : Rows A} (m : _) → IsNode n → rows_of_node n ≡ t → n ≡ Object m → At t m.entries
 at_object {n = n} {t = t} m h v e =
@@ -150,6 +152,8 @@ at_object {n = n} {t = t} m h v e =
       some = inner.0;
       children = inner.1;
       order = view_order n t v;
+      whole = inner.3;
+      value = subst IsValue is inner.3;
     }
 
 no_children : {A : Type 0} (n : Node A) → ((m : _) → n ≡ Object m → ⊥) → HasChildren (rows_of_node n) []

@@ -30,7 +30,7 @@ IsNode Empty = Unit {0}
 IsNode (Leaf s) = Unit {0}
 IsNode (Object m) = (0 < length m.entries) × Children m.entries × IsOrdered key_cmp m × IsValue (sorted_by path_cmp (child_rows m.entries))
 
--- the most keys from the root of a child to a leaf
+-- the most keys to a leaf, from the root above these children
 abbrev pub deepest_of : {A : Type 0} → List (Key × Rows A) → ℕ
 deepest_of [] = 0
-deepest_of (e ∷ es) = max (depth_of e.1) (deepest_of es)
+deepest_of (e ∷ es) = max (depth_of e.1 + 1) (deepest_of es)

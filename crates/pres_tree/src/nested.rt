@@ -158,20 +158,20 @@ impl<L> Nested<L> {
         ensures value { IsValue self.now }
     {
         match &self.node {
-            Node::Object(children) => deepest(children) + 1,
+            Node::Object(children) => deepest(children),
             _ => 0,
         }
     }
 }
 
-// The most keys from the root of a child to a leaf.
+// The most keys to a leaf, from the root above these children.
 #[cycle(depth)]
 fn deepest<L>(children: &BTreeMap<Key, Nested<L>>) -> usize
     ensures { result ≡ deepest_of children.now.entries }
 {
     let mut deepest = 0;
-    for child in children.values() {
-        deepest = child.depth().max(deepest);
+    for (_, child) in children.iter() {
+        deepest = deepest.max(child.depth() + 1);
     }
     deepest
 }

@@ -3,7 +3,8 @@ use Rattle.std.specs.List.Sorted.{IsStrictlySortedBy}
 use Rattle.std.specs.Map.{keys_of}
 use Rattle.std.specs.BTreeMap.{insert_entry}
 use Rattle.pres_tree.specs.Keys.{Key, key_cmp}
-use Rattle.pres_tree.specs.Rows.{Rows, height, with_leaves, children_with}
+use Rattle.pres_tree.specs.Rows.{Rows, IsValue, height, with_leaves, children_with}
+use Rattle.pres_tree.proofs.Values.{value_with}
 use Rattle.pres_tree.specs.Layer.{Children, child_rows}
 use Rattle.pres_tree.specs.Falls.{height-sorted_by}
 use Rattle.pres_tree.proofs.Changed.{changed_object, changed_children, changed_length, changed_keys, children_with-append}
@@ -23,6 +24,7 @@ Nested::changed-invariant_of-result g t c =
       omega (arith, at.some, ap length is, changed_length f c.in-Object.children.entries),
       subst Children (sym is) (changed_children f c.in-Object.children.entries at.children),
       c.in_ok-changed-in-Object.ensures.ordered,
+      subst IsValue (sym (changed_object f c.in-Object.children.entries c.in_ok-changed-in-Object.changed.entries c.args.self.now is at.is)) (value_with f c.args.self.now at.value),
     )
 
 pub Nested::changed-returns-in_ok-changed-in-Object : goal.Nested::changed-returns-in_ok-changed-in-Object

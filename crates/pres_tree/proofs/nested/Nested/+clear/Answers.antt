@@ -3,7 +3,9 @@ use Rattle.std.specs.BTreeMap.{is_at}
 use Rattle.std.specs.Map.{remove_entry}
 use Rattle.pres_tree.specs.Keys.{key_cmp}
 use Rattle.pres_tree.specs.Paths.{path_cmp, sorted_by}
+use Rattle.pres_tree.specs.Rows.{IsValue}
 use Rattle.pres_tree.specs.Layer.{Children, child_rows}
+use Rattle.pres_tree.proofs.Values.{null_value, null_fits, value_after}
 use Rattle.pres_tree.proofs.Found.{Children-set, Children-remove, null_is_empty, sets_then, write_root, write_absent, rows_at, set_at}
 use Rattle.pres_tree.proofs.Nodes.{at_object, at_other, no_keys, object_write, empty_write, rows_at_some, view_order}
 use Rattle.pres_tree.proofs.nested.Nested.+clear.Goals as goal
@@ -24,7 +26,14 @@ pub invariant_of-self-then-not-is_empty : goal.invariant_of-self-then-not-is_emp
 invariant_of-self-then-not-is_empty g t c =
     let at = at_object {n = c.self.inside.node} c.in-Object.children c.self.invariant c.self.view_is c.in-Object.is in
     let written = c.get_mut.follows.holds c.clear.new.self in
-    (omega (arith, at.some, written.2), subst Children (sym written.0) (Children-set _ _ _ at.children (sym c.if-not-is_empty.ensures.null)), written.4)
+    let is = object_write c.args.keys.now c.in-Some.key.now c.in-Some.rest.now [] c.args.self.now c.in-Object.children.entries _ (Some c.clear.new.self) c.in-Some.ensures.cases.0 at.has at.root written.4
+    (written.3 (subst IsSome c.in-Some-get_mut.ensures.value refl)).0
+    (c.clear.ensures ∙ ap (set_at c.in-Some.rest.now []) (rows_at_some c.in-Some.key.now c.in-Object.children.entries _ c.in-Some-get_mut.ensures.value)) in (
+      omega (arith, at.some, written.2),
+      subst Children (sym written.0) (Children-set _ _ _ at.children (sym c.if-not-is_empty.ensures.null, c.if-not-is_empty.ensures.value.in_order)),
+      written.4,
+      subst IsValue (sym is) (value_after c.args.keys.now [] c.args.self.now null_value (null_fits g.row.L.Denot c.args.keys.now) at.value),
+    )
 
 pub returns-then-not-is_empty : goal.returns-then-not-is_empty
 returns-then-not-is_empty g t c =
@@ -37,10 +46,16 @@ returns-then-not-is_empty g t c =
 pub invariant_of-self-else-is_empty : goal.invariant_of-self-else-is_empty
 invariant_of-self-else-is_empty g t c =
     let at = at_object {n = c.self.inside.node} c.in-Object.children c.self.invariant c.self.view_is c.in-Object.is in
-    let written = c.get_mut.follows.holds c.clear.new.self in (
+    let written = c.get_mut.follows.holds c.clear.new.self in
+    let child : [] ≡ set_at c.in-Some.rest.now [] (rows_at c.in-Some.key.now c.in-Object.children.entries) =
+    sym (null_is_empty c.clear.new.self (sym c.if-not-is_empty.ensures.null)) ∙ c.clear.ensures ∙ ap (set_at c.in-Some.rest.now []) (rows_at_some c.in-Some.key.now c.in-Object.children.entries _ c.in-Some-get_mut.ensures.value) in
+    let is = object_write c.args.keys.now c.in-Some.key.now c.in-Some.rest.now [] c.args.self.now c.in-Object.children.entries _ None c.in-Some.ensures.cases.0 at.has at.root c.remove.ensures.ordered
+    (sets_then c.in-Some.key.now (Some c.clear.new.self) None _ _ _ (written.3 (subst IsSome c.in-Some-get_mut.ensures.value refl)).0 c.remove.ensures.updates.0)
+    child in (
       search rules,
       subst Children (sym (c.remove.ensures.entries ∙ ap (remove_entry (is_at (key_cmp c.in-Some.key.now))) written.0)) (Children-remove c.in-Some.key.now _ _ at.children),
       c.remove.ensures.ordered,
+      subst IsValue (sym is) (value_after c.args.keys.now [] c.args.self.now null_value (null_fits g.row.L.Denot c.args.keys.now) at.value),
     )
 
 pub returns-then-is_empty : goal.returns-then-is_empty
