@@ -6,3 +6,4 @@ pub mod Changed
 pub mod Reading
 pub mod Values
 pub mod Depths
+pub mod Printing

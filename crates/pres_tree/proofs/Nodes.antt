@@ -138,6 +138,7 @@ pub record At {A : Type 0} (t : Rows A) (es : List (Key × Rows A)) : Type 0 whe
   pub some : 0 < length es
   pub children : Children es
   pub order : InOrder t
+  pub ordered : IsStrictlySortedBy key_cmp (keys_of es)
   pub whole : IsValue (sorted_by path_cmp (child_rows es))
   pub value : IsValue t
 
@@ -152,6 +153,7 @@ at_object {n = n} {t = t} m h v e =
       some = inner.0;
       children = inner.1;
       order = view_order n t v;
+      ordered = inner.2;
       whole = inner.3;
       value = subst IsValue is inner.3;
     }

@@ -5,7 +5,7 @@ use Rattle.pres_tree.specs.Keys.{Key, same_key}
 use Rattle.pres_tree.specs.Paths.{Path}
 use Rattle.pres_tree.specs.Rows.{Rows, height}
 use Rattle.pres_tree.specs.Layer.{child_rows}
-use Rattle.pres_tree.specs.Reading.{Reading, rows_of, fault_of, members_rows, members_fault}
+use Rattle.pres_tree.specs.Reading.{Reading, HasKeys, rows_of, fault_of, members_rows, members_fault}
 
 abbrev pub members_in : Data → Members
 members_in null = no_members
@@ -39,4 +39,4 @@ abbrev pub ReadsBack : {A : Type 0} → (Data → Reading A) → Rows A → Data
 ReadsBack f v d = (rows_of f d ≡ v) × ((n : ℕ) → height v ≤ n → fault_of f n d ≡ None)
 
 abbrev pub MembersReadBack : {A : Type 0} → (Data → Reading A) → List (Key × Rows A) → Members → Type 0
-MembersReadBack f es ms = (members_rows f ms ≡ child_rows es) × ((n : ℕ) → height (child_rows es) ≤ n + 1 → members_fault f n ms ≡ None)
+MembersReadBack f es ms = HasKeys ms × (members_rows f ms ≡ child_rows es) × ((n : ℕ) → height (child_rows es) ≤ n + 1 → members_fault f n ms ≡ None)

@@ -171,7 +171,10 @@ fn deepest<L>(children: &BTreeMap<Key, Nested<L>>) -> usize
 {
     let mut deepest = 0;
     for (_, child) in children.iter() {
-        deepest = deepest.max(child.depth() + 1);
+        let depth = child.depth() + 1;
+        if depth > deepest {
+            deepest = depth;
+        }
     }
     deepest
 }

@@ -32,10 +32,21 @@ Nested::depth-returns-in_default g t c = record {
 pub deepest-loop-child-init : goal.deepest-loop-child-init
 deepest-loop-child-init g t c =
     let same = c.into_iter-child-iterator.ensures.into_iter_gives ∙ c.iter-child-items.ensures.rest in
-    ([], sym same, ap deepest_of same)
+    ([], sym same, omega (arith, ap deepest_of same))
 
 pub deepest-overflow_add-depth : goal.deepest-overflow_add-depth
-deepest-overflow_add-depth g t c = omega (arith, c.depth.ensures.depth, depth-small c.in-Some.child.now c.depth.ensures.value)
+deepest-overflow_add-depth g t c = omega (arith, c.depth-depth.ensures.depth, depth-small c.in-Some.child.now c.depth-depth.ensures.value)
+
+pub deepest-loop-child-preserved-then-depth-deepest : goal.deepest-loop-child-preserved-then-depth-deepest
+deepest-loop-child-preserved-then-depth-deepest g t c =
+    let l = c.loop-child in
+    let done = l.invariant.0 in
+    let e : Key × Rows g.row.L.Denot = (c.in-Some.field-0-0.now, c.in-Some.child.now) in
+    let left = c.next.new.self in (
+      done ++ e ∷ [],
+      l.invariant.1 ∙ ap (λ es. done ++ es) c.in-Some.ensures.steps ∙ sym (append_assoc done (e ∷ []) left),
+      omega (arith, l.invariant.2, ap deepest_of c.in-Some.ensures.steps, c.depth-depth.ensures.depth),
+    )
 
 pub deepest-loop-child-preserved : goal.deepest-loop-child-preserved
 deepest-loop-child-preserved g t c =
@@ -45,11 +56,11 @@ deepest-loop-child-preserved g t c =
     let left = c.next.new.self in (
       done ++ e ∷ [],
       l.invariant.1 ∙ ap (λ es. done ++ es) c.in-Some.ensures.steps ∙ sym (append_assoc done (e ∷ []) left),
-      omega (arith, l.invariant.2, ap deepest_of c.in-Some.ensures.steps, c.max-deepest.ensures, c.depth.ensures.depth),
+      omega (arith, l.invariant.2, ap deepest_of c.in-Some.ensures.steps, c.depth-depth.ensures.depth),
     )
 
-pub deepest-depth-requires : goal.deepest-depth-requires
-deepest-depth-requires g t c κs within =
+pub deepest-depth-depth-requires : goal.deepest-depth-depth-requires
+deepest-depth-depth-requires g t c κs within =
     let l = c.loop-child in
     let done = l.invariant.0 in
     let e : Key × Rows g.row.L.Denot = (c.in-Some.field-0-0.now, c.in-Some.child.now) in
