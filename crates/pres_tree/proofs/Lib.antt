@@ -7,3 +7,4 @@ pub mod Reading
 pub mod Values
 pub mod Depths
 pub mod Printing
+pub mod Texts

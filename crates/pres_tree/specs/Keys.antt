@@ -1,6 +1,6 @@
 -- What a key is. The bounds are those of the keys of Firebase Realtime Database ("Structure your database": at
 -- most 768 bytes of UTF-8, without control characters, 127 and . $ # [ ] /); that a key has a byte is ours.
-use Rattle.std.specs.Prelude.{ℕ, List, Bool, true, false, ◌||◌, ◌==◌, nat_lt, length, Option, Some, None, is_none, if◌then◌else◌}
+use Rattle.std.specs.Prelude.{ℕ, List, Bool, ◌||◌, ◌==◌, nat_lt, length, Option, Some, None, is_none, if◌then◌else◌}
 use Rattle.std.specs.List.{list_any}
 use Rattle.std.specs.Ordering.{nat_cmp, eq_by_cmp}
 use Rattle.std.specs.declared.cmp.Ordering.{Ordering}

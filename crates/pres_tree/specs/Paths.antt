@@ -1,6 +1,6 @@
 -- Paths: lists of keys from the root to a place, and their texts.
 -- Paths are ordered key by key, a prefix first, as Rust orders a `Vec<Vec<u8>>`.
-use Rattle.std.specs.Prelude.{◌≤◌, ◌==◌, ℕ, Bool, ◌||◌, IsTrue, List, [], ◌∷◌, ◌++◌, if◌then◌else◌, Option, Some, None, is_some, nat_lt, length, filter}
+use Rattle.std.specs.Prelude.{◌≤◌, ◌==◌, ℕ, Bool, IsTrue, List, [], ◌∷◌, ◌++◌, if◌then◌else◌, Option, Some, None, is_some, nat_lt, length, filter}
 use Rattle.std.specs.List.{list_all, slice_split}
 use Rattle.std.specs.Option.{option_or}
 use Rattle.std.specs.declared.cmp.Ordering.{Ordering}

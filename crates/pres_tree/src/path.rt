@@ -69,9 +69,11 @@ impl Path {
         Ok(Path { keys })
     }
 
-    /// Its text: a slash for the root, else each key after a slash.
+    /// Its text: a slash for the root, else each key after a slash. The text is parsed as this
+    /// path.
     pub fn text(&self, alloc: Global) -> Result<String, AllocError>
-        ensures { IfOk result (λ t. string_bytes t ≡ path_text self.now) }
+        ensures text { IfOk result (λ t. string_bytes t ≡ path_text self.now) }
+        ensures reads_back { IfOk result (λ t. (segments (string_bytes t) ≡ self.now) × (path_fault (string_bytes t) ≡ None)) }
     {
         if self.keys.is_empty() {
             return String::from_str(alloc, "/");
@@ -164,14 +166,14 @@ impl Eq for Path {
 
 impl PartialOrd for Path {
     ghost use Rattle.std.specs.Ordering.{nat_cmp, as_partial_cmp};
-    ghost use Rattle.std.specs.Cmp.Lexicographic.{slice_cmp};
+    ghost use Rattle.std.specs.Cmp.Lexicographic.{slice_cmp, lists_ties, texts_ties};
     ghost use Rattle.std.specs.Cmp.{partial_order_from_own_ties};
     ghost use Rattle.std.proofs.Common.{rules};
     ghost use Rattle.std.specs.Cmp.Rules.{comparing};
 
     ghost partial_cmp = { as_partial_cmp (slice_cmp (slice_cmp nat_cmp)) };
 
-    ghost laws = { partial_order_from_own_ties (Prim.search (comparing, rules)) (Prim.search (comparing, rules)) };
+    ghost laws = { partial_order_from_own_ties (Prim.search (comparing, rules)) (lists_ties (slice_cmp nat_cmp) texts_ties) };
 
     fn partial_cmp(&self, other: &Path) -> Option<Ordering> {
         Some(self.cmp(other))
@@ -180,7 +182,7 @@ impl PartialOrd for Path {
 
 impl Ord for Path {
     ghost use Rattle.std.specs.Ordering.{nat_cmp};
-    ghost use Rattle.std.specs.Cmp.Lexicographic.{slice_cmp};
+    ghost use Rattle.std.specs.Cmp.Lexicographic.{slice_cmp, lists_ties, texts_ties};
     ghost use Rattle.std.proofs.Common.{rules};
     ghost use Rattle.std.specs.Cmp.Rules.{comparing};
 
@@ -190,7 +192,7 @@ impl Ord for Path {
 
     ghost matches_partial_cmp = { Prim.search (comparing, rules) };
 
-    ghost matches_eq = { Prim.search (comparing, rules) };
+    ghost matches_eq = { lists_ties (slice_cmp nat_cmp) texts_ties };
 
     fn cmp(&self, other: &Path) -> Ordering {
         self.keys.cmp(&other.keys)
