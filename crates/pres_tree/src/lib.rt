@@ -6,6 +6,7 @@
 
 mod fault;
 mod key;
+pub mod laws;
 mod nested;
 mod path;
 mod print;
