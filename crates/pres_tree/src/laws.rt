@@ -10,17 +10,14 @@ ghost use Rattle.pres_tree.specs.declared.scalar.Scalar.{Scalar};
 /// the place put there: the rows that compute say the same.
 pub fn last_write_decides()
     ensures { (writes : List (Write Scalar)) (x : Path) → LastWriteDecides writes x }
-{
-}
+{}
 
 /// To write on a tree is to go on with the writes that left it.
 pub fn tree_grows()
     ensures { (writes more : List (Write Scalar)) → TreeGrows writes more }
-{
-}
+{}
 
 /// A value that may stand at its path leaves a value.
 pub fn writes_keep_values()
     ensures { (path : Path) (value tree : Rows Scalar) → StaysValue path value tree }
-{
-}
+{}

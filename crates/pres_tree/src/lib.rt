@@ -12,6 +12,8 @@ mod path;
 mod print;
 mod read;
 mod scalar;
+#[cfg(test)]
+mod tests;
 
 pub use fault::TreeFault;
 pub use key::Key;

@@ -46,8 +46,8 @@ nested::Nested::to_value-returns-in_ok-printed-in-Object-clause-reads_back g t c
     let branch = g.met.L.Leaf.object_is_branch ms back.0 in (
       ap (rows_of f) is ∙ ap (λ r. rows_or r (sorted_by path_cmp (members_rows f ms))) branch ∙ ap (sorted_by path_cmp) back.1 ∙ at.is,
       λ n h.
-        let room : height (child_rows c.in-Object.children.entries) ≤ (n - 1) + 1 = omega (arith, height-sorted_by (child_rows c.in-Object.children.entries), ap height at.is, h) in
-        ap (fault_of f n) is ∙ ap (λ r. fault_or n r (members_fault f (n - 1) ms)) branch ∙ back.2 (n - 1) room,
+          let room : height (child_rows c.in-Object.children.entries) ≤ (n - 1) + 1 = omega (arith, height-sorted_by (child_rows c.in-Object.children.entries), ap height at.is, h) in
+          ap (fault_of f n) is ∙ ap (λ r. fault_or n r (members_fault f (n - 1) ms)) branch ∙ back.2 (n - 1) room,
     )
 
 pub print::printed-loop-key-init : goal.print::printed-loop-key-init
@@ -78,7 +78,7 @@ print::printed-loop-key-preserved g t c =
       done ++ e ∷ [],
       l.invariant.1 ∙ ap (λ es. done ++ es) c.in-Some.ensures.steps ∙ sym (append_assoc done (e ∷ []) left),
       subst (Printed g.L.Leaf.printing g.L.Leaf.reading (done ++ e ∷ [])) (sym inserted)
-      (printed-more g.L.Leaf.printing g.L.Leaf.reading done l.members.entries key child name made l.invariant.2 named c.text.ensures.key c.in_ok-to_value.ensures.json c.in_ok-to_value.ensures.reads_back),
+          (printed-more g.L.Leaf.printing g.L.Leaf.reading done l.members.entries key child name made l.invariant.2 named c.text.ensures.key c.in_ok-to_value.ensures.json c.in_ok-to_value.ensures.reads_back),
       subst (λ ms. IsStrictlySortedBy key_cmp (texts ms ++ keys_of left)) (sym inserted) (texts_rise l.members.entries name made (keys_of left) rise),
     )
 

@@ -21,7 +21,7 @@ invariant_of-result g t c =
     (c.in_ok-child-in-Some.ensures ∙ ap (λ es. set_at rest value (rows_at c.in_ok-copy-in-Some.field-0 es)) (sym c.new-children.ensures.empty)) in (
       search rules,
       subst Children (sym here.entries) (Children-insert _ _ _ (subst Children (sym c.new-children.ensures.empty) tt)
-      (ap is_null c.in_ok-child-in-Some.ensures ∙ write_not_null rest value [] c.requires.some, subst InOrder (sym c.in_ok-child-in-Some.ensures) (in_order-after [] (write rest value ∷ [])))),
+          (ap is_null c.in_ok-child-in-Some.ensures ∙ write_not_null rest value [] c.requires.some, subst InOrder (sym c.in_ok-child-in-Some.ensures) (in_order-after [] (write rest value ∷ [])))),
       here.ordered,
       subst IsValue (sym is) (value_after keys value [] c.requires.value c.requires.fits null_value),
     )
