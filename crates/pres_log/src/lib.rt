@@ -6,3 +6,6 @@ mod plain;
 
 pub use fault::Fault;
 pub use plain::Plain;
+
+#[cfg(test)]
+mod tests;

@@ -5,7 +5,7 @@ ghost use Rattle.pres_log.specs.Plains.{fresh, last_number, state_after, kept_af
 
 use crate::fault::Fault;
 use pres_tree::Tree;
-use pres_write::{Kept, Moment, Op, Outcome, apply_owned};
+use pres_write::{Kept, Moment, Op, apply_owned};
 use std::alloc::Global;
 use std::marker::Model;
 
@@ -62,13 +62,17 @@ impl Plain {
             return Err(Fault::Busy);
         };
         let kept = outcome.kept();
-        let Outcome::Wrote(writes) = outcome;
-        if apply_owned(self.alloc, &mut self.tree, writes).is_err() {
-            return Err(Fault::Busy);
+        let writes = outcome.into_writes();
+        // it ensures that the tree's rows are in order
+        let _ = self.tree.is_empty();
+        match apply_owned(self.alloc, &mut self.tree, writes) {
+            Ok(()) => {
+                self.number += 1;
+                self.moment = moment;
+                Ok((self.number, kept))
+            }
+            Err(_) => Err(Fault::Busy),
         }
-        self.number += 1;
-        self.moment = moment;
-        Ok((self.number, kept))
     }
 
     /// How many operations it took: the number of the last one.

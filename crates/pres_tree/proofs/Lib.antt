@@ -8,3 +8,6 @@ pub mod Values
 pub mod Depths
 pub mod Printing
 pub mod Texts
+pub mod Firsts
+pub mod Items
+pub mod Shallow

@@ -94,9 +94,6 @@ rows_insert es k w left =
     sym (append_assoc (child_rows es) (placed (k ∷ []) w) left)
     ∙ ap (λ v. v ++ left) (ap (λ v. child_rows es ++ v) (sym (right_unit (placed (k ∷ []) w))) ∙ sym (child_rows-append es ((k, w) ∷ [])))
 
-pub rows_done : {A : Type 0} (es : List (Key × Rows A)) → child_rows es ++ [] ≡ child_rows es
-rows_done es = right_unit (child_rows es)
-
 -- ---- the items of an array, whose keys are not in byte order
 
 abbrev Decimal : ℕ → List ℕ → Type 0

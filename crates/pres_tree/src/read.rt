@@ -91,8 +91,10 @@ fn read_items<L: Leaf>(
             Ok(child) => if !child.is_empty() {
                 drop(children.insert(key, child)?);
             },
-            Err(TreeFault::Memory) => return Err(TreeFault::Memory),
-            Err(fault) => first = Some(earlier(first, key, fault)),
+            Err(fault) => match fault {
+                TreeFault::Memory => return Err(fault),
+                _ => first = Some(earlier(first, key, fault)),
+            },
         }
         index += 1;
     }

@@ -1,0 +1,5 @@
+pub mod Applied
+pub mod Depths
+pub mod Fitting
+pub mod Printed
+pub mod Slots

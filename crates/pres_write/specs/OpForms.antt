@@ -1,13 +1,13 @@
 -- Operations as JSON: {"op":"set","path":P,"value":V}, and {"op":"remove","path":P}, which is the set of null.
-use Rattle.std.specs.Prelude.{◌==◌, ◌-◌, List, [], ◌∷◌, ℕ, Bool, if◌then◌else◌, codes, length, Option, Some, None, Result, Ok, Err}
+use Rattle.std.specs.Prelude.{◌==◌, ◌-◌, List, ℕ, Bool, if◌then◌else◌, codes, length, Option, Some, None, Result, Ok, Err}
 use Rattle.std.specs.Option.{option_and_then}
 use Rattle.std.specs.Cmp.Lexicographic.{pointwise}
-use Rattle.serde_json.specs.Data.{Data, null, string, object, Members, no_members, member}
+use Rattle.serde_json.specs.Data.{Data, null, string, object, no_members, member}
 use Rattle.serde_json.specs.Find.{get, as_str}
 use Rattle.pres_tree.specs.declared.fault.TreeFault.{TreeFault}
 use Rattle.pres_tree.specs.Paths.{Path, segments, path_fault, path_text}
 use Rattle.pres_tree.specs.Reading.{rows_of, fault_of}
-use Rattle.pres_tree.specs.Rows.{Rows}
+use Rattle.pres_tree.specs.Rows.{Rows, is_null}
 use Rattle.pres_tree.specs.Printing.{json_of}
 use Rattle.pres_write.specs.declared.draft.Slot.{Slot}
 use Rattle.pres_write.specs.declared.fault.WriteFault.{WriteFault}
@@ -43,9 +43,15 @@ text_read d (Some word) (Some text) = form_read word text (get (codes "value") d
 abbrev pub op_read : Data → Result Op WriteFault
 op_read d = text_read d (option_and_then as_str (get (codes "op") d)) (option_and_then as_str (get (codes "path") d))
 
+abbrev pub remove_form : List ℕ → Data
+remove_form path = object (member (codes "op") (string (codes "remove")) (member (codes "path") (string path) no_members))
+
+abbrev pub set_form : List ℕ → Data → Data
+set_form path value = object (member (codes "op") (string (codes "set")) (member (codes "path") (string path) (member (codes "value") value no_members)))
+
+-- a set of null is printed as a remove
 abbrev pub set_json : Path → Rows Slot → Data
-set_json p [] = object (member (codes "op") (string (codes "remove")) (member (codes "path") (string (path_text p)) no_members))
-set_json p (r ∷ v) = object (member (codes "op") (string (codes "set")) (member (codes "path") (string (path_text p)) (member (codes "value") (json_of slot_printing (r ∷ v)) no_members)))
+set_json p v = if is_null v then remove_form (path_text p) else set_form (path_text p) (json_of slot_printing v)
 
 -- the JSON value of an operation
 abbrev pub op_json : Op → Data

@@ -1,5 +1,5 @@
 -- An object whose names are keys is no placeholder, since no key has a dot.
-use Rattle.std.specs.Prelude.{◌≡◌, List, ℕ, codes, true, false, IsTrue, Option, Some, None, refl}
+use Rattle.std.specs.Prelude.{◌≡◌, List, ℕ, codes, Some, None, refl}
 use Rattle.std.proofs.Common.{ap, sym, ◌∙◌, true≢false}
 use Rattle.std.specs.declared.cmp.Ordering.TheVariants.{Less, Equal, Greater}
 use Rattle.std.specs.Ordering.{nat_cmp, match_ordering}

@@ -43,6 +43,8 @@ pub fn apply(alloc: Global, tree: &mut Tree, writes: &[Basic]) -> Result<(), Wri
     ensures ok { IfOk result (λ _. tree.new ≡ applied tree.old writes.now) }
     ensures err { IfErr result (λ e. (e ≡ TreeRefused Memory) × AppliesFirst writes.now tree.old tree.new) }
 {
+    // it ensures that the tree's rows are in order
+    let _ = tree.is_empty();
     for write in writes {
         let value = match &write.value {
             Some(value) => Some(value.copy(alloc)?),
@@ -60,8 +62,10 @@ pub fn apply_owned(alloc: Global, tree: &mut Tree, writes: Items<Basic>) -> Resu
     ensures ok { IfOk result (λ _. tree.new ≡ applied tree.old writes) }
     ensures err { IfErr result (λ e. (e ≡ TreeRefused Memory) × AppliesFirst writes tree.old tree.new) }
 {
+    // it ensures that the tree's rows are in order
+    let _ = tree.is_empty();
     for write in writes.into_vec() {
-        let Basic {path, value} = write;
+        let Basic { path, value } = write;
         tree.set(alloc, &path, value)?;
     }
     Ok(())

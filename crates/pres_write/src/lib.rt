@@ -16,3 +16,6 @@ pub use items::Items;
 pub use moment::Moment;
 pub use op::{Kept, Op, Outcome};
 pub use placement::Placement;
+
+#[cfg(test)]
+mod tests;

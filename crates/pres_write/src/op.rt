@@ -1,11 +1,11 @@
 //! Operations, in code and in JSON, and what they come to.
 
-ghost use Rattle.std.specs.Prelude.{◌≡◌, ◌⊎◌, All, IfOk, IfErr, Ok, Err, MatchResult};
+ghost use Rattle.std.specs.Prelude.{◌≡◌, ◌⊎◌, All, IfOk, IfErr, Ok, Err, MatchResult, string_bytes};
 ghost use Rattle.serde_json.specs.View.{view};
 ghost use Rattle.pres_tree.specs.declared.fault.TreeFault.TheVariants.{Memory};
 ghost use Rattle.pres_write.specs.Basics.{FitsThere};
 ghost use Rattle.pres_write.specs.Outcomes.{resolved, kept_of, writes_in};
-ghost use Rattle.pres_write.specs.OpForms.{op_read, set_read, op_json};
+ghost use Rattle.pres_write.specs.OpForms.{op_read, set_read, op_json, set_json, remove_form, set_form};
 ghost use Rattle.pres_write.specs.declared.fault.WriteFault.TheVariants.{Tree as TreeRefused};
 
 use crate::basic::Basic;
@@ -47,6 +47,42 @@ impl Outcome {
             Outcome::Wrote(_) => Kept::Wrote,
         }
     }
+
+    /// Its writes, which are moved.
+    pub fn into_writes(self) -> Items<Basic>
+        ensures { result ≡ writes_in self }
+    {
+        match self {
+            Outcome::Wrote(writes) => writes,
+        }
+    }
+}
+
+// The JSON value of a remove at the path of the text.
+fn remove_form(alloc: Global, path: String) -> Result<Value, AllocError>
+    ensures { IfOk result (λ made. view made ≡ remove_form (string_bytes path)) }
+{
+    json!(in alloc; {"op": "remove", "path": path})
+}
+
+// The JSON value of a set at the path of the text.
+fn set_form(alloc: Global, path: String, value: Value) -> Result<Value, AllocError>
+    ensures { IfOk result (λ made. view made ≡ set_form (string_bytes path) (view value)) }
+{
+    json!(in alloc; {"op": "set", "path": path, "value": value})
+}
+
+// The JSON value of the set of a draft at its path.
+fn set_value(alloc: Global, placement: &Placement) -> Result<Value, AllocError>
+    ensures json { IfOk result (λ made. view made ≡ set_json placement.now.0 placement.now.1) }
+    ensures reads_back { IfOk result (λ made. op_read (view made) ≡ Ok (Op.Set placement.now)) }
+{
+    let path = placement.path().text(alloc)?;
+    if placement.draft().is_empty() {
+        return remove_form(alloc, path);
+    }
+    let value = placement.draft().to_value(alloc)?;
+    set_form(alloc, path, value)
 }
 
 impl Op {
@@ -94,24 +130,12 @@ impl Op {
         ensures reads_back { IfOk result (λ made. op_read (view made) ≡ Ok self.now) }
     {
         match self {
-            Op::Set(placement) => {
-                let path = placement.path().text(alloc)?;
-                if placement.draft().is_empty() {
-                    return json!(in alloc; {"op": "remove", "path": path});
-                }
-                let value = placement.draft().to_value(alloc)?;
-                json!(in alloc; {"op": "set", "path": path, "value": value})
-            }
+            Op::Set(placement) => set_value(alloc, placement),
         }
     }
 
     /// What the operation comes to on the tree at the moment. Memory is the one refusal.
-    pub fn resolve(
-        &self,
-        alloc: Global,
-        tree: &Tree,
-        moment: Moment,
-    ) -> Result<Outcome, WriteFault>
+    pub fn resolve(&self, alloc: Global, tree: &Tree, moment: Moment) -> Result<Outcome, WriteFault>
         ensures outcome { IfOk result (λ outcome. outcome ≡ resolved tree.now moment self.now) }
         ensures fits { IfOk result (λ outcome. All FitsThere (writes_in outcome)) }
         ensures err { IfErr result (λ e. e ≡ TreeRefused Memory) }

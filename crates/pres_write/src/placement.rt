@@ -1,6 +1,7 @@
 //! Drafts at their paths.
 
 ghost use Rattle.std.specs.Prelude.{◌≡◌, ◌+◌, ◌<◌, length, IfOk, MatchResult};
+ghost use Rattle.pres_tree.specs.Paths.{IsPath};
 ghost use Rattle.pres_tree.specs.Rows.{Fits, depth_of};
 
 use crate::draft::Draft;
@@ -55,8 +56,11 @@ impl Placement {
     /// The path.
     pub fn path(&self) -> &Path
         ensures path { result.now ≡ self.now.0 }
+        ensures keys { IsPath self.now.0 }
         ensures fits { Fits self.now.0 self.now.1 }
     {
+        // it ensures that the path is one
+        let _ = self.path.len();
         &self.path
     }
 

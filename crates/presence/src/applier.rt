@@ -1,8 +1,9 @@
 //! What the lines of operations do, and what is answered to each.
 
-ghost use Rattle.std.specs.Prelude.{◌≡◌, ◌++◌, OnOk, IfOk, option_map};
+ghost use Rattle.std.specs.Prelude.{◌≡◌, ◌++◌, OnOk, IfOk, IfErr, option_map};
 ghost use Rattle.serde_json.specs.View.{view};
-ghost use Rattle.presence.specs.Replies.{refusal, refused, answer, next, tree_line, data_of, moment_in, start};
+ghost use Rattle.presence.specs.Replies.{start, refuse, carry_out, taken, tree_line, data_of, moment_in};
+ghost use Rattle.presence.specs.Faults.{EndsAt};
 
 use crate::faults::{LineFault, RunFault};
 use pres_log::{Fault, Plain};
@@ -10,6 +11,7 @@ use pres_tree::TreeFault;
 use pres_write::{Kept, Moment, Op, WriteFault};
 use serde_json::Value;
 use std::alloc::{AllocError, Global};
+use std::marker::Model;
 
 // 2^53 - 1, the greatest moment that a line may name.
 const LAST_MOMENT: u64 = 9007199254740991;
@@ -22,9 +24,19 @@ pub struct Applier {
     refused: bool,
 }
 
+impl Model for Applier {
+    ghost use Rattle.presence.specs.Replies.{State};
+
+    ghost Value = { State };
+
+    ghost view = { λ a. record { log = a.plain; refused = a.refused } };
+}
+
 impl Applier {
     /// Before the first line.
-    pub fn new(alloc: Global) -> Applier {
+    pub fn new(alloc: Global) -> Applier
+        ensures { result ≡ start }
+    {
         Applier {
             alloc,
             plain: Plain::new(alloc),
@@ -33,12 +45,18 @@ impl Applier {
     }
 
     /// Whether a line was refused.
-    pub fn has_refused(&self) -> bool {
+    pub fn has_refused(&self) -> bool
+        ensures { result ≡ self.now.refused }
+    {
         self.refused
     }
 
     /// Takes a line that isn't too long, and adds its reply to the output.
-    pub fn line(&mut self, line: &[u8], out: &mut Vec<u8>) -> Result<(), RunFault> {
+    pub fn line(&mut self, line: &[u8], out: &mut Vec<u8>) -> Result<(), RunFault>
+        ensures text { OnOk result (out.new.items ≡ out.old.items ++ (taken self.old line.now).0) }
+        ensures state { OnOk result (self.new ≡ (taken self.old line.now).1) }
+        ensures err { IfErr result (EndsAt self.old.log.number) }
+    {
         let Some(value) = json_of(self.alloc, line)? else {
             return self.refuse(LineFault::NotJson, out);
         };
@@ -52,7 +70,11 @@ impl Applier {
         }
     }
 
-    fn carry_out(&mut self, op: &Op, now: Moment, out: &mut Vec<u8>) -> Result<(), RunFault> {
+    fn carry_out(&mut self, op: &Op, now: Moment, out: &mut Vec<u8>) -> Result<(), RunFault>
+        ensures text { OnOk result (out.new.items ≡ out.old.items ++ (carry_out self.old op.now now).0) }
+        ensures state { OnOk result (self.new ≡ (carry_out self.old op.now now).1) }
+        ensures err { IfErr result (EndsAt self.old.log.number) }
+    {
         let (number, kept) = match self.plain.apply(op, now) {
             Ok(answer) => answer,
             Err(Fault::Busy) => return Err(RunFault::Memory),
@@ -66,7 +88,11 @@ impl Applier {
     }
 
     /// Refuses a line.
-    pub fn refuse(&mut self, fault: LineFault, out: &mut Vec<u8>) -> Result<(), RunFault> {
+    pub fn refuse(&mut self, fault: LineFault, out: &mut Vec<u8>) -> Result<(), RunFault>
+        ensures text { OnOk result (out.new.items ≡ out.old.items ++ (refuse self.old fault).0) }
+        ensures state { OnOk result (self.new ≡ (refuse self.old fault).1) }
+        ensures err { IfErr result (λ e. e ≡ RunFault.Memory) }
+    {
         let number = fault.number();
         let name = fault.name();
         let text = format!(in self.alloc; "refused {number} {name}\n")?;
@@ -76,7 +102,10 @@ impl Applier {
     }
 
     /// Adds the last line, which shows the tree.
-    pub fn tree_line(&self, out: &mut Vec<u8>) -> Result<(), RunFault> {
+    pub fn tree_line(&self, out: &mut Vec<u8>) -> Result<(), RunFault>
+        ensures text { OnOk result (out.new.items ≡ out.old.items ++ tree_line self.now) }
+        ensures err { IfErr result (λ e. e ≡ RunFault.Memory) }
+    {
         let value = self.plain.tree().to_value(self.alloc)?;
         let text = value.to_string(self.alloc)?;
         out.extend_from_slice(b"tree ")?;

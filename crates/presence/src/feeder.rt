@@ -1,5 +1,10 @@
 //! Lines out of pieces of any size.
 
+ghost use Rattle.std.specs.Prelude.{◌≡◌, ◌++◌, ◌∷◌, [], List, ℕ, OnOk, IfErr, MatchOption, length, ◌+◌, ◌≤◌};
+ghost use Rattle.presence.specs.Replies.{start, reply, next, tree_line};
+ghost use Rattle.presence.specs.Faults.{EndsAt};
+ghost use Rattle.presence.specs.Lines.{Holds, IsFeedless, Takes};
+
 use crate::applier::Applier;
 use crate::faults::{LineFault, RunFault};
 use crate::pending::Pending;
@@ -14,7 +19,10 @@ pub struct Feeder {
 
 impl Feeder {
     /// Before the first piece.
-    pub fn new(alloc: Global) -> Feeder {
+    pub fn new(alloc: Global) -> Feeder
+        ensures applier { result.applier ≡ start }
+        ensures pending { Holds [] result.pending.bytes.items result.pending.cut }
+    {
         Feeder {
             applier: Applier::new(alloc),
             pending: Pending::new(alloc),
@@ -22,12 +30,27 @@ impl Feeder {
     }
 
     /// Whether a line was refused.
-    pub fn has_refused(&self) -> bool {
+    pub fn has_refused(&self) -> bool
+        ensures { result ≡ self.now.applier.refused }
+    {
         self.applier.has_refused()
     }
 
     // The line ends.
-    fn end_line(&mut self, out: &mut Vec<u8>) -> Result<(), RunFault> {
+    #[tactic(auto, unfolding(crate::specs::Replies::reply, crate::specs::Replies::next))]
+    fn end_line(&mut self, out: &mut Vec<u8>) -> Result<(), RunFault>
+        ensures text { OnOk result ((line : List ℕ)
+            → Holds line self.old.pending.bytes.items self.old.pending.cut
+            → out.new.items ≡ out.old.items ++ reply self.old.applier line) }
+        ensures state { OnOk result ((line : List ℕ)
+            → Holds line self.old.pending.bytes.items self.old.pending.cut
+            → self.new.applier ≡ next self.old.applier line) }
+        ensures begins { OnOk result
+            (Holds [] self.new.pending.bytes.items self.new.pending.cut) }
+        ensures count { OnOk result
+            (self.new.applier.log.number ≤ self.old.applier.log.number + 1) }
+        ensures err { IfErr result (EndsAt self.old.applier.log.number) }
+    {
         if self.pending.is_cut() {
             self.applier.refuse(LineFault::TooLong, out)?;
         } else if !self.pending.bytes().is_empty() {
@@ -38,7 +61,17 @@ impl Feeder {
     }
 
     /// A piece of the input, answered as far as its lines have ended.
-    pub fn feed(&mut self, piece: &[u8], out: &mut Vec<u8>) -> Result<(), RunFault> {
+    pub fn feed(&mut self, piece: &[u8], out: &mut Vec<u8>) -> Result<(), RunFault>
+        ensures taken { OnOk result ((line : List ℕ) → IsFeedless line
+            → Holds line self.old.pending.bytes.items self.old.pending.cut
+            → (said : List ℕ) × (out.new.items ≡ out.old.items ++ said)
+            × Takes self.old.applier self.new.applier (line ++ piece.now)
+            self.new.pending.bytes.items self.new.pending.cut said) }
+        ensures count { OnOk result
+            (self.new.applier.log.number ≤ self.old.applier.log.number + length piece.now) }
+        ensures err { IfErr result
+            (EndsAt (self.old.applier.log.number + length piece.now)) }
+    {
         let mut rest = piece;
         'lines: while let Some((line, more)) = split_line(rest) {
             self.pending.push(line)?;
@@ -50,14 +83,26 @@ impl Feeder {
     }
 
     /// The input ends.
-    pub fn finish(&mut self, out: &mut Vec<u8>) -> Result<(), RunFault> {
+    pub fn finish(&mut self, out: &mut Vec<u8>) -> Result<(), RunFault>
+        ensures text { OnOk result ((line : List ℕ)
+            → Holds line self.old.pending.bytes.items self.old.pending.cut
+            → out.new.items ≡ out.old.items ++ reply self.old.applier line
+            ++ tree_line (next self.old.applier line)) }
+        ensures state { OnOk result ((line : List ℕ)
+            → Holds line self.old.pending.bytes.items self.old.pending.cut
+            → self.new.applier ≡ next self.old.applier line) }
+        ensures err { IfErr result (EndsAt self.old.applier.log.number) }
+    {
         self.end_line(out)?;
         self.applier.tree_line(out)
     }
 }
 
 // The bytes before the first line feed, and those after it.
-fn split_line(bytes: &[u8]) -> Option<(&[u8], &[u8])> {
+fn split_line(bytes: &[u8]) -> Option<(&[u8], &[u8])>
+    ensures { MatchOption result (IsFeedless bytes.now) (λ p. IsFeedless p.0.now
+        × (bytes.now ≡ p.0.now ++ 10 ∷ p.1.now)) }
+{
     for (i, byte) in bytes.iter().enumerate() {
         if *byte == b'\n' {
             return Some((&bytes[..i], &bytes[i + 1..]));

@@ -1,5 +1,10 @@
 //! The program, over its words and streams.
 
+ghost use Rattle.std.specs.Prelude.{◌≡◌, ◌≢◌, false, IfSome};
+ghost use Rattle.std.specs.Io.KnownBytes.{Appends};
+ghost use Rattle.presence.specs.Lines.{Stopped, output_of, end_state};
+ghost use Rattle.presence.specs.Statuses.{IsStatus};
+
 use crate::apply::apply_run;
 use crate::faults::RunFault;
 use crate::words::{Request, read_words};
@@ -22,20 +27,38 @@ pub fn presence_run<R: Read, W: Write, F: Write>(
     input: &mut R,
     output: &mut W,
     faults: &mut F,
-) -> u8 {
+) -> u8
+    ensures status { IsStatus result }
+    ensures words { result ≡ 2 → (input.new ≡ input.old) × (output.new ≡ output.old) }
+    ensures memory { result ≡ 5 → Stopped (R.remaining input.old)
+        (W.contents output.old) (W.contents output.new) }
+{
     match read_words(alloc, words) {
         Ok(Some(Request::Apply)) => {
-            let status = match apply_run(alloc, input, output) {
-                Ok(false) => DONE,
-                Ok(true) => REFUSED,
-                Err(RunFault::Memory) => NO_MEMORY,
-                Err(_) => REFUSED,
-            };
+            let status = apply_status(alloc, input, output);
             tell(status, faults);
             status
         }
         Ok(None) => BAD_WORDS,
         Err(error) => explain(&error, output, faults),
+    }
+}
+
+// Runs `presence apply`, and answers the exit status.
+fn apply_status<R: Read, W: Write>(alloc: Global, input: &mut R, output: &mut W) -> u8
+    ensures status { IsStatus result }
+    ensures words { result ≢ 2 }
+    ensures done { result ≡ 0 → IfSome (R.remaining input.old) (λ bytes.
+        Appends (W.contents output.old) (W.contents output.new) (output_of bytes)
+        × ((end_state bytes).refused ≡ false)) }
+    ensures memory { result ≡ 5 → Stopped (R.remaining input.old)
+        (W.contents output.old) (W.contents output.new) }
+{
+    match apply_run(alloc, input, output) {
+        Ok(false) => DONE,
+        Ok(true) => REFUSED,
+        Err(RunFault::Memory) => NO_MEMORY,
+        Err(_) => REFUSED,
     }
 }
 
@@ -52,7 +75,11 @@ fn tell<F: Write>(status: u8, faults: &mut F) {
 
 // Help and the version go to the output, with status 0; a mistake in the words goes to the
 // stream for faults, with status 2.
-fn explain<W: Write, F: Write>(error: &Error, output: &mut W, faults: &mut F) -> u8 {
+fn explain<W: Write, F: Write>(error: &Error, output: &mut W, faults: &mut F) -> u8
+    ensures status { IsStatus result }
+    ensures words { result ≡ 2 → output.new ≡ output.old }
+    ensures memory { result ≡ 5 → output.new ≡ output.old }
+{
     if error.kind() == ErrorKind::OutOfMemory {
         tell(NO_MEMORY, faults);
         return NO_MEMORY;

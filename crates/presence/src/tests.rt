@@ -1,13 +1,231 @@
 use crate::program::presence_run;
+use std::alloc::Global;
+use std::io;
+use std::io::{Read, Write};
 use std::test::Fail;
 
+// Gives its bytes one at a time, and then ends or fails.
+#[derive(Drop)]
+struct Drops<'a> {
+    rest: &'a [u8],
+    fails: bool,
+}
+
+impl<'a> Read for Drops<'a> {
+    fn read(&mut self, buf: &mut [u8]) -> io::Result<usize> {
+        if buf.is_empty() {
+            return Ok(0);
+        }
+        let Some((first, rest)) = self.rest.split_first() else {
+            if self.fails {
+                return Err(io::Error::from(io::ErrorKind::BrokenPipe));
+            }
+            return Ok(0);
+        };
+        buf[0] = *first;
+        self.rest = rest;
+        Ok(1)
+    }
+}
+
+// Takes what it is given at so many writes, and fails from then on.
+#[derive(Drop)]
+struct Clogs {
+    taken: Vec<u8>,
+    writes: usize,
+}
+
+impl Write for Clogs {
+    fn write(&mut self, buf: &[u8]) -> io::Result<usize> {
+        if self.writes == 0 {
+            return Err(io::Error::from(io::ErrorKind::BrokenPipe));
+        }
+        self.writes -= 1;
+        self.taken.extend_from_slice(buf)?;
+        Ok(buf.len())
+    }
+
+    fn flush(&mut self) -> io::Result<()> {
+        Ok(())
+    }
+}
+
+// What a run wrote, and its exit status.
+#[derive(Drop)]
+struct Ran {
+    status: u8,
+    output: Vec<u8>,
+    faults: Vec<u8>,
+}
+
+fn run<R: Read>(alloc: Global, words: &[&str], input: &mut R) -> Ran {
+    let mut output = Vec::new(alloc);
+    let mut faults = Vec::new(alloc);
+    let status = presence_run(alloc, words, input, &mut output, &mut faults);
+    Ran { status, output, faults }
+}
+
+// Whether `presence apply` answers the input so.
+fn answers<R: Read>(alloc: Global, input: &mut R, output: &str, status: u8) -> bool {
+    let ran = run(alloc, &["presence", "apply"], input);
+    let fault = if status == 1 { "presence: input refused\n" } else { "" };
+    ran.status == status
+        && ran.output.as_slice() == output.as_bytes()
+        && ran.faults.as_slice() == fault.as_bytes()
+}
+
+const SET_A: &str = r#"{"now":1000,"op":"set","path":"/a","value":1}"#;
+const SET_AB: &str = r#"{"now":1001,"op":"set","path":"/a/b","value":2}"#;
+const REMOVE_AB: &str = r#"{"now":1002,"op":"remove","path":"/a/b"}"#;
+
 #[test]
-fn answers_lines(rt: HostRuntime) -> Result<(), Fail> {
-    let mut input: &[u8] = b"{\"now\":1,\"op\":\"set\",\"path\":\"/v\",\"value\":[1,null,2]}\n\nx\n{\"op\":\"remove\",\"path\":\"/\"}\n";
-    let mut out = Vec::new(rt.alloc());
+fn answers_inputs(rt: HostRuntime) -> Result<(), Fail> {
+    let worked = format!(in rt.alloc(); "{SET_A}\n{SET_AB}\n{REMOVE_AB}\n")?;
+    let unended = format!(in rt.alloc(); "\n\n{SET_A}\n\n{SET_AB}")?;
+    for (input, output, status) in [
+        ("", "tree null\n", 0),
+        ("\n\n", "tree null\n", 0),
+        (worked.as_str(), "1 wrote\n2 wrote\n3 wrote\ntree null\n", 0),
+        (unended.as_str(), "1 wrote\n2 wrote\ntree {\"a\":{\"b\":2}}\n", 0),
+        (
+            "{\"now\":5,\"op\":\"set\",\"path\":\"/t\",\"value\":{\".sv\":\"timestamp\"}}\n{\"now\":3,\"op\":\"set\",\"path\":\"/t\",\"value\":{\".sv\":\"timestamp\"}}\n",
+            "1 wrote\n2 wrote\ntree {\"t\":5}\n",
+            0,
+        ),
+        (
+            "{\"now\":1,\"op\":\"set\",\"path\":\"/é\",\"value\":\"ß\"}\nx\n{\"now\":1,\"op\":\"remove\",\"path\":\"/b\"}\n",
+            "1 wrote\nrefused 12 NotJson\n2 wrote\ntree {\"é\":\"ß\"}\n",
+            1,
+        ),
+    ] {
+        let mut whole = input.as_bytes();
+        assert!(rt; answers(rt.alloc(), &mut whole, output, status), "whole: {input}");
+        let mut drops = Drops { rest: input.as_bytes(), fails: false };
+        assert!(rt; answers(rt.alloc(), &mut drops, output, status), "by bytes: {input}");
+    }
+    Ok(())
+}
+
+#[test]
+fn takes_or_refuses_lines(rt: HostRuntime) -> Result<(), Fail> {
+    for (line, output, status) in [
+        (
+            r#"{"now":1,"op":"set","path":"/v","value":[1,null,2]}"#,
+            "1 wrote\ntree {\"v\":{\"0\":1,\"2\":2}}\n",
+            0,
+        ),
+        (r#"{"now":9007199254740991,"op":"remove","path":"/"}"#, "1 wrote\ntree null\n", 0),
+        (
+            r#"{"now":9007199254740992,"op":"remove","path":"/"}"#,
+            "refused 13 NoMoment\ntree null\n",
+            1,
+        ),
+        (r#"{"now":-1,"op":"remove","path":"/"}"#, "refused 13 NoMoment\ntree null\n", 1),
+        (r#"{"now":1.0,"op":"remove","path":"/"}"#, "refused 13 NoMoment\ntree null\n", 1),
+        (r#"{"op":"remove","path":"/"}"#, "refused 13 NoMoment\ntree null\n", 1),
+        (r#"[1]"#, "refused 13 NoMoment\ntree null\n", 1),
+        (r#"{"now":"#, "refused 12 NotJson\ntree null\n", 1),
+        ("\r", "refused 12 NotJson\ntree null\n", 1),
+        (r#"{"now":1,"op":"move","path":"/"}"#, "refused 11 Shape\ntree null\n", 1),
+        (r#"{"now":1,"op":"set","path":"/"}"#, "refused 11 Shape\ntree null\n", 1),
+        (
+            r#"{"now":1,"op":"set","path":"/","value":9223372036854775808}"#,
+            "refused 7 Range\ntree null\n",
+            1,
+        ),
+        (
+            r#"{"now":1,"op":"set","path":"/","value":1.0}"#,
+            "refused 6 NotWhole\ntree null\n",
+            1,
+        ),
+        (r#"{"now":1,"op":"set","path":"/a.b","value":1}"#, "refused 4 BadKey\ntree null\n", 1),
+    ] {
+        let mut input = line.as_bytes();
+        assert!(rt; answers(rt.alloc(), &mut input, output, status), "{line}");
+    }
+    let mut bytes = b"\"\xff\"\n".as_slice();
+    assert!(rt; answers(rt.alloc(), &mut bytes, "refused 12 NotJson\ntree null\n", 1));
+    Ok(())
+}
+
+#[test]
+fn keeps_to_its_bounds(rt: HostRuntime) -> Result<(), Fail> {
+    let alloc = rt.alloc();
+    let end = r#","value":null}"#;
+    for (part, count, pad, output, status) in [
+        ("k", 768, 0, "1 wrote\ntree null\n", 0),
+        ("k", 769, 0, "refused 3 LongKey\ntree null\n", 1),
+        ("/k", 32, 0, "1 wrote\ntree null\n", 0),
+        ("/k", 33, 0, "refused 5 TooDeep\ntree null\n", 1),
+        ("/k", 1, 1048576, "1 wrote\ntree null\n", 0),
+        ("/k", 1, 1048577, "refused 14 TooLong\ntree null\n", 1),
+    ] {
+        let path = part.repeat(alloc, count)?;
+        let line = format!(in alloc; r#"{{"now":1,"op":"set","path":"{path}"{end}"#)?;
+        let spaces = " ".repeat(alloc, usize::saturating_sub(pad, line.len()))?;
+        let text = format!(in alloc; "{line}{spaces}\n")?;
+        let mut input = text.as_bytes();
+        assert!(rt; answers(alloc, &mut input, output, status), "{part} {count} {pad}");
+    }
+    Ok(())
+}
+
+#[test]
+fn stops_where_a_read_fails(rt: HostRuntime) -> Result<(), Fail> {
+    let text = format!(in rt.alloc(); "{SET_A}\nx\n{SET_AB}")?;
+    for (length, output) in [
+        (0, ""),
+        (SET_A.len(), ""),
+        (SET_A.len() + 1, "1 wrote\n"),
+        (text.len(), "1 wrote\nrefused 12 NotJson\n"),
+    ] {
+        let mut input = Drops { rest: &text.as_bytes()[..length], fails: true };
+        assert!(rt; answers(rt.alloc(), &mut input, output, 1), "at {length}");
+    }
+    Ok(())
+}
+
+#[test]
+fn stops_where_a_write_fails(rt: HostRuntime) -> Result<(), Fail> {
+    let alloc = rt.alloc();
+    let text = format!(in alloc; "{SET_A}\n{SET_AB}\n")?;
+    for (writes, wanted, status) in [
+        (0, "", 1),
+        (1, "1 wrote\n", 1),
+        (2, "1 wrote\n2 wrote\n", 1),
+        (3, "1 wrote\n2 wrote\ntree {\"a\":{\"b\":2}}\n", 0),
+    ] {
+        let mut input = Drops { rest: text.as_bytes(), fails: false };
+        let mut output = Clogs { taken: Vec::new(alloc), writes };
+        let mut faults = Vec::new(alloc);
+        let words = ["presence", "apply"];
+        let ended = presence_run(alloc, &words, &mut input, &mut output, &mut faults);
+        assert_eq!(rt; ended, status, "after {writes} writes");
+        assert!(rt; output.taken.as_slice() == wanted.as_bytes(), "after {writes} writes");
+    }
+    Ok(())
+}
+
+#[test]
+fn reads_its_words(rt: HostRuntime) -> Result<(), Fail> {
+    for (words, status, writes, faults) in [
+        (["presence"].as_slice(), 2, false, true),
+        (["presence", "nosuch"].as_slice(), 2, false, true),
+        (["presence", "apply", "x"].as_slice(), 2, false, true),
+        (["presence", "--help"].as_slice(), 0, true, false),
+        (["presence", "--version"].as_slice(), 0, true, false),
+        (["presence", "apply"].as_slice(), 0, true, false),
+    ] {
+        let mut input = b"".as_slice();
+        let ran = run(rt.alloc(), words, &mut input);
+        assert_eq!(rt; ran.status, status, "{words:?}");
+        assert_eq!(rt; !ran.output.is_empty(), writes, "{words:?}");
+        assert_eq!(rt; !ran.faults.is_empty(), faults, "{words:?}");
+    }
+    let mut output = Clogs { taken: Vec::new(rt.alloc()), writes: 0 };
     let mut faults = Vec::new(rt.alloc());
-    let status = presence_run(rt.alloc(), &["presence", "apply"], &mut input, &mut out, &mut faults);
-    println!(rt; "{}", String::from_utf8_lossy(rt.alloc(), out.as_slice())?)?;
-    assert_eq!(rt; status, 1);
+    let words = ["presence", "--help"];
+    let ended = presence_run(rt.alloc(), &words, &mut io::empty(), &mut output, &mut faults);
+    assert_eq!(rt; ended, 1);
     Ok(())
 }

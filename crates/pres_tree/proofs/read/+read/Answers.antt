@@ -2,23 +2,106 @@ use Rattle.std.proofs.Common.{◌≡◌, [], ◌∷◌, ◌++◌, None, refl, sy
 use Rattle.std.specs.Option.{option_or}
 use Rattle.std.specs.Prelude.{string_bytes}
 use Rattle.std.specs.Fmt.{decimal}
-use Rattle.std.specs.Map.{lookup}
-use Rattle.std.specs.BTreeMap.{IsOrdered, is_at}
-use Rattle.std.proofs.Common.{arith, suc, drop, ◌+◌, ◌<◌, ◌^◌, cond, Some}
+use Rattle.std.proofs.Common.{is_none, true, inl, inr, arith, suc, drop, ◌+◌, ◌<◌, ◌^◌, Some}
 use Rattle.std.proofs.Math.Seq.{drop-cons}
 use Rattle.std.proofs.lemmas.List.{drop_all}
 use Rattle.serde_json.specs.Data.{item}
-use Rattle.pres_tree.specs.Keys.{key_cmp, key_fault, same_key}
+use Rattle.pres_tree.specs.Keys.{key_fault, is_key}
 use Rattle.pres_tree.specs.Paths.{path_cmp, sorted_by}
 use Rattle.std.specs.Map.{keys_of}
 use Rattle.serde_json.specs.View.{view, items_view, members_view}
-use Rattle.pres_tree.specs.Layer.{Children, child_rows}
+use Rattle.pres_tree.specs.Layer.{child_rows}
 use Rattle.pres_tree.specs.Rows.{placed}
-use Rattle.pres_tree.specs.Reading.{items_rows, items_fault, members_rows, members_fault}
-use Rattle.pres_tree.proofs.Found.{Children-insert, null_is_empty}
-use Rattle.pres_tree.proofs.Reading.{Rise, Walked, walked_start, walked_null, walked_insert, walked_end, names, names-rise, insert_end, rise_insert, rise_without, rows_insert}
+use Rattle.pres_tree.specs.Reading.{items_rows, items_fault, members_rows, members_fault, Shallow}
+use Rattle.pres_tree.proofs.Found.{null_is_empty}
+use Rattle.pres_tree.proofs.Items.{ItemsRead, items_start, items_null, items_insert, items_fail, items_end}
+use Rattle.pres_tree.proofs.Shallow.{Kid, Kids, Kids-children, Kids-insert, Shallow-leaf, Shallow-result, Shallow-object, IsValue-object, items-root, members-root}
+use Rattle.pres_tree.proofs.Reading.{Rise, decimal_key, names, names-rise, insert_end, rise_first, rise_insert, rise_without, rows_insert}
 use Rattle.pres_tree.proofs.read.+read.Goals as goal
-use Rattle.pres_tree.proofs.read.+read.Goals.{read_items-then-not-is_empty+in_ok-of_index+in_ok-insert, read_items-else-not-is_empty}
+use Rattle.pres_tree.proofs.read.+read.Goals.{read_items-in-Ok+then-not-is_empty+in_ok-insert-in-Ok, read_items-in-Ok+else-not-is_empty, read_items-in-Err+in_default}
+
+pub read_at-returns-then-is_leaf-clause-shallow : goal.read_at-returns-then-is_leaf-clause-shallow
+read_at-returns-then-is_leaf-clause-shallow g t c = subst (Shallow c.args.left) (sym c.scalar.ensures) (Shallow-leaf c.args.left c.in_ok-read.field-0 (omega arith))
+
+pub read_items-loop-item-init : goal.read_items-loop-item-init
+read_items-loop-item-init g t c = (refl, items_start g.L.Leaf.reading c.args.left (items_view c.deref-item-items.result.now) c.new-children.result.entries c.new-children.ensures.empty c.new-children.ensures.ordered)
+
+pub read_items-loop-item-preserved : goal.read_items-loop-item-preserved
+read_items-loop-item-preserved g t c =
+    let l = c.loop-item in
+    let f = g.L.Leaf.reading in
+    let i = l.item-index in
+    let items = c.deref-item-items.result.now in
+    let es = l.children.entries in
+    let x = c.item-item.result in
+    let d = view x in
+    let rest = items_view (drop (i + 1) items) in
+    let more : suc i ≡ i + 1 = omega arith in
+    let key : c.in_ok-key.key ≡ decimal i = c.in_ok-key.ensures ∙ ap decimal l.invariant.0 in
+    let small : i < 2 ^ 64 = subst (λ n. n < 2 ^ 64) l.invariant.0 l.auto.index-fits.fits in
+    let step : drop i items ≡ x ∷ drop (i + 1) items = drop-cons items i x c.loop-item-test.true ∙ (λ k. sym c.item-item.is k ∷ drop (more k) items) in
+    let walked : ItemsRead f c.args.left i es l.first (items_view items) (item d rest) = subst (λ vs. ItemsRead f c.args.left i es l.first (items_view items) (items_view vs)) step l.invariant.1 in
+    let now : ItemsRead f c.args.left (i + 1) c.match-read_at.children.entries c.match-read_at.first (items_view items) rest =
+    elim c.match-read_at.branch [
+      | read_items-in-Ok+then-not-is_empty+in_ok-insert-in-Ok w ↦
+          let child = w.in-Ok.child in
+          let here = w.in_ok-insert-in-Ok.ensures in
+          let kid : Kid c.args.left c.in_ok-key.key child = record {
+            key = subst (λ k. is_key k ≡ true) (sym key) (decimal_key i small);
+            some = sym w.if-not-is_empty.ensures.null;
+            value = w.if-not-is_empty.ensures.value;
+            shallow = w.in-Ok.ensures.shallow;
+          } in
+          subst (λ o. ItemsRead f c.args.left (i + 1) c.match-read_at.children.entries o (items_view items) rest) (sym w.first-is)
+          (subst (λ m. ItemsRead f c.args.left (i + 1) m.entries l.first (items_view items) rest) (sym w.children-is)
+          (items_insert d c.in_ok-key.key child w.in-Ok.ensures.read.0 w.in-Ok.ensures.read.1 key small kid here.entries here.updates.0 here.ordered walked))
+      | read_items-in-Ok+else-not-is_empty w ↦
+          subst (λ o. ItemsRead f c.args.left (i + 1) c.match-read_at.children.entries o (items_view items) rest) (sym w.first-is)
+          (subst (λ m. ItemsRead f c.args.left (i + 1) m.entries l.first (items_view items) rest) (sym w.children-is)
+          (items_null d w.in-Ok.ensures.read.0 (sym w.in-Ok.ensures.read.1 ∙ null_is_empty w.in-Ok.child (sym w.if-not-is_empty.ensures.null)) walked))
+      | read_items-in-Err+in_default w ↦
+          subst (λ o. ItemsRead f c.args.left (i + 1) c.match-read_at.children.entries o (items_view items) rest) (sym w.first-is)
+          (subst (λ m. ItemsRead f c.args.left (i + 1) m.entries (Some w.earlier.result) (items_view items) rest) (sym w.children-is)
+          (items_fail d c.in_ok-key.key w.in-Err.fault w.earlier.result (elim w.in-Err.ensures.read [ inl h ↦ absurd (w.in_default.not-Memory h) | inr h ↦ h ]) key w.earlier.ensures walked))
+    ] in
+    (ap (λ n. n + 1) l.invariant.0, now)
+
+pub read_items-of_children-requires-clause-some : goal.read_items-of_children-requires-clause-some
+read_items-of_children-requires-clause-some g t c = Kids-children c.args.left c.loop-item.children.entries c.loop-item.invariant.1.kids
+
+pub read_items-of_children-requires-clause-value : goal.read_items-of_children-requires-clause-value
+read_items-of_children-requires-clause-value g t c =
+    let l = c.loop-item in
+    IsValue-object c.args.left l.children.entries l.invariant.1.kids l.invariant.1.order c.requires
+
+pub read_items-returns-in-None-clause-read : goal.read_items-returns-in-None-clause-read
+read_items-returns-in-None-clause-read g t c =
+    let l = c.loop-item in
+    let f = g.L.Leaf.reading in
+    let items = c.deref-item-items.result.now in
+    let done : drop l.item-index items ≡ [] = drop_all l.item-index items c.loop-item-test.false in
+    let value = c.deref-item-items.ensures.value in
+    let read = items_end c.in-None.is (subst (λ vs. ItemsRead f c.args.left l.item-index l.children.entries l.first (items_view items) (items_view vs)) done l.invariant.1) in (
+      ap (λ vs. items_fault f c.args.left 0 (items_view vs)) (sym value) ∙ read.0,
+      c.of_children.ensures ∙ read.1 ∙ ap (λ vs. sorted_by path_cmp (items_rows f 0 (items_view vs))) value,
+    )
+
+pub read_items-returns-in-None-clause-shallow : goal.read_items-returns-in-None-clause-shallow
+read_items-returns-in-None-clause-shallow g t c =
+    let l = c.loop-item in
+    subst (Shallow (c.args.left + 1)) (sym c.of_children.ensures) (Shallow-object c.args.left l.children.entries l.invariant.1.kids l.invariant.1.order)
+
+pub read_at-returns-in-Array-clause-shallow : goal.read_at-returns-in-Array-clause-shallow
+read_at-returns-in-Array-clause-shallow g t c =
+    let f = g.L.Leaf.reading in
+    let ds = items_view c.in-Array.items.items in
+    Shallow-result _ _ c.args.left c.saturating_sub.result (items_rows f 0 ds) c.read_items.result c.saturating_sub.ensures (items-root f 0 ds) c.read_items.ensures.read c.read_items.ensures.shallow
+
+pub read_at-returns-in-Object-clause-shallow : goal.read_at-returns-in-Object-clause-shallow
+read_at-returns-in-Object-clause-shallow g t c =
+    let f = g.L.Leaf.reading in
+    let ms = members_view c.in-Object.members.entries in
+    Shallow-result _ _ c.args.left c.saturating_sub-in-Object.result (members_rows f ms) c.read_members.result c.saturating_sub-in-Object.ensures (members-root f ms) c.read_members.ensures.read c.read_members.ensures.shallow
 
 pub read_members-loop-name-init : goal.read_members-loop-name-init
 read_members-loop-name-init g t c =
@@ -28,7 +111,7 @@ read_members-loop-name-init g t c =
     let none = c.new-children.ensures.empty in (
       ap (λ ms. members_fault f c.args.left (members_view ms)) (sym same),
       ap (λ ms. members_rows f (members_view ms)) (sym same) ∙ (λ i. child_rows (sym none i) ++ members_rows f (members_view all)),
-      subst Children (sym none) tt,
+      subst (Kids c.args.left) (sym none) tt,
       subst (λ es. Rise (keys_of es ++ names all)) (sym none) (subst (λ ms. Rise (names ms)) (sym same) (names-rise c.args.members.now.entries c.iter-name-items.ensures.ordered)),
     )
 
@@ -43,17 +126,24 @@ read_members-loop-name-preserved-then-not-is_empty g t c =
     let d = view c.in-Some.member.now in
     let key = c.in_ok-key.key in
     let child = c.in_ok-child.child in
-    let is_key : key ≡ k = c.in_ok-key.ensures.0 ∙ c.as_str.ensures.value in
-    let good : key_fault k ≡ None = ap key_fault (sym c.as_str.ensures.value) ∙ c.in_ok-key.ensures.1 in
-    let rise : Rise (keys_of es ++ key ∷ names rest) = subst (λ q. Rise (keys_of es ++ q ∷ names rest)) (sym is_key) (subst (λ ms. Rise (keys_of es ++ names ms)) steps l.invariant.3) in
+    let read = c.in_ok-child.ensures.read in
+    let same : key ≡ k = c.in_ok-key.ensures.key.0 ∙ c.as_str.ensures.value in
+    let good : key_fault k ≡ None = ap key_fault (sym c.as_str.ensures.value) ∙ c.in_ok-key.ensures.key.1 in
+    let kid : Kid c.args.left key child = record {
+      key = ap is_key same ∙ ap is_none good;
+      some = sym c.if-not-is_empty.ensures.null;
+      value = c.if-not-is_empty.ensures.value;
+      shallow = c.in_ok-child.ensures.shallow;
+    } in
+    let rise : Rise (keys_of es ++ key ∷ names rest) = subst (λ q. Rise (keys_of es ++ q ∷ names rest)) (sym same) (subst (λ ms. Rise (keys_of es ++ names ms)) steps l.invariant.3) in
     let inserted = c.in_ok-insert.ensures.entries ∙ insert_end es key child (names rest) rise in (
       l.invariant.0 ∙ ap (λ ms. members_fault f c.args.left (members_view ms)) steps
-          ∙ (λ i. option_or (good i) (option_or (c.in_ok-child.ensures.0 i) (members_fault f c.args.left (members_view rest)))),
+          ∙ (λ i. option_or (good i) (option_or (read.0 i) (members_fault f c.args.left (members_view rest)))),
       l.invariant.1 ∙ ap (λ ms. child_rows es ++ members_rows f (members_view ms)) steps
-          ∙ (λ i. child_rows es ++ (placed (sym is_key i ∷ []) (sym c.in_ok-child.ensures.1 i) ++ members_rows f (members_view rest)))
+          ∙ (λ i. child_rows es ++ (placed (sym same i ∷ []) (sym read.1 i) ++ members_rows f (members_view rest)))
           ∙ rows_insert es key child (members_rows f (members_view rest))
           ∙ ap (λ fs. child_rows fs ++ members_rows f (members_view rest)) (sym inserted),
-      subst Children (sym c.in_ok-insert.ensures.entries) (Children-insert key child es l.invariant.2 (sym c.if-not-is_empty.ensures.null)),
+      subst (Kids c.args.left) (sym c.in_ok-insert.ensures.entries) (Kids-insert c.args.left key child es l.invariant.2 kid),
       subst (λ fs. Rise (keys_of fs ++ names rest)) (sym inserted) (rise_insert es key child (names rest) rise),
     )
 
@@ -65,72 +155,26 @@ read_members-loop-name-preserved g t c =
     let es = l.children.entries in
     let steps = c.in-Some.ensures.steps in
     let k = string_bytes c.in-Some.name.now in
-    let good : key_fault k ≡ None = ap key_fault (sym c.as_str.ensures.value) ∙ c.in_ok-key.ensures.1 in
-    let none = sym c.in_ok-child.ensures.1 ∙ null_is_empty c.in_ok-child.child (sym c.if-not-is_empty.ensures.null) in (
+    let read = c.in_ok-child.ensures.read in
+    let good : key_fault k ≡ None = ap key_fault (sym c.as_str.ensures.value) ∙ c.in_ok-key.ensures.key.1 in
+    let none = sym read.1 ∙ null_is_empty c.in_ok-child.child (sym c.if-not-is_empty.ensures.null) in (
       l.invariant.0 ∙ ap (λ ms. members_fault f c.args.left (members_view ms)) steps
-          ∙ (λ i. option_or (good i) (option_or (c.in_ok-child.ensures.0 i) (members_fault f c.args.left (members_view rest)))),
+          ∙ (λ i. option_or (good i) (option_or (read.0 i) (members_fault f c.args.left (members_view rest)))),
       l.invariant.1 ∙ ap (λ ms. child_rows es ++ members_rows f (members_view ms)) steps
           ∙ (λ i. child_rows es ++ (placed (k ∷ []) (none i) ++ members_rows f (members_view rest))),
       l.invariant.2,
       rise_without (keys_of es) k (names rest) (subst (λ ms. Rise (keys_of es ++ names ms)) steps l.invariant.3),
     )
 
-pub read_items-loop-item-init : goal.read_items-loop-item-init
-read_items-loop-item-init g t c =
-    let f = g.L.Leaf.reading in
-    let all = items_view c.deref-item-items.result.now in
-    let none = c.new-children.ensures.empty in
-    (refl, refl, subst (λ es. Walked f 0 es all all) (sym none) (walked_start f all), subst Children (sym none) tt, c.new-children.ensures.ordered)
+pub read_members-of_children-requires-clause-some : goal.read_members-of_children-requires-clause-some
+read_members-of_children-requires-clause-some g t c = Kids-children c.args.left c.loop-name.children.entries c.loop-name.invariant.2
 
-pub read_items-loop-item-preserved : goal.read_items-loop-item-preserved
-read_items-loop-item-preserved g t c =
-    let l = c.loop-item in
-    let f = g.L.Leaf.reading in
-    let i = l.item-index in
-    let items = c.deref-item-items.result.now in
-    let es = l.children.entries in
-    let x = c.item-item.result in
-    let d = view x in
-    let rest = items_view (drop (i + 1) items) in
-    let child = c.in_ok-child.child in
-    let more : suc i ≡ i + 1 = omega arith in
-    let step : drop i items ≡ x ∷ drop (i + 1) items = drop-cons items i x c.loop-item-test.true ∙ (λ k. sym c.item-item.is k ∷ drop (more k) items) in
-    let walked : Walked f i es (items_view items) (item d rest) = subst (λ vs. Walked f i es (items_view items) (items_view vs)) step l.invariant.2 in
-    let left : Walked f (i + 1) c.if-not-is_empty.children.entries (items_view items) rest × Children c.if-not-is_empty.children.entries × IsOrdered key_cmp c.if-not-is_empty.children =
-    elim c.if-not-is_empty.branch [
-      | read_items-then-not-is_empty+in_ok-of_index+in_ok-insert w ↦
-          let key = w.in_ok-of_index.field-0 in
-          let is_key : key ≡ decimal i = w.in_ok-of_index.ensures ∙ ap decimal l.invariant.0 in
-          let here = w.in_ok-insert.ensures in
-          subst (λ m. Walked f (i + 1) m.entries (items_view items) rest × Children m.entries × IsOrdered key_cmp m) (sym w.children-is) (
-            walked_insert d walked (subst (λ n. n < 2 ^ 64) l.invariant.0 l.auto.index-fits.fits) (λ q. here.updates.0 q ∙ (λ k. cond (same_key (is_key k) q) (Some (c.in_ok-child.ensures.1 k)) (lookup (is_at (key_cmp q)) es))),
-            subst Children (sym here.entries) (Children-insert key child es l.invariant.3 (sym w.if-not-is_empty.ensures.null)),
-            here.ordered,
-          )
-      | read_items-else-not-is_empty w ↦
-          subst (λ m. Walked f (i + 1) m.entries (items_view items) rest × Children m.entries × IsOrdered key_cmp m) (sym w.children-is) (
-            walked_null d walked (sym c.in_ok-child.ensures.1 ∙ null_is_empty child (sym w.if-not-is_empty.ensures.null)),
-            l.invariant.3,
-            l.invariant.4,
-          )
-    ] in (
-      ap (λ n. n + 1) l.invariant.0,
-      l.invariant.1 ∙ ap (λ vs. items_fault f c.args.left (items_view vs)) step
-          ∙ (λ k. option_or (c.in_ok-child.ensures.0 k) (items_fault f c.args.left rest)),
-      left.0,
-      left.1,
-      left.2,
-    )
+pub read_members-of_children-requires-clause-value : goal.read_members-of_children-requires-clause-value
+read_members-of_children-requires-clause-value g t c =
+    let l = c.loop-name in
+    IsValue-object c.args.left l.children.entries l.invariant.2 (rise_first (keys_of l.children.entries) (names l.name-iterator) l.invariant.3) c.requires
 
-pub read_items-returns : goal.read_items-returns
-read_items-returns g t c =
-    let l = c.loop-item in
-    let f = g.L.Leaf.reading in
-    let items = c.deref-item-items.result.now in
-    let done : drop l.item-index items ≡ [] = drop_all l.item-index items c.loop-item-test.false in
-    let value = c.deref-item-items.ensures.value in (
-      ap (λ vs. items_fault f c.args.left (items_view vs)) (sym value) ∙ l.invariant.1 ∙ ap (λ vs. items_fault f c.args.left (items_view vs)) done,
-      c.of_children.ensures
-          ∙ walked_end (subst (λ vs. Walked f l.item-index l.children.entries (items_view items) (items_view vs)) done l.invariant.2) l.invariant.4
-          ∙ ap (λ vs. sorted_by path_cmp (items_rows f 0 (items_view vs))) value,
-    )
+pub read_members-returns-clause-shallow : goal.read_members-returns-clause-shallow
+read_members-returns-clause-shallow g t c =
+    let l = c.loop-name in
+    subst (Shallow (c.args.left + 1)) (sym c.of_children.ensures) (Shallow-object c.args.left l.children.entries l.invariant.2 (rise_first (keys_of l.children.entries) (names l.name-iterator) l.invariant.3))

@@ -1,24 +1,21 @@
 use Rattle.std.proofs.Common.{◌≡◌, ◌++◌, drop}
-use Rattle.std.specs.BTreeMap.{IsOrdered}
-use Rattle.pres_tree.specs.Keys.{key_cmp}
 use Rattle.std.specs.Map.{keys_of}
 use Rattle.serde_json.specs.View.{items_view, members_view}
-use Rattle.pres_tree.specs.Layer.{Children, child_rows}
-use Rattle.pres_tree.specs.Reading.{items_fault, members_rows, members_fault}
-use Rattle.pres_tree.proofs.Reading.{Rise, names, Walked}
+use Rattle.pres_tree.specs.Layer.{child_rows}
+use Rattle.pres_tree.specs.Reading.{members_rows, members_fault}
+use Rattle.pres_tree.proofs.Items.{ItemsRead}
+use Rattle.pres_tree.proofs.Shallow.{Kids}
+use Rattle.pres_tree.proofs.Reading.{Rise, names}
 use Rattle.pres_tree.proofs.read.+read.Given as goal
 
 abbrev pub invariant-read_members-loop-name : goal.invariant-read_members-loop-name
 invariant-read_members-loop-name g l =
     (members_fault g.L.Leaf.reading l.left (members_view l.members.entries) ≡ members_fault g.L.Leaf.reading l.left (members_view l.name-iterator))
     × (members_rows g.L.Leaf.reading (members_view l.members.entries) ≡ child_rows l.children.entries ++ members_rows g.L.Leaf.reading (members_view l.name-iterator))
-    × Children l.children.entries
+    × Kids l.left l.children.entries
     × Rise (keys_of l.children.entries ++ names l.name-iterator)
 
 abbrev pub invariant-read_items-loop-item : goal.invariant-read_items-loop-item
 invariant-read_items-loop-item g l =
     (l.index ≡ l.item-index)
-    × (items_fault g.L.Leaf.reading l.left (items_view l.item-items) ≡ items_fault g.L.Leaf.reading l.left (items_view (drop l.item-index l.item-items)))
-    × Walked g.L.Leaf.reading l.item-index l.children.entries (items_view l.item-items) (items_view (drop l.item-index l.item-items))
-    × Children l.children.entries
-    × IsOrdered key_cmp l.children
+    × ItemsRead g.L.Leaf.reading l.left l.item-index l.children.entries l.first (items_view l.item-items) (items_view (drop l.item-index l.item-items))

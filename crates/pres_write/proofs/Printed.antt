@@ -1,0 +1,37 @@
+-- A printed operation is read as itself.
+use Rattle.std.proofs.Common.{◌≡◌, ◌-◌, ◌≤◌, [], length, None, Ok, Err, refl, sym, ap, ◌∙◌, arith}
+use Rattle.std.specs.Prelude.{IfOk, Result}
+use Rattle.std.specs.declared.alloc.AllocError.{AllocError}
+use Rattle.serde_json.specs.View.{view}
+use Rattle.serde_json.specs.declared.value.Value.{Value}
+use Rattle.serde_json.specs.Data.{Data, null}
+use Rattle.pres_tree.specs.Paths.{Path, segments, path_fault, path_text}
+use Rattle.pres_tree.specs.Reading.{rows_of, fault_of}
+use Rattle.pres_tree.specs.Rows.{Rows, height}
+use Rattle.pres_tree.specs.Printing.{ReadsBack}
+use Rattle.pres_write.specs.declared.draft.Slot.{Slot}
+use Rattle.pres_write.specs.declared.op.Op.{Op}
+use Rattle.pres_write.specs.declared.op.Op.TheVariants.{Set}
+use Rattle.pres_write.specs.Drafts.{slot_reading}
+use Rattle.pres_write.specs.OpForms.{unless, op_read, set_read, set_form, remove_form}
+
+-- what is read of a path that is printed as the text, and of a draft that is read back
+reads_set : (p : Path) (v : Rows Slot) (d : Data) → segments (path_text p) ≡ p → path_fault (path_text p) ≡ None → ReadsBack slot_reading v d → height v ≤ 33 - length p → set_read (path_text p) d ≡ Ok (Set (p, v))
+reads_set p v d keys sound reads low =
+    ap (λ o. unless o (unless (fault_of slot_reading (33 - length (segments (path_text p))) d) (Ok (Set (segments (path_text p), rows_of slot_reading d))))) sound
+    ∙ ap (λ q. unless (fault_of slot_reading (33 - length q) d) (Ok (Set (q, rows_of slot_reading d)))) keys
+    ∙ ap (λ o. unless o (Ok (Set (p, rows_of slot_reading d)))) (reads.1 (33 - length p) low)
+    ∙ ap (λ u. Ok (Set (p, u))) reads.0
+
+pub reads_remove : (p : Path) (v : Rows Slot) → segments (path_text p) ≡ p → path_fault (path_text p) ≡ None → v ≡ [] → op_read (remove_form (path_text p)) ≡ Ok (Set (p, v))
+reads_remove p v keys sound none =
+    let low : height v ≤ 33 - length p = omega (arith, ap height none) in
+    reads_set p v null keys sound (sym none, λ n h. refl) low
+
+pub reads_put : (p : Path) (v : Rows Slot) (d : Data) → segments (path_text p) ≡ p → path_fault (path_text p) ≡ None → ReadsBack slot_reading v d → height v ≤ 33 - length p → op_read (set_form (path_text p) d) ≡ Ok (Set (p, v))
+reads_put p v d keys sound reads low = reads_set p v d keys sound reads low
+
+-- what was made is read as the operation whose form it has
+pub reads_made : (r : Result Value AllocError) (d : Data) (op : Op) → IfOk r (λ made. view made ≡ d) → op_read d ≡ Ok op → IfOk r (λ made. op_read (view made) ≡ Ok op)
+reads_made (Ok made) d op is reads = ap op_read is ∙ reads
+reads_made (Err e) d op is reads = tt

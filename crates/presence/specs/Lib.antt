@@ -1,0 +1,4 @@
+pub mod Faults
+pub mod Replies
+pub mod Lines
+pub mod Statuses
