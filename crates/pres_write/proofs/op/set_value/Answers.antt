@@ -19,7 +19,7 @@ returns-then-is_empty-clause-reads_back c =
     let placement = c.args.placement.now in
     let keys = c.path.ensures.keys in
     reads_made c.remove_form.result (remove_form (string_bytes c.in_ok-path.path)) (Set placement) c.remove_form.ensures
-    (ap (λ text. op_read (remove_form text)) (c.in_ok-path.ensures ∙ ap path_text c.path.ensures.path)
+    (ap (λ text. op_read (remove_form text)) (c.in_ok-path.ensures.text ∙ ap path_text c.path.ensures.path)
     ∙ reads_remove placement.0 placement.1 (segments-path_text placement.0 keys) (path_fault-path_text placement.0 keys)
     (sym c.draft.ensures ∙ null_is_empty c.draft.result.now (sym c.if-is_empty.ensures.null)))
 
@@ -29,7 +29,7 @@ returns-clause-reads_back c =
     let keys = c.path.ensures.keys in
     let made = view c.in_ok-value.value in
     reads_made c.set_form.result (set_form (string_bytes c.in_ok-path.path) made) (Set placement) c.set_form.ensures
-    (ap (λ text. op_read (set_form text made)) (c.in_ok-path.ensures ∙ ap path_text c.path.ensures.path)
+    (ap (λ text. op_read (set_form text made)) (c.in_ok-path.ensures.text ∙ ap path_text c.path.ensures.path)
     ∙ reads_put placement.0 placement.1 made (segments-path_text placement.0 keys) (path_fault-path_text placement.0 keys)
     (subst (λ (v : Rows Slot). ReadsBack slot_reading v made) c.draft-2.ensures c.in_ok-value.ensures.reads_back)
     (fits_height placement.0 placement.1 c.path.ensures.fits))
