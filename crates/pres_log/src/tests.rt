@@ -10,7 +10,9 @@ fn moments_never_fall(rt: HostRuntime) -> Result<(), Fail> {
     let alloc = rt.alloc();
     let mut log = Plain::new(alloc);
     for (number, name, now) in [(1, "t", 5), (2, "u", 3), (3, "v", 7)] {
-        let text = format!(in alloc; r#"{{"op":"set","path":"/{name}","value":{{".sv":"timestamp"}}}}"#)?;
+        let text = format!(in alloc;
+            r#"{{"op":"set","path":"/{name}","value":{{".sv":"timestamp"}}}}"#
+        )?;
         let op = Op::from_value(alloc, &Value::from_str(alloc, text.as_str())?)?;
         assert_eq!(rt; log.apply(&op, Moment::at(now))?, (number, Kept::Wrote));
         assert_eq!(rt; log.number(), number);

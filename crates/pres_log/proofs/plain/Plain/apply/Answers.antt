@@ -17,7 +17,7 @@ pub returns-in-Ok-apply_owned-clause-ok : goal.returns-in-Ok-apply_owned-clause-
 returns-in-Ok-apply_owned-clause-ok c =
     let log = c.self.inside in
     let writes : c.into_writes-writes.result ≡ writes_in (resolved log.tree (max log.moment c.args.now) c.args.op.now) =
-        c.into_writes-writes.ensures ∙ ap writes_in (c.in-Ok.ensures.outcome ∙ ap (λ m. resolved log.tree m c.args.op.now) c.max-moment.ensures) in
+    c.into_writes-writes.ensures ∙ ap writes_in (c.in-Ok.ensures.outcome ∙ ap (λ m. resolved log.tree m c.args.op.now) c.max-moment.ensures) in
     let state : ℕ → Rows Scalar → PlainState = λ m t. record { number = log.number + 1; moment = m; tree = t } in
     ap (λ m. state m c.apply_owned.new.tree) c.max-moment.ensures
     ∙ ap (state (max log.moment c.args.now)) (c.in-Ok-apply_owned.ensures.ok ∙ ap (applied log.tree) writes)
