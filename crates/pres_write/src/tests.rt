@@ -85,10 +85,26 @@ fn operations_are_refused(rt: HostRuntime) -> Result<(), Fail> {
         (r#"[]"#, 11, "Shape"),
         (r#"{"op":"set","path":"/a.b","value":1.0}"#, 4, "BadKey"),
         (r#"{"op":"set","path":"/a","value":{"":1}}"#, 2, "EmptyKey"),
-        (r#"{"op":"set","path":"/a","value":{".sv":"timestamp","x":1}}"#, 8, "Placeholder"),
-        (r#"{"op":"set","path":"/a","value":{".sv":"time"}}"#, 8, "Placeholder"),
-        (r#"{"op":"set","path":"/a","value":9223372036854775808}"#, 7, "Range"),
-        (r#"{"op":"set","path":"/a","value":18446744073709551616}"#, 6, "NotWhole"),
+        (
+            r#"{"op":"set","path":"/a","value":{".sv":"timestamp","x":1}}"#,
+            8,
+            "Placeholder",
+        ),
+        (
+            r#"{"op":"set","path":"/a","value":{".sv":"time"}}"#,
+            8,
+            "Placeholder",
+        ),
+        (
+            r#"{"op":"set","path":"/a","value":9223372036854775808}"#,
+            7,
+            "Range",
+        ),
+        (
+            r#"{"op":"set","path":"/a","value":18446744073709551616}"#,
+            6,
+            "NotWhole",
+        ),
         (r#"{"op":"set","path":"/a","value":1.0}"#, 6, "NotWhole"),
         (r#"{"op":"set","path":"/a","value":1e2}"#, 6, "NotWhole"),
     ] {
@@ -124,7 +140,11 @@ fn places_have_at_most_32_keys(rt: HostRuntime) -> Result<(), Fail> {
     ] {
         let text = set_below(alloc, keys, value)?;
         let fault = fault_of(alloc, text.as_str())?;
-        assert_eq!(rt; fault.map(WriteFault::number), number, "at {value} below {keys} keys");
+        assert_eq!(rt;
+            fault.map(WriteFault::number),
+            number,
+            "at {value} below {keys} keys"
+        );
     }
     Ok(())
 }

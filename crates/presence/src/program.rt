@@ -8,15 +8,18 @@ ghost use Rattle.presence.specs.Statuses.{IsStatus};
 use crate::apply::apply_run;
 use crate::faults::RunFault;
 use crate::words::{Request, read_words};
-use clap::error::ErrorKind;
 use clap::Error;
+use clap::error::ErrorKind;
 use std::alloc::Global;
 use std::io::{Read, Write};
 
 // Exit statuses.
 const DONE: u8 = 0;
+
 const REFUSED: u8 = 1;
+
 const BAD_WORDS: u8 = 2;
+
 const NO_MEMORY: u8 = 5;
 
 /// Runs the program with the words of its command line, its own name first, and answers the

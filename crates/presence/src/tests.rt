@@ -62,20 +62,30 @@ fn run<R: Read>(alloc: Global, words: &[&str], input: &mut R) -> Ran {
     let mut output = Vec::new(alloc);
     let mut faults = Vec::new(alloc);
     let status = presence_run(alloc, words, input, &mut output, &mut faults);
-    Ran { status, output, faults }
+    Ran {
+        status,
+        output,
+        faults,
+    }
 }
 
 // Whether `presence apply` answers the input so.
 fn answers<R: Read>(alloc: Global, input: &mut R, output: &str, status: u8) -> bool {
     let ran = run(alloc, &["presence", "apply"], input);
-    let fault = if status == 1 { "presence: input refused\n" } else { "" };
+    let fault = if status == 1 {
+        "presence: input refused\n"
+    } else {
+        ""
+    };
     ran.status == status
         && ran.output.as_slice() == output.as_bytes()
         && ran.faults.as_slice() == fault.as_bytes()
 }
 
 const SET_A: &str = r#"{"now":1000,"op":"set","path":"/a","value":1}"#;
+
 const SET_AB: &str = r#"{"now":1001,"op":"set","path":"/a/b","value":2}"#;
+
 const REMOVE_AB: &str = r#"{"now":1002,"op":"remove","path":"/a/b"}"#;
 
 #[test]
@@ -86,7 +96,11 @@ fn answers_inputs(rt: HostRuntime) -> Result<(), Fail> {
         ("", "tree null\n", 0),
         ("\n\n", "tree null\n", 0),
         (worked.as_str(), "1 wrote\n2 wrote\n3 wrote\ntree null\n", 0),
-        (unended.as_str(), "1 wrote\n2 wrote\ntree {\"a\":{\"b\":2}}\n", 0),
+        (
+            unended.as_str(),
+            "1 wrote\n2 wrote\ntree {\"a\":{\"b\":2}}\n",
+            0,
+        ),
         (
             "{\"now\":5,\"op\":\"set\",\"path\":\"/t\",\"value\":{\".sv\":\"timestamp\"}}\n{\"now\":3,\"op\":\"set\",\"path\":\"/t\",\"value\":{\".sv\":\"timestamp\"}}\n",
             "1 wrote\n2 wrote\ntree {\"t\":5}\n",
@@ -99,9 +113,18 @@ fn answers_inputs(rt: HostRuntime) -> Result<(), Fail> {
         ),
     ] {
         let mut whole = input.as_bytes();
-        assert!(rt; answers(rt.alloc(), &mut whole, output, status), "whole: {input}");
-        let mut drops = Drops { rest: input.as_bytes(), fails: false };
-        assert!(rt; answers(rt.alloc(), &mut drops, output, status), "by bytes: {input}");
+        assert!(rt;
+            answers(rt.alloc(), &mut whole, output, status),
+            "whole: {input}"
+        );
+        let mut drops = Drops {
+            rest: input.as_bytes(),
+            fails: false,
+        };
+        assert!(rt;
+            answers(rt.alloc(), &mut drops, output, status),
+            "by bytes: {input}"
+        );
     }
     Ok(())
 }
@@ -114,20 +137,44 @@ fn takes_or_refuses_lines(rt: HostRuntime) -> Result<(), Fail> {
             "1 wrote\ntree {\"v\":{\"0\":1,\"2\":2}}\n",
             0,
         ),
-        (r#"{"now":9007199254740991,"op":"remove","path":"/"}"#, "1 wrote\ntree null\n", 0),
+        (
+            r#"{"now":9007199254740991,"op":"remove","path":"/"}"#,
+            "1 wrote\ntree null\n",
+            0,
+        ),
         (
             r#"{"now":9007199254740992,"op":"remove","path":"/"}"#,
             "refused 13 NoMoment\ntree null\n",
             1,
         ),
-        (r#"{"now":-1,"op":"remove","path":"/"}"#, "refused 13 NoMoment\ntree null\n", 1),
-        (r#"{"now":1.0,"op":"remove","path":"/"}"#, "refused 13 NoMoment\ntree null\n", 1),
-        (r#"{"op":"remove","path":"/"}"#, "refused 13 NoMoment\ntree null\n", 1),
+        (
+            r#"{"now":-1,"op":"remove","path":"/"}"#,
+            "refused 13 NoMoment\ntree null\n",
+            1,
+        ),
+        (
+            r#"{"now":1.0,"op":"remove","path":"/"}"#,
+            "refused 13 NoMoment\ntree null\n",
+            1,
+        ),
+        (
+            r#"{"op":"remove","path":"/"}"#,
+            "refused 13 NoMoment\ntree null\n",
+            1,
+        ),
         (r#"[1]"#, "refused 13 NoMoment\ntree null\n", 1),
         (r#"{"now":"#, "refused 12 NotJson\ntree null\n", 1),
         ("\r", "refused 12 NotJson\ntree null\n", 1),
-        (r#"{"now":1,"op":"move","path":"/"}"#, "refused 11 Shape\ntree null\n", 1),
-        (r#"{"now":1,"op":"set","path":"/"}"#, "refused 11 Shape\ntree null\n", 1),
+        (
+            r#"{"now":1,"op":"move","path":"/"}"#,
+            "refused 11 Shape\ntree null\n",
+            1,
+        ),
+        (
+            r#"{"now":1,"op":"set","path":"/"}"#,
+            "refused 11 Shape\ntree null\n",
+            1,
+        ),
         (
             r#"{"now":1,"op":"set","path":"/","value":9223372036854775808}"#,
             "refused 7 Range\ntree null\n",
@@ -138,7 +185,11 @@ fn takes_or_refuses_lines(rt: HostRuntime) -> Result<(), Fail> {
             "refused 6 NotWhole\ntree null\n",
             1,
         ),
-        (r#"{"now":1,"op":"set","path":"/a.b","value":1}"#, "refused 4 BadKey\ntree null\n", 1),
+        (
+            r#"{"now":1,"op":"set","path":"/a.b","value":1}"#,
+            "refused 4 BadKey\ntree null\n",
+            1,
+        ),
     ] {
         let mut input = line.as_bytes();
         assert!(rt; answers(rt.alloc(), &mut input, output, status), "{line}");
@@ -165,7 +216,10 @@ fn keeps_to_its_bounds(rt: HostRuntime) -> Result<(), Fail> {
         let spaces = " ".repeat(alloc, usize::saturating_sub(pad, line.len()))?;
         let text = format!(in alloc; "{line}{spaces}\n")?;
         let mut input = text.as_bytes();
-        assert!(rt; answers(alloc, &mut input, output, status), "{part} {count} {pad}");
+        assert!(rt;
+            answers(alloc, &mut input, output, status),
+            "{part} {count} {pad}"
+        );
     }
     Ok(())
 }
@@ -179,7 +233,10 @@ fn stops_where_a_read_fails(rt: HostRuntime) -> Result<(), Fail> {
         (SET_A.len() + 1, "1 wrote\n"),
         (text.len(), "1 wrote\nrefused 12 NotJson\n"),
     ] {
-        let mut input = Drops { rest: &text.as_bytes()[..length], fails: true };
+        let mut input = Drops {
+            rest: &text.as_bytes()[..length],
+            fails: true,
+        };
         assert!(rt; answers(rt.alloc(), &mut input, output, 1), "at {length}");
     }
     Ok(())
@@ -195,13 +252,22 @@ fn stops_where_a_write_fails(rt: HostRuntime) -> Result<(), Fail> {
         (2, "1 wrote\n2 wrote\n", 1),
         (3, "1 wrote\n2 wrote\ntree {\"a\":{\"b\":2}}\n", 0),
     ] {
-        let mut input = Drops { rest: text.as_bytes(), fails: false };
-        let mut output = Clogs { taken: Vec::new(alloc), writes };
+        let mut input = Drops {
+            rest: text.as_bytes(),
+            fails: false,
+        };
+        let mut output = Clogs {
+            taken: Vec::new(alloc),
+            writes,
+        };
         let mut faults = Vec::new(alloc);
         let words = ["presence", "apply"];
         let ended = presence_run(alloc, &words, &mut input, &mut output, &mut faults);
         assert_eq!(rt; ended, status, "after {writes} writes");
-        assert!(rt; output.taken.as_slice() == wanted.as_bytes(), "after {writes} writes");
+        assert!(rt;
+            output.taken.as_slice() == wanted.as_bytes(),
+            "after {writes} writes"
+        );
     }
     Ok(())
 }
@@ -222,10 +288,19 @@ fn reads_its_words(rt: HostRuntime) -> Result<(), Fail> {
         assert_eq!(rt; !ran.output.is_empty(), writes, "{words:?}");
         assert_eq!(rt; !ran.faults.is_empty(), faults, "{words:?}");
     }
-    let mut output = Clogs { taken: Vec::new(rt.alloc()), writes: 0 };
+    let mut output = Clogs {
+        taken: Vec::new(rt.alloc()),
+        writes: 0,
+    };
     let mut faults = Vec::new(rt.alloc());
     let words = ["presence", "--help"];
-    let ended = presence_run(rt.alloc(), &words, &mut io::empty(), &mut output, &mut faults);
+    let ended = presence_run(
+        rt.alloc(),
+        &words,
+        &mut io::empty(),
+        &mut output,
+        &mut faults,
+    );
     assert_eq!(rt; ended, 1);
     Ok(())
 }

@@ -11,8 +11,9 @@ pub enum Request {
 }
 
 fn command<'a>(alloc: Global) -> Result<Command<'a>, AllocError> {
-    let apply = Command::new(alloc, "apply")
-        .about("Carries out operations, a JSON line each, and prints replies and the tree");
+    let apply = Command::new(alloc, "apply").about(
+        "Carries out operations, a JSON line each, and prints replies and the tree",
+    );
     Command::new(alloc, "presence")
         .version("0.1.0")
         .about("A presence server: one shared JSON tree, with actions at disconnection")
@@ -29,5 +30,9 @@ pub fn read_words<'a>(alloc: Global, words: &'a [&'a str]) -> Result<Option<Requ
     let Some((name, _)) = matches.subcommand() else {
         return Ok(None);
     };
-    Ok(if name == "apply" { Some(Request::Apply) } else { None })
+    Ok(if name == "apply" {
+        Some(Request::Apply)
+    } else {
+        None
+    })
 }

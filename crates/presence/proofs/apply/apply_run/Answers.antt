@@ -8,10 +8,10 @@ use Rattle.presence.proofs.apply.apply_run.Goals as goal
 
 pub reads-init : goal.reads-init
 reads-init g c = record {
-    going = going_starts _ _ _ _ _ c.new-feeder.ensures.applier c.new-feeder.ensures.pending;
-    room = c.as_mut_slice-piece.ensures.len ∙ c.in_ok-room.ensures;
-    count = omega (arith, ap (λ s. s.log.number) c.new-feeder.ensures.applier);
-  }
+  going = going_starts _ _ _ _ _ c.new-feeder.ensures.applier c.new-feeder.ensures.pending;
+  room = c.as_mut_slice-piece.ensures.len ∙ c.in_ok-room.ensures;
+  count = omega (arith, ap (λ s. s.log.number) c.new-feeder.ensures.applier);
+}
 
 pub reads-preserved : goal.reads-preserved
 reads-preserved g c =
@@ -24,11 +24,11 @@ reads-preserved g c =
     let put = subst (λ x. Appends (g.W.Write.contents c.reads.output) (g.W.Write.contents c.put-in-reads.new.output) x) c.deref-in-reads.ensures.value c.in_ok-put-2.ensures.ok in
     record {
       going = going_more (g.R.Read.remaining c.args.input.now) (g.R.Read.remaining c.reads.input) (g.R.Read.remaining c.read.new.self)
-        (g.W.Write.contents c.args.output.now) (g.W.Write.contents c.reads.output) (g.W.Write.contents c.put-in-reads.new.output)
-        c.reads.feeder.applier c.feed.new.self.applier c.reads.feeder.pending.bytes.items c.feed.new.self.pending.bytes.items c.reads.feeder.pending.cut c.feed.new.self.pending.cut
-        (take c.in-Ok.count c.read.new.buf) c.feed.new.out.items c.reads.invariant.going read
-        (λ line f h. let r = fed.taken line f h in (r.0, r.1 ∙ ap (λ x. x ++ r.0) said, r.2))
-        put;
+          (g.W.Write.contents c.args.output.now) (g.W.Write.contents c.reads.output) (g.W.Write.contents c.put-in-reads.new.output)
+          c.reads.feeder.applier c.feed.new.self.applier c.reads.feeder.pending.bytes.items c.feed.new.self.pending.bytes.items c.reads.feeder.pending.cut c.feed.new.self.pending.cut
+          (take c.in-Ok.count c.read.new.buf) c.feed.new.out.items c.reads.invariant.going read
+          (λ line f h. let r = fed.taken line f h in (r.0, r.1 ∙ ap (λ x. x ++ r.0) said, r.2))
+          put;
       room = c.read.auto.buf ∙ c.reads.invariant.room;
       count = omega (arith, few, fed.count, c.reads.invariant.count);
     }
@@ -90,10 +90,12 @@ returns-in_err-finish-clause-unspent g c = λ is.
     let most = spent_at c.from_residual-in_err-finish.result _ c.in_err-finish.field-0.0 c.reads.feeder.applier.log.number p.1 p.2 c.in_err-finish.ensures.err is in absurd (omega (arith, most, c.reads.invariant.count, c.reads-test.true))
 
 pub returns-in_err-finish-clause-memory : goal.returns-in_err-finish-clause-memory
-returns-in_err-finish-clause-memory g c = λ _.
-    (g.R.Read.remaining c.reads.input, reached (g.R.Read.remaining c.args.input.now) (g.R.Read.remaining c.reads.input)
-    (g.W.Write.contents c.args.output.now) (g.W.Write.contents c.reads.output)
-    c.reads.feeder.applier c.reads.feeder.pending.bytes.items c.reads.feeder.pending.cut c.reads.invariant.going)
+returns-in_err-finish-clause-memory g c = λ _. (
+  g.R.Read.remaining c.reads.input,
+  reached (g.R.Read.remaining c.args.input.now) (g.R.Read.remaining c.reads.input)
+      (g.W.Write.contents c.args.output.now) (g.W.Write.contents c.reads.output)
+      c.reads.feeder.applier c.reads.feeder.pending.bytes.items c.reads.feeder.pending.cut c.reads.invariant.going,
+)
 
 pub returns-in_err-feed-clause-read : goal.returns-in_err-feed-clause-read
 returns-in_err-feed-clause-read g c = λ is.
@@ -114,7 +116,9 @@ returns-in_err-feed-clause-unspent g c = λ is.
     let most = spent_at c.from_residual-in_err-feed.result _ c.in_err-feed.field-0.0 _ p.1 p.2 c.in_err-feed.ensures.err is in absurd (omega (arith, few, most, c.reads.invariant.count, c.reads-test.true))
 
 pub returns-in_err-feed-clause-memory : goal.returns-in_err-feed-clause-memory
-returns-in_err-feed-clause-memory g c = λ _.
-    (g.R.Read.remaining c.reads.input, reached (g.R.Read.remaining c.args.input.now) (g.R.Read.remaining c.reads.input)
-    (g.W.Write.contents c.args.output.now) (g.W.Write.contents c.reads.output)
-    c.reads.feeder.applier c.reads.feeder.pending.bytes.items c.reads.feeder.pending.cut c.reads.invariant.going)
+returns-in_err-feed-clause-memory g c = λ _. (
+  g.R.Read.remaining c.reads.input,
+  reached (g.R.Read.remaining c.args.input.now) (g.R.Read.remaining c.reads.input)
+      (g.W.Write.contents c.args.output.now) (g.W.Write.contents c.reads.output)
+      c.reads.feeder.applier c.reads.feeder.pending.bytes.items c.reads.feeder.pending.cut c.reads.invariant.going,
+)

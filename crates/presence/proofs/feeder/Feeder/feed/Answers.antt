@@ -6,9 +6,9 @@ use Rattle.presence.proofs.feeder.Feeder.feed.Goals as goal
 
 pub lines-init : goal.lines-init
 lines-init c = record {
-    taken = λ line f h. midway_starts _ line c.args.piece.now _ _ c.args.out.now.items f h;
-    count = omega arith;
-  }
+  taken = λ line f h. midway_starts _ line c.args.piece.now _ _ c.args.out.now.items f h;
+  count = omega arith;
+}
 
 pub lines-preserved : goal.lines-preserved
 lines-preserved c =
@@ -19,8 +19,8 @@ lines-preserved c =
     let ended = c.in_ok-end_line.ensures in
     record {
       taken = λ line f h.
-        midway_goes _ c.lines.self.applier _ _ rest head tail c.lines.self.pending.bytes.items _ c.lines.self.pending.cut _ _ c.lines.out.items _
-        (c.lines.invariant.taken line f h) c.in-Some.ensures.1 c.in-Some.ensures.0 ended.begins (λ last held. (ended.state _ (pushed last held), ended.text _ (pushed last held)));
+          midway_goes _ c.lines.self.applier _ _ rest head tail c.lines.self.pending.bytes.items _ c.lines.self.pending.cut _ _ c.lines.out.items _
+          (c.lines.invariant.taken line f h) c.in-Some.ensures.1 c.in-Some.ensures.0 ended.begins (λ last held. (ended.state _ (pushed last held), ended.text _ (pushed last held)));
       count = counts_line c.args.self.now.applier.log.number (length c.args.piece.now) c.lines.self.applier.log.number _ rest head tail c.lines.invariant.count ended.count c.in-Some.ensures.1;
     }
 
