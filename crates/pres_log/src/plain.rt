@@ -1,6 +1,6 @@
 //! The log of one writer without sessions.
 
-ghost use Rattle.std.specs.Prelude.{◌≡◌, ◌↔◌, ◌+◌, ◌≤◌, IfOk, IsErrOf, OnErr};
+ghost use Rattle.std.specs.Prelude.{◌≡◌, ◌↔◌, ◌+◌, ◌≤◌, IsTrue, IfOk, IsErrOf, OnErr};
 ghost use Rattle.pres_log.specs.Plains.{fresh, last_number, state_after, kept_after};
 
 use crate::fault::Fault;
@@ -54,11 +54,27 @@ impl Plain {
         ensures spent { IsErrOf result Fault.Spent ↔ (self.old.number ≡ last_number) }
         ensures err { OnErr result (self.new ≡ self.old) }
     {
-        if self.number == LAST {
+        if self.is_spent() {
+            return Err(Fault::Spent);
+        }
+        let Ok(op) = op.copy(self.alloc) else {
+            return Err(Fault::Busy);
+        };
+        self.apply_owned(op, now)
+    }
+
+    /// The same of an operation that isn't needed any more, which is not copied.
+    pub fn apply_owned(&mut self, op: Op, now: Moment) -> Result<(u64, Kept), Fault>
+        ensures answer { IfOk result (λ answer. answer ≡ (self.old.number + 1, kept_after self.old op now)) }
+        ensures ok { IfOk result (λ _. self.new ≡ state_after self.old op now) }
+        ensures spent { IsErrOf result Fault.Spent ↔ (self.old.number ≡ last_number) }
+        ensures err { OnErr result (self.new ≡ self.old) }
+    {
+        if self.is_spent() {
             return Err(Fault::Spent);
         }
         let moment = self.moment.max(now);
-        let Ok(outcome) = op.resolve(self.alloc, &self.tree, moment) else {
+        let Ok(outcome) = op.resolve_owned(self.alloc, &self.tree, moment) else {
             return Err(Fault::Busy);
         };
         let kept = outcome.kept();
@@ -73,6 +89,13 @@ impl Plain {
             }
             Err(_) => Err(Fault::Busy),
         }
+    }
+
+    // Whether no number is left.
+    fn is_spent(&self) -> bool
+        ensures { IsTrue result ↔ (self.now.number ≡ last_number) }
+    {
+        self.number == LAST
     }
 
     /// How many operations it took: the number of the last one.

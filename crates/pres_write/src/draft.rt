@@ -9,8 +9,11 @@ use pres_tree::{Change, Leaf, Nested, Scalar, Tree, TreeFault};
 use serde_json::{Map, Value};
 use std::alloc::{AllocError, Global};
 
-/// The name that only placeholders have, as in Firebase Realtime Database's server values.
+// The name that only placeholders have, as in Firebase Realtime Database's server values.
 const PLACEHOLDER: &str = ".sv";
+
+// The members of a placeholder.
+const ALONE: usize = 1;
 
 /// A scalar, or a placeholder for the moment.
 #[derive(Drop)]
@@ -58,7 +61,7 @@ impl Leaf for Slot {
         match value {
             Value::Object(members) => match value.get(PLACEHOLDER) {
                 Some(word) => {
-                    if members.len() == 1 && is_timestamp(word) {
+                    if members.len() == ALONE && is_timestamp(word) {
                         Ok(Slot::Timestamp)
                     } else {
                         Err(TreeFault::Placeholder)

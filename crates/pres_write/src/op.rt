@@ -151,6 +151,28 @@ impl Op {
         }
     }
 
+    /// The same of an operation that isn't needed any more: its path is moved, and not copied.
+    pub fn resolve_owned(
+        self,
+        alloc: Global,
+        tree: &Tree,
+        moment: Moment,
+    ) -> Result<Outcome, WriteFault>
+        ensures outcome { IfOk result (λ outcome. outcome ≡ resolved tree.now moment self) }
+        ensures fits { IfOk result (λ outcome. All FitsThere (writes_in outcome)) }
+        ensures err { IfErr result (λ e. e ≡ TreeRefused Memory) }
+    {
+        match self {
+            Op::Set(placement) => {
+                let (path, draft) = placement.into_parts();
+                let value = settle(alloc, &draft, moment)?;
+                let value = if value.is_empty() { None } else { Some(value) };
+                let writes = Items::one(alloc, Basic { path, value })?;
+                Ok(Outcome::Wrote(writes))
+            }
+        }
+    }
+
     /// An equal operation.
     pub fn copy(&self, alloc: Global) -> Result<Op, AllocError>
         ensures { IfOk result (λ made. made ≡ self.now) }

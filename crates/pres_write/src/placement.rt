@@ -71,6 +71,14 @@ impl Placement {
         &self.draft
     }
 
+    /// The path and the draft, which are moved.
+    pub fn into_parts(self) -> (Path, Draft)
+        ensures parts { result ≡ self }
+        ensures fits { Fits result.0 result.1 }
+    {
+        (self.path, self.draft)
+    }
+
     /// An equal placement.
     pub fn copy(&self, alloc: Global) -> Result<Placement, AllocError>
         ensures { IfOk result (λ p. p ≡ self.now) }

@@ -64,18 +64,18 @@ impl Applier {
             return self.refuse(LineFault::NoMoment, out);
         };
         match Op::from_value(self.alloc, &value) {
-            Ok(op) => self.carry_out(&op, now, out),
+            Ok(op) => self.carry_out(op, now, out),
             Err(WriteFault::Tree(TreeFault::Memory)) => Err(RunFault::Memory),
             Err(fault) => self.refuse(LineFault::Write(fault), out),
         }
     }
 
-    fn carry_out(&mut self, op: &Op, now: Moment, out: &mut Vec<u8>) -> Result<(), RunFault>
-        ensures text { OnOk result (out.new.items ≡ out.old.items ++ (carry_out self.old op.now now).0) }
-        ensures state { OnOk result (self.new ≡ (carry_out self.old op.now now).1) }
+    fn carry_out(&mut self, op: Op, now: Moment, out: &mut Vec<u8>) -> Result<(), RunFault>
+        ensures text { OnOk result (out.new.items ≡ out.old.items ++ (carry_out self.old op now).0) }
+        ensures state { OnOk result (self.new ≡ (carry_out self.old op now).1) }
         ensures err { IfErr result (EndsAt self.old.log.number) }
     {
-        let (number, kept) = match self.plain.apply(op, now) {
+        let (number, kept) = match self.plain.apply_owned(op, now) {
             Ok(answer) => answer,
             Err(Fault::Busy) => return Err(RunFault::Memory),
             Err(Fault::Spent) => return Err(RunFault::Spent),

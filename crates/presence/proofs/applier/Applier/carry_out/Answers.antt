@@ -5,4 +5,4 @@ pub returns-clause-state : goal.returns-clause-state
 returns-clause-state c =
     let a = c.self.view_is in
     let b = c.in-Ok.ensures.ok in
-    carried c.self.inside.plain c.apply.new.self c.self.inside.refused c.args.self.now c.args.op.now c.args.now a b
+    carried c.self.inside.plain c.apply_owned.new.self c.self.inside.refused c.args.self.now c.args.op c.args.now a b
