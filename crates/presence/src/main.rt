@@ -11,7 +11,7 @@ mod program;
 mod tests;
 mod words;
 
-use crate::program::presence_run;
+use crate::program::{explain_unread, presence_run};
 use std::alloc::AllocError;
 use std::process::ExitCode;
 use std::{env, io};
@@ -35,6 +35,6 @@ fn run(rt: &HostRuntime) -> io::Result<u8> {
 fn main(rt: HostRuntime) -> ExitCode {
     match run(&rt) {
         Ok(status) => ExitCode::from(status),
-        Err(_) => ExitCode::from(2),
+        Err(error) => ExitCode::from(explain_unread(&error, &mut rt.stderr())),
     }
 }

@@ -1,6 +1,6 @@
 //! The program, over its words and streams.
 
-ghost use Rattle.std.specs.Prelude.{◌≡◌, ◌≢◌, false, IfSome};
+ghost use Rattle.std.specs.Prelude.{◌≡◌, ◌⊎◌, ◌≢◌, false, IfSome};
 ghost use Rattle.std.specs.Io.KnownBytes.{Appends};
 ghost use Rattle.presence.specs.Lines.{Stopped, output_of, end_state};
 ghost use Rattle.presence.specs.Statuses.{IsStatus};
@@ -11,6 +11,7 @@ use crate::words::{Request, read_words};
 use clap::Error;
 use clap::error::ErrorKind;
 use std::alloc::Global;
+use std::io;
 use std::io::{Read, Write};
 
 // Exit statuses.
@@ -96,4 +97,17 @@ fn explain<W: Write, F: Write>(error: &Error, output: &mut W, faults: &mut F) ->
         return REFUSED;
     }
     DONE
+}
+
+/// Says on the stream for faults why the words of the command line could not be read, and answers
+/// the exit status: 5 for want of memory, else 2.
+pub fn explain_unread<F: Write>(error: &io::Error, faults: &mut F) -> u8
+    ensures { (result ≡ 2) ⊎ (result ≡ 5) }
+{
+    if error.kind() == io::ErrorKind::OutOfMemory {
+        tell(NO_MEMORY, faults);
+        return NO_MEMORY;
+    }
+    let _ = faults.write_all(b"presence: the command line could not be read\n");
+    BAD_WORDS
 }
