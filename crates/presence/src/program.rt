@@ -33,6 +33,9 @@ pub fn presence_run<R: Read, W: Write, F: Write>(
     faults: &mut F,
 ) -> u8
     ensures status { IsStatus result }
+    ensures done { result ≡ 0 → (IfSome (R.remaining input.old) (λ bytes.
+        Appends (W.contents output.old) (W.contents output.new) (output_of bytes)
+        × ((end_state bytes).refused ≡ false))) ⊎ (input.new ≡ input.old) }
     ensures words { result ≡ 2 → (input.new ≡ input.old) × (output.new ≡ output.old) }
     ensures memory { result ≡ 5 → Stopped (R.remaining input.old)
         (W.contents output.old) (W.contents output.new) }

@@ -1,4 +1,4 @@
-use Rattle.std.proofs.Common.{sym, subst}
+use Rattle.std.proofs.Common.{sym, subst, inl, inr, refl}
 use Rattle.presence.specs.Lines.{Reached}
 use Rattle.presence.proofs.Going.{reached_none}
 use Rattle.presence.proofs.program.presence_run.Goals as goal
@@ -8,3 +8,6 @@ returns-in-Err-clause-memory g c = λ is.
     let input = g.R.Read.remaining c.args.input.now in
     let before = g.W.Write.contents c.args.output.now in
     (input, subst (λ x. Reached input input before (g.W.Write.contents x)) (sym (c.explain.ensures.memory is)) (reached_none input before))
+
+pub returns-in-Err-clause-done : goal.returns-in-Err-clause-done
+returns-in-Err-clause-done g c = λ is. inr refl
