@@ -1,7 +1,5 @@
 -- What every value keeps: its rows in order, no leaf above another, and each place a path.
-use Rattle.std.proofs.Common.{◌≡◌, ◌≤◌, suc, List, [], ◌∷◌, ◌++◌, length, Bool, true, false, true≢false, cond, not, ◌&&◌, is_some, IsTrue, Option, Some, None, refl, sym, ap, subst, ◌∙◌, arith, inl, inr, ◌⊎◌, append_assoc, T}
-use Rattle.std.specs.List.{list_all}
-use Rattle.std.specs.Option.{option_map}
+use Rattle.std.proofs.Common.{◌≡◌, [], ◌∷◌, ◌++◌, Bool, true, false, true≢false, cond, not, ◌&&◌, is_some, Option, Some, None, refl, sym, ap, subst, ◌∙◌, arith, inl, inr, ◌⊎◌, append_assoc, T}
 use Rattle.std.specs.Ordering.{is_eq, is_lt, eq_by_cmp}
 use Rattle.std.specs.Cmp.{tied_itself}
 use Rattle.std.specs.Cmp.Lexicographic.{nat_list_cmp_total}
@@ -9,10 +7,10 @@ use Rattle.std.specs.FinMap.Entries.{is_sorted, below_all}
 use Rattle.std.proofs.lemmas.Bool.{and_parts}
 use Rattle.std.proofs.lemmas.List.{append_cancel_left}
 use Rattle.pres_tree.specs.Keys.{Key, same_key, is_key}
-use Rattle.pres_tree.specs.Paths.{Path, IsPath, path_cmp, below, is_prefix, sorted_by}
+use Rattle.pres_tree.specs.Paths.{Path, IsPath, path_cmp, below, is_prefix}
 use Rattle.pres_tree.specs.Rows.{Rows, IsValue, InOrder, Holds, Fits, is_null, leaf_at, with_leaves}
 use Rattle.pres_tree.specs.Writes.{write}
-use Rattle.pres_tree.specs.Layer.{IsNode, IsChild, rows_of_node, child_rows}
+use Rattle.pres_tree.specs.Layer.{IsNode, rows_of_node}
 use Rattle.pres_tree.specs.declared.nested.Node.{Node}
 use Rattle.pres_tree.specs.declared.nested.Node.TheVariants.{Empty, Leaf, Object}
 use Rattle.pres_tree.proofs.Found.{key_same, set_at, put_at, leaf_at-set_at, in_order-after}

@@ -1,5 +1,5 @@
 -- The JSON value of rows: the object of the children, without nulls, arrays and empty objects.
-use Rattle.std.specs.Prelude.{◌≡◌, ◌+◌, ◌≤◌, ℕ, List, [], ◌∷◌, Option, None, if◌then◌else◌}
+use Rattle.std.specs.Prelude.{◌≡◌, ◌+◌, ◌≤◌, ℕ, List, [], ◌∷◌, None, if◌then◌else◌}
 use Rattle.serde_json.specs.Data.{Data, null, boolean, number, string, array, object, Members, no_members, member}
 use Rattle.pres_tree.specs.Keys.{Key, same_key}
 use Rattle.pres_tree.specs.Paths.{Path}

@@ -1,4 +1,4 @@
-use Rattle.std.proofs.Common.{◌≡◌, ◌+◌, ◌≤◌, max, [], ◌∷◌, ◌++◌, sym, ap, ◌∙◌, append_assoc, arith}
+use Rattle.std.proofs.Common.{◌≡◌, [], ◌∷◌, ◌++◌, sym, ap, ◌∙◌, append_assoc, arith}
 use Rattle.pres_tree.specs.Keys.{Key}
 use Rattle.pres_tree.specs.Rows.{Rows, height, depth_of}
 use Rattle.pres_tree.specs.Layer.{child_rows, deepest_of}

@@ -1,4 +1,4 @@
-use Rattle.std.proofs.Common.{◌≡◌, ◌+◌, ◌*◌, ◌≤◌, max, List, ◌++◌}
+use Rattle.std.proofs.Common.{◌≡◌, ◌+◌, ◌*◌, max, List, ◌++◌}
 use Rattle.pres_tree.specs.Keys.{Key}
 use Rattle.pres_tree.specs.Rows.{Rows, height}
 use Rattle.pres_tree.specs.Layer.{deepest_of}

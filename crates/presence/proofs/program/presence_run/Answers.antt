@@ -1,4 +1,4 @@
-use Rattle.std.proofs.Common.{sym, subst, inl, inr, refl}
+use Rattle.std.proofs.Common.{sym, subst, inr, refl}
 use Rattle.presence.specs.Lines.{Reached}
 use Rattle.presence.proofs.Going.{reached_none}
 use Rattle.presence.proofs.program.presence_run.Goals as goal

@@ -1,11 +1,10 @@
 use Rattle.std.proofs.Common.{Some, ap, sym, refl, subst, ◌∙◌, [], ◌∷◌, rules}
-use Rattle.pres_tree.specs.Paths.{path_cmp, sorted_by}
 use Rattle.pres_tree.specs.Rows.{IsValue, InOrder, is_null}
 use Rattle.pres_tree.specs.Writes.{write}
 use Rattle.pres_tree.specs.Layer.{Children}
 use Rattle.pres_tree.proofs.Found.{HasChildren, Children-insert, write_root, write_not_null, rows_at, set_at, in_order-after}
 use Rattle.pres_tree.proofs.Nodes.{no_keys, object_write}
-use Rattle.pres_tree.proofs.Values.{null_value, value_after, fits_rest}
+use Rattle.pres_tree.proofs.Values.{null_value, value_after}
 use Rattle.pres_tree.proofs.nested.Nested.+branch.Goals as goal
 
 pub invariant_of-result : goal.invariant_of-result
