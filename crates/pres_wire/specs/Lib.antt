@@ -1,2 +1,7 @@
+pub mod DownForms
+pub mod Faults
+pub mod Fields
 pub mod Ids
+pub mod Messages
 pub mod Numbers
+pub mod UpForms

@@ -1,8 +1,18 @@
 //! Sessions, and the messages between a client and the server.
 #![tactic(auto)]
 
+mod down;
+mod fault;
+mod field;
 mod id;
 mod number;
+mod up;
 
+pub use down::{Code, Down};
+pub use fault::{Field, WireFault};
 pub use id::{ClientId, IdFault, SessionId, Stamp, Why};
 pub use number::{Count, Number};
+pub use up::Up;
+
+#[cfg(test)]
+mod tests;

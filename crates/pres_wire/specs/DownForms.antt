@@ -1,0 +1,60 @@
+-- Messages to a client as JSON.
+use Rattle.std.specs.Prelude.{ℕ, List, [], ◌∷◌, ◌++◌, codes, Option, Some, None}
+use Rattle.serde_json.specs.Data.{Data, null, string}
+use Rattle.pres_write.specs.declared.op.Kept.{Kept}
+use Rattle.pres_write.specs.declared.op.Kept.TheVariants.{Wrote}
+use Rattle.pres_wire.specs.declared.id.SessionId.{SessionId}
+use Rattle.pres_wire.specs.declared.id.Why.{Why}
+use Rattle.pres_wire.specs.declared.id.Why.TheVariants as why
+use Rattle.pres_wire.specs.declared.down.Code.{Code}
+use Rattle.pres_wire.specs.declared.down.Code.TheVariants as code
+use Rattle.pres_wire.specs.declared.down.Down.{Down}
+use Rattle.pres_wire.specs.declared.down.Down.TheVariants as down
+use Rattle.pres_wire.specs.Fields.{Named, message, whole, stamp_json, session_json}
+
+abbrev pub why_word : Why → List ℕ
+why_word why.Bye = codes "bye"
+why_word why.Lost = codes "lost"
+why_word why.Lease = codes "lease"
+why_word why.Superseded = codes "superseded"
+why_word why.Slow = codes "slow"
+why_word why.Restart = codes "restart"
+
+abbrev pub code_number : Code → ℕ
+code_number code.Bad = 1
+code_number (code.Old last) = 2
+code_number code.Session = 3
+code_number code.Order = 4
+code_number code.Full = 5
+code_number code.Busy = 6
+code_number code.Spent = 7
+code_number code.Down = 8
+
+-- the last stamp goes with code 2 alone
+abbrev pub last_field : Code → List Named
+last_field code.Bad = []
+last_field (code.Old last) = (codes "last", stamp_json last) ∷ []
+last_field code.Session = []
+last_field code.Order = []
+last_field code.Full = []
+last_field code.Busy = []
+last_field code.Spent = []
+last_field code.Down = []
+
+-- what a write came to
+abbrev pub out_json : Kept → Data
+out_json Wrote = string (codes "wrote")
+
+abbrev pub session_or_null : Option SessionId → Data
+session_or_null None = null
+session_or_null (Some s) = session_json s
+
+-- the JSON of a message: its word, and its fields
+abbrev pub down_json : Down → Data
+down_json (down.Welcome s z ops) = message (codes "welcome") ((codes "s", session_json s) ∷ (codes "z", whole z) ∷ (codes "ops", whole ops) ∷ [])
+down_json (down.Reply s r z q n done out) =
+    message (codes "reply")
+    ((codes "s", session_json s) ∷ (codes "r", whole r) ∷ (codes "z", whole z) ∷ (codes "q", whole q) ∷ (codes "n", whole n) ∷ (codes "done", whole done) ∷ (codes "out", out_json out) ∷ [])
+down_json (down.Gone s r z reason) =
+    message (codes "gone") ((codes "s", session_json s) ∷ (codes "r", whole r) ∷ (codes "z", whole z) ∷ (codes "why", string (why_word reason)) ∷ [])
+down_json (down.Fault s c) = message (codes "fault") ((codes "s", session_or_null s) ∷ (codes "code", whole (code_number c)) ∷ last_field c)

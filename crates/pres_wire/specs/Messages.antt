@@ -1,0 +1,33 @@
+-- What messages name.
+use Rattle.std.specs.Prelude.{ℕ, Option, Some, None}
+use Rattle.pres_wire.specs.declared.id.SessionId.{SessionId}
+use Rattle.pres_wire.specs.declared.up.Up.{Up}
+use Rattle.pres_wire.specs.declared.up.Up.TheVariants as up
+use Rattle.pres_wire.specs.declared.down.Down.{Down}
+use Rattle.pres_wire.specs.declared.down.Down.TheVariants as down
+
+-- the session of a message to the server
+abbrev pub session_in : Up → SessionId
+session_in (up.Hello s) = s
+session_in (up.Op s q n op) = s
+session_in (up.Bye s q) = s
+
+-- its number in the session, which a Hello has not
+abbrev pub q_in : Up → Option ℕ
+q_in (up.Hello s) = None
+q_in (up.Op s q n op) = Some q
+q_in (up.Bye s q) = Some q
+
+-- the session that a message is for
+abbrev pub session_for : Down → Option SessionId
+session_for (down.Welcome s z ops) = Some s
+session_for (down.Reply s r z q n done out) = Some s
+session_for (down.Gone s r z why) = Some s
+session_for (down.Fault session code) = session
+
+-- the server's number in a message to a client, 0 in a Fault
+abbrev pub number_in : Down → ℕ
+number_in (down.Welcome s z ops) = z
+number_in (down.Reply s r z q n done out) = z
+number_in (down.Gone s r z why) = z
+number_in (down.Fault session code) = 0

@@ -1,0 +1,84 @@
+-- Messages to the server as JSON.
+use Rattle.std.specs.Prelude.{◌==◌, ℕ, List, [], ◌∷◌, Bool, if◌then◌else◌, codes, nat_lt, length, Option, Some, None, option_and_then, Result, Ok, Err}
+use Rattle.std.specs.Cmp.Lexicographic.{pointwise}
+use Rattle.serde_json.specs.Data.{Data}
+use Rattle.serde_json.specs.Find.{get, as_str}
+use Rattle.serde_json.specs.Read.{read}
+use Rattle.pres_write.specs.declared.op.Op.{Op}
+use Rattle.pres_write.specs.declared.fault.WriteFault.{WriteFault}
+use Rattle.pres_write.specs.OpForms.{op_json, op_read}
+use Rattle.pres_wire.specs.declared.id.SessionId.{SessionId}
+use Rattle.pres_wire.specs.declared.fault.Field.{Field}
+use Rattle.pres_wire.specs.declared.fault.Field.TheVariants as field
+use Rattle.pres_wire.specs.declared.fault.WireFault.{WireFault}
+use Rattle.pres_wire.specs.declared.fault.WireFault.TheVariants.{NotJson, TooLong, NoSuchMessage, Field as FieldRefused, Write}
+use Rattle.pres_wire.specs.declared.up.Up.{Up}
+use Rattle.pres_wire.specs.declared.up.Up.TheVariants as up
+use Rattle.pres_wire.specs.Faults.{name_of}
+use Rattle.pres_wire.specs.Fields.{message, whole, session_json, message_number, session_of}
+
+-- the JSON of a message: its word, and its fields in the order in which they are checked
+abbrev pub up_json : Up → Data
+up_json (up.Hello s) = message (codes "hello") ((codes "s", session_json s) ∷ [])
+up_json (up.Op s q n op) = message (codes "op") ((codes "s", session_json s) ∷ (codes "q", whole q) ∷ (codes "n", whole n) ∷ (codes "op", op_json op) ∷ [])
+up_json (up.Bye s q) = message (codes "bye") ((codes "s", session_json s) ∷ (codes "q", whole q) ∷ [])
+
+-- ---- reading
+
+abbrev pub and_then : {A B : Type 0} → Result A WireFault → (A → Result B WireFault) → Result B WireFault
+and_then (Ok a) f = f a
+and_then (Err e) f = Err e
+
+-- a field that is missing or wrong is named
+abbrev pub needed : {A : Type 0} → Field → Option A → Result A WireFault
+needed f (Some a) = Ok a
+needed f None = Err (FieldRefused f)
+
+abbrev pub session_field : Data → Result SessionId WireFault
+session_field d = needed field.Session (option_and_then session_of (get (codes "s") d))
+
+abbrev pub number_field : Field → Data → Result ℕ WireFault
+number_field f d = needed f (option_and_then message_number (get (name_of f) d))
+
+abbrev pub write_of : Result Op WriteFault → Result Op WireFault
+write_of (Ok op) = Ok op
+write_of (Err e) = Err (Write e)
+
+abbrev pub op_field : Data → Result Op WireFault
+op_field d = and_then (needed field.Op (get (codes "op") d)) (λ v. write_of (op_read v))
+
+abbrev pub hello_read : Data → Result Up WireFault
+hello_read d = and_then (session_field d) (λ s. Ok (up.Hello s))
+
+abbrev pub op_message_read : Data → Result Up WireFault
+op_message_read d =
+    and_then (session_field d) (λ s. and_then (number_field field.Q d) (λ q. and_then (number_field field.N d) (λ n. and_then (op_field d) (λ op. Ok (up.Op s q n op)))))
+
+abbrev pub bye_read : Data → Result Up WireFault
+bye_read d = and_then (session_field d) (λ s. and_then (number_field field.Q d) (λ q. Ok (up.Bye s q)))
+
+abbrev pub is_word : List ℕ → List ℕ → Bool
+is_word word name = pointwise ◌==◌ word name
+
+abbrev pub by_word : Data → Option (List ℕ) → Result Up WireFault
+by_word d None = Err NoSuchMessage
+by_word d (Some word) =
+    if is_word word (codes "hello") then hello_read d
+    else (if is_word word (codes "op") then op_message_read d
+    else (if is_word word (codes "bye") then bye_read d else Err NoSuchMessage))
+
+-- the message of a JSON value, or why it is refused
+abbrev pub up_read : Data → Result Up WireFault
+up_read d = by_word d (option_and_then as_str (get (codes "m") d))
+
+-- the bytes of the longest text that is read
+abbrev pub longest_text : ℕ
+longest_text = 1048576
+
+abbrev pub json_read : Option Data → Result Up WireFault
+json_read None = Err NotJson
+json_read (Some d) = up_read d
+
+-- the message of a text, or why it is refused
+abbrev pub decoded : List ℕ → Result Up WireFault
+decoded text = if nat_lt longest_text (length text) then Err TooLong else json_read (read text)

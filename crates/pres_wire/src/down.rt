@@ -1,0 +1,266 @@
+//! Messages to a client.
+
+ghost use Rattle.std.specs.Prelude.{◌≡◌, IfOk, Ok, option_map, string_bytes};
+ghost use Rattle.serde_json.specs.View.{view};
+ghost use Rattle.serde_json.specs.Written.{compact_text};
+ghost use Rattle.pres_wire.specs.Messages.{session_for, number_in};
+ghost use Rattle.pres_wire.specs.DownForms.{why_word, code_number, out_json, session_or_null, down_json};
+
+use crate::field::{session_value, stamp_value};
+use crate::id::{SessionId, Stamp, Why};
+use crate::number::{Count, Number};
+use pres_write::Kept;
+use serde_json::{Value, json};
+use std::alloc::{AllocError, Global};
+
+/// Why a message was refused.
+#[derive(Clone, Copy, Debug, PartialEq, Eq)]
+pub enum Code {
+    /// It is no message, or not one that may come here.
+    Bad,
+    /// A Hello whose stamp isn't greater than the client's last, which is this.
+    Old(Stamp),
+    /// Its session isn't open.
+    Session,
+    /// Its number, or that of its write, skips numbers.
+    Order,
+    /// As many sessions are open as may be.
+    Full,
+    /// An allocation was refused.
+    Busy,
+    /// No numbers are left.
+    Spent,
+    /// The server has to be started again.
+    Down,
+}
+
+/// A message from the server to a client.
+#[derive(Drop)]
+pub enum Down {
+    /// The session is open since the server's number `z`; the client's writes so far are `ops`.
+    Welcome {
+        session: SessionId,
+        z: Number,
+        ops: Count,
+    },
+    /// What the client's write `n` came to, which the session's message `q` carried: it stands
+    /// at the server's number `done`, and this answer at `z`.
+    Reply {
+        session: SessionId,
+        r: Number,
+        z: Number,
+        q: Number,
+        n: Number,
+        done: Number,
+        out: Kept,
+    },
+    /// The session ended at the server's number `z`.
+    Gone {
+        session: SessionId,
+        r: Number,
+        z: Number,
+        why: Why,
+    },
+    /// A message was refused. It names no session where none was open on the connection.
+    Fault {
+        session: Option<SessionId>,
+        code: Code,
+    },
+}
+
+impl Code {
+    /// The number in the message.
+    pub fn number(self) -> u8
+        ensures { result ≡ code_number self }
+    {
+        match self {
+            Code::Bad => 1,
+            Code::Old(_) => 2,
+            Code::Session => 3,
+            Code::Order => 4,
+            Code::Full => 5,
+            Code::Busy => 6,
+            Code::Spent => 7,
+            Code::Down => 8,
+        }
+    }
+}
+
+impl Down {
+    /// The session that it is for.
+    pub fn session(&self) -> Option<&SessionId>
+        ensures { option_map (λ s. s.now) result ≡ session_for self.now }
+    {
+        match self {
+            Down::Welcome { session, .. } => Some(session),
+            Down::Reply { session, .. } => Some(session),
+            Down::Gone { session, .. } => Some(session),
+            Down::Fault { session, .. } => session.as_ref(),
+        }
+    }
+
+    /// The server's number in it, 0 in a Fault.
+    pub fn number(&self) -> Count
+        ensures { result ≡ number_in self.now }
+    {
+        match self {
+            Down::Welcome { z, .. } => Count::up_to(*z),
+            Down::Reply { z, .. } => Count::up_to(*z),
+            Down::Gone { z, .. } => Count::up_to(*z),
+            Down::Fault { .. } => Count::zero(),
+        }
+    }
+
+    /// An equal message.
+    pub fn copy(&self, alloc: Global) -> Result<Down, AllocError>
+        ensures { IfOk result (λ made. made ≡ self.now) }
+    {
+        match self {
+            Down::Welcome { session, z, ops } => Ok(Down::Welcome {
+                session: session.copy(alloc)?,
+                z: *z,
+                ops: *ops,
+            }),
+            Down::Reply {
+                session,
+                r,
+                z,
+                q,
+                n,
+                done,
+                out,
+            } => Ok(Down::Reply {
+                session: session.copy(alloc)?,
+                r: *r,
+                z: *z,
+                q: *q,
+                n: *n,
+                done: *done,
+                out: copied_out(out),
+            }),
+            Down::Gone { session, r, z, why } => Ok(Down::Gone {
+                session: session.copy(alloc)?,
+                r: *r,
+                z: *z,
+                why: *why,
+            }),
+            Down::Fault { session, code } => Ok(Down::Fault {
+                session: copied_session(alloc, session)?,
+                code: *code,
+            }),
+        }
+    }
+
+    /// The JSON text of the message.
+    pub fn encode(&self, alloc: Global) -> Result<String, AllocError>
+        ensures { IfOk result (λ t. string_bytes t ≡ compact_text (down_json self.now)) }
+    {
+        self.to_value(alloc)?.to_string(alloc)
+    }
+
+    // The JSON value of the message.
+    fn to_value(&self, alloc: Global) -> Result<Value, AllocError>
+        ensures { IfOk result (λ made. view made ≡ down_json self.now) }
+    {
+        match self {
+            Down::Welcome { session, z, ops } => {
+                let session = session_value(alloc, session)?;
+                json!(in alloc; {"m": "welcome", "ops": ops.get(), "s": session, "z": z.get()})
+            }
+            Down::Reply {
+                session,
+                r,
+                z,
+                q,
+                n,
+                done,
+                out,
+            } => {
+                let session = session_value(alloc, session)?;
+                let out = out_value(alloc, out)?;
+                json!(in alloc; {
+                    "done": done.get(), "m": "reply", "n": n.get(), "out": out, "q": q.get(),
+                    "r": r.get(), "s": session, "z": z.get()
+                })
+            }
+            Down::Gone { session, r, z, why } => {
+                let session = session_value(alloc, session)?;
+                json!(in alloc; {
+                    "m": "gone", "r": r.get(), "s": session, "why": word_of(*why), "z": z.get()
+                })
+            }
+            Down::Fault { session, code } => fault_value(alloc, session, *code),
+        }
+    }
+}
+
+fn copied_session(
+    alloc: Global,
+    session: &Option<SessionId>,
+) -> Result<Option<SessionId>, AllocError>
+    ensures { IfOk result (λ made. made ≡ session.now) }
+{
+    match session {
+        Some(session) => Ok(Some(session.copy(alloc)?)),
+        None => Ok(None),
+    }
+}
+
+fn copied_out(out: &Kept) -> Kept
+    ensures { result ≡ out.now }
+{
+    match out {
+        Kept::Wrote => Kept::Wrote,
+    }
+}
+
+// The word for why a session ended.
+fn word_of(why: Why) -> &'static str
+    ensures { result.now ≡ why_word why }
+{
+    match why {
+        Why::Bye => "bye",
+        Why::Lost => "lost",
+        Why::Lease => "lease",
+        Why::Superseded => "superseded",
+        Why::Slow => "slow",
+        Why::Restart => "restart",
+    }
+}
+
+// The JSON value of what a write came to.
+fn out_value(alloc: Global, out: &Kept) -> Result<Value, AllocError>
+    ensures { IfOk result (λ made. view made ≡ out_json out.now) }
+{
+    match out {
+        Kept::Wrote => json!(in alloc; "wrote"),
+    }
+}
+
+fn session_or_null(alloc: Global, session: &Option<SessionId>) -> Result<Value, AllocError>
+    ensures { IfOk result (λ made. view made ≡ session_or_null session.now) }
+{
+    match session {
+        Some(session) => session_value(alloc, session),
+        None => Ok(Value::Null),
+    }
+}
+
+// The JSON value of a Fault.
+fn fault_value(
+    alloc: Global,
+    session: &Option<SessionId>,
+    code: Code,
+) -> Result<Value, AllocError>
+    ensures { IfOk result (λ made. view made ≡ down_json (Down.Fault session.now code)) }
+{
+    let session = session_or_null(alloc, session)?;
+    let number = code.number();
+    match code {
+        Code::Old(last) => {
+            let last = stamp_value(alloc, last)?;
+            json!(in alloc; {"code": number, "last": last, "m": "fault", "s": session})
+        }
+        _ => json!(in alloc; {"code": number, "m": "fault", "s": session}),
+    }
+}

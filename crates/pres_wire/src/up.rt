@@ -1,0 +1,208 @@
+//! Messages to the server.
+
+ghost use Rattle.std.specs.Prelude.{◌≡◌, ◌≤◌, ◌⊎◌, IfOk, MatchResult, Ok, Err, length, option_copied, string_bytes};
+ghost use Rattle.serde_json.specs.Data.{depth};
+ghost use Rattle.serde_json.specs.View.{view};
+ghost use Rattle.serde_json.specs.Written.{compact_text};
+ghost use Rattle.pres_write.specs.OpForms.{op_json, op_read};
+ghost use Rattle.pres_wire.specs.Messages.{session_in, q_in};
+ghost use Rattle.pres_wire.specs.UpForms.{up_json, up_read, hello_read, op_message_read, bye_read, decoded, longest_text};
+ghost use Rattle.pres_wire.specs.declared.fault.WireFault.TheVariants.{Memory};
+
+use crate::fault::{Field, WireFault};
+use crate::field::{number_field, op_field, session_field, session_value};
+use crate::id::SessionId;
+use crate::number::Number;
+use pres_write::Op;
+use serde_json::{Value, json};
+use std::alloc::{AllocError, Global};
+
+// The bytes of the longest text that is read.
+const LONGEST: usize = 1048576;
+
+/// A message from a client to the server.
+#[derive(Drop)]
+pub enum Up {
+    /// Opens the session.
+    Hello { session: SessionId },
+    /// The client's write `n`, as message `q` of the session.
+    Op {
+        session: SessionId,
+        q: Number,
+        n: Number,
+        op: Op,
+    },
+    /// Ends the session, as its message `q`.
+    Bye { session: SessionId, q: Number },
+}
+
+impl Up {
+    /// The session that it names.
+    pub fn session(&self) -> &SessionId
+        ensures { result.now ≡ session_in self.now }
+    {
+        match self {
+            Up::Hello { session } => session,
+            Up::Op { session, .. } => session,
+            Up::Bye { session, .. } => session,
+        }
+    }
+
+    /// Its number in the session, which a Hello has not.
+    pub fn q(&self) -> Option<Number>
+        ensures { result ≡ q_in self.now }
+    {
+        match self {
+            Up::Hello { .. } => None,
+            Up::Op { q, .. } => Some(*q),
+            Up::Bye { q, .. } => Some(*q),
+        }
+    }
+
+    /// An equal message.
+    pub fn copy(&self, alloc: Global) -> Result<Up, AllocError>
+        ensures { IfOk result (λ made. made ≡ self.now) }
+    {
+        match self {
+            Up::Hello { session } => Ok(Up::Hello {
+                session: session.copy(alloc)?,
+            }),
+            Up::Op { session, q, n, op } => Ok(Up::Op {
+                session: session.copy(alloc)?,
+                q: *q,
+                n: *n,
+                op: op.copy(alloc)?,
+            }),
+            Up::Bye { session, q } => Ok(Up::Bye {
+                session: session.copy(alloc)?,
+                q: *q,
+            }),
+        }
+    }
+
+    /// The message of a text. Refused, in this order: TooLong, NotJson, NoSuchMessage, Field of
+    /// the first field that is missing or wrong (session, q, n, op), Write. Names that the
+    /// message has not are ignored.
+    pub fn decode(alloc: Global, text: &str) -> Result<Up, WireFault>
+        ensures { MatchResult result
+            (λ m. decoded text.now ≡ Ok m)
+            (λ e. (e ≡ Memory) ⊎ (decoded text.now ≡ Err e)) }
+    {
+        if text.len() > LONGEST {
+            return Err(WireFault::TooLong);
+        }
+        match Value::from_str(alloc, text) {
+            Ok(value) => Up::from_value(alloc, &value),
+            Err(error) => if error.is_memory() {
+                Err(WireFault::Memory)
+            } else {
+                Err(WireFault::NotJson)
+            },
+        }
+    }
+
+    // The message of a JSON value.
+    fn from_value(alloc: Global, value: &Value) -> Result<Up, WireFault>
+        ensures { MatchResult result
+            (λ m. up_read (view value.now) ≡ Ok m)
+            (λ e. (e ≡ Memory) ⊎ (up_read (view value.now) ≡ Err e)) }
+    {
+        let Some(word) = value.get("m").and_then(Value::as_str) else {
+            return Err(WireFault::NoSuchMessage);
+        };
+        if word == "hello" {
+            read_hello(alloc, value)
+        } else if word == "op" {
+            read_op(alloc, value)
+        } else if word == "bye" {
+            read_bye(alloc, value)
+        } else {
+            Err(WireFault::NoSuchMessage)
+        }
+    }
+
+    /// The JSON text of the message. A text of at most 1,048,576 bytes is decoded as an equal
+    /// message.
+    pub fn encode(&self, alloc: Global) -> Result<String, AllocError>
+        ensures text { IfOk result (λ t. string_bytes t ≡ compact_text (up_json self.now)) }
+        ensures form { IfOk result (λ _. up_read (up_json self.now) ≡ Ok self.now) }
+        ensures reads_back { IfOk result (λ t. length (string_bytes t) ≤ longest_text
+            → decoded (string_bytes t) ≡ Ok self.now) }
+    {
+        self.to_value(alloc)?.to_string(alloc)
+    }
+
+    // The JSON value of the message, which is read as the message, and nests few levels.
+    fn to_value(&self, alloc: Global) -> Result<Value, AllocError>
+        ensures json { IfOk result (λ made. view made ≡ up_json self.now) }
+        ensures reads_back { IfOk result (λ _. up_read (up_json self.now) ≡ Ok self.now) }
+        ensures low { IfOk result (λ _. depth (up_json self.now) ≤ 127) }
+    {
+        match self {
+            Up::Hello { session } => {
+                let session = session_value(alloc, session)?;
+                json!(in alloc; {"m": "hello", "s": session})
+            }
+            Up::Op { session, q, n, op } => {
+                let session = session_value(alloc, session)?;
+                let op = op_value(alloc, op)?;
+                json!(in alloc; {"m": "op", "n": n.get(), "op": op, "q": q.get(), "s": session})
+            }
+            Up::Bye { session, q } => {
+                let session = session_value(alloc, session)?;
+                json!(in alloc; {"m": "bye", "q": q.get(), "s": session})
+            }
+        }
+    }
+}
+
+fn read_hello(alloc: Global, message: &Value) -> Result<Up, WireFault>
+    ensures { MatchResult result
+        (λ m. hello_read (view message.now) ≡ Ok m)
+        (λ e. (e ≡ Memory) ⊎ (hello_read (view message.now) ≡ Err e)) }
+{
+    let session = session_field(alloc, message)?;
+    Ok(Up::Hello { session })
+}
+
+fn read_op(alloc: Global, message: &Value) -> Result<Up, WireFault>
+    ensures { MatchResult result
+        (λ m. op_message_read (view message.now) ≡ Ok m)
+        (λ e. (e ≡ Memory) ⊎ (op_message_read (view message.now) ≡ Err e)) }
+{
+    let session = session_field(alloc, message)?;
+    let q = number_field(message, Field::Q)?;
+    let n = number_field(message, Field::N)?;
+    let op = op_field(alloc, message)?;
+    Ok(Up::Op { session, q, n, op })
+}
+
+fn read_bye(alloc: Global, message: &Value) -> Result<Up, WireFault>
+    ensures { MatchResult result
+        (λ m. bye_read (view message.now) ≡ Ok m)
+        (λ e. (e ≡ Memory) ⊎ (bye_read (view message.now) ≡ Err e)) }
+{
+    let session = session_field(alloc, message)?;
+    let q = number_field(message, Field::Q)?;
+    Ok(Up::Bye { session, q })
+}
+
+// No operation's JSON nests deep, since no tree does.
+fn nests_little(op: &Op)
+    ensures { depth (op_json op.now) ≤ 64 }
+{
+    match op {
+        // it ensures that the draft fits below the path
+        Op::Set(placement) => drop(placement.path()),
+    }
+}
+
+// The JSON value of an operation, which is read as the operation.
+fn op_value(alloc: Global, op: &Op) -> Result<Value, AllocError>
+    ensures json { IfOk result (λ made. view made ≡ op_json op.now) }
+    ensures reads_back { IfOk result (λ _. op_read (op_json op.now) ≡ Ok op.now) }
+    ensures low { IfOk result (λ _. depth (op_json op.now) ≤ 64) }
+{
+    nests_little(op);
+    op.to_value(alloc)
+}
