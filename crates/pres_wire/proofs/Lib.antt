@@ -1,0 +1,3 @@
+pub mod Nesting
+pub mod Sessions
+pub mod Whole

@@ -1,0 +1,93 @@
+-- The JSON of messages has no floats, so that its text is stated.
+use Rattle.std.proofs.Common.{◌≡◌, pos, negsuc, Bool, true, false, [], ◌∷◌, refl, sym, ap, ◌∙◌, ◌||◌}
+use Rattle.std.specs.Prelude.{IfOk, Result, Ok, Err, String, string_bytes}
+use Rattle.std.specs.declared.alloc.AllocError.{AllocError}
+use Rattle.std.specs.declared.alloc.Global.{Global}
+use Rattle.serde_json.specs.Data.{Data, null, boolean, number, string, array, object, Members, no_members, member}
+use Rattle.serde_json.specs.Written.{has_float, members_have_float, compact_text}
+use Rattle.pres_tree.specs.declared.scalar.Scalar.{Scalar}
+use Rattle.pres_tree.specs.declared.scalar.Scalar.TheVariants.{Bool as BoolOf, Int, Text}
+use Rattle.pres_tree.specs.Keys.{Key, same_key}
+use Rattle.pres_tree.specs.Paths.{Path}
+use Rattle.pres_tree.specs.Rows.{Rows, is_null}
+use Rattle.pres_tree.specs.Printing.{json_of, with_row, with_first, members_in}
+use Rattle.pres_tree.specs.Scalars.{scalar_printing}
+use Rattle.pres_write.specs.declared.draft.Slot.{Slot}
+use Rattle.pres_write.specs.declared.draft.Slot.TheVariants.{Fixed, Timestamp}
+use Rattle.pres_write.specs.declared.op.Op.{Op}
+use Rattle.pres_write.specs.declared.op.Op.TheVariants.{Set}
+use Rattle.pres_write.specs.Drafts.{slot_printing}
+use Rattle.pres_write.specs.OpForms.{op_json, set_json}
+use Rattle.pres_wire.specs.declared.up.Up.{Up}
+use Rattle.pres_wire.specs.declared.up.Up.TheVariants as up
+use Rattle.pres_wire.specs.UpForms.{up_json}
+
+either_part : (a b : Bool) → (a || b) ≡ false → (a ≡ false) × (b ≡ false)
+either_part false b h = (refl, h)
+either_part true b h = cc
+
+neither : (a b : Bool) → a ≡ false → b ≡ false → (a || b) ≡ false
+neither false b h k = k
+neither true b h k = h
+
+whole_members : (d : Data) → has_float d ≡ false → members_have_float (members_in d) ≡ false
+whole_members null h = refl
+whole_members (boolean b) h = refl
+whole_members (number n) h = refl
+whole_members (string s) h = refl
+whole_members (array ds) h = refl
+whole_members (object ms) h = h
+
+first_by : (t : Bool) (k l : Key) (f : Data → Data) (d : Data) (ms : Members)
+    → (same_key k l ≡ t)
+    → ((e : Data) → has_float e ≡ false → has_float (f e) ≡ false)
+    → members_have_float (member l d ms) ≡ false
+    → members_have_float (with_first k f (member l d ms)) ≡ false
+first_by true k l f d ms e g h =
+    let parts = either_part (has_float d) (members_have_float ms) h in
+    rw e (neither (has_float (f d)) (members_have_float ms) (g d parts.0) parts.1)
+first_by false k l f d ms e g h =
+    rw e (neither (has_float (f null)) (has_float d || members_have_float ms) (g null refl) h)
+
+whole_first : (k : Key) (f : Data → Data) (ms : Members)
+    → ((e : Data) → has_float e ≡ false → has_float (f e) ≡ false)
+    → members_have_float ms ≡ false
+    → members_have_float (with_first k f ms) ≡ false
+whole_first k f no_members g h = neither (has_float (f null)) false (g null refl) refl
+whole_first k f (member l d ms) g h = first_by (same_key k l) k l f d ms refl g h
+
+whole_row : (p : Path) (a d : Data) → has_float a ≡ false → has_float d ≡ false → has_float (with_row p a d) ≡ false
+whole_row [] a d h k = h
+whole_row (x ∷ p) a d h k = whole_first x (with_row p a) (members_in d) (λ e g. whole_row p a e h g) (whole_members d k)
+
+-- the JSON of rows has no float where that of no leaf has
+pub whole_rows : {A : Type 0} (g : A → Data) (v : Rows A) → ((a : A) → has_float (g a) ≡ false) → has_float (json_of g v) ≡ false
+whole_rows g [] h = refl
+whole_rows g (r ∷ v) h = whole_row r.0 (g r.1) (json_of g v) (h r.1) (whole_rows g v h)
+
+pub whole_scalar : (a : Scalar) → has_float (scalar_printing a) ≡ false
+whole_scalar (BoolOf b) = refl
+whole_scalar (Int (pos n)) = refl
+whole_scalar (Int (negsuc n)) = refl
+whole_scalar (Text s) = refl
+
+whole_slot : (s : Slot) → has_float (slot_printing s) ≡ false
+whole_slot (Fixed s) = whole_scalar s
+whole_slot Timestamp = refl
+
+whole_set : (t : Bool) (p : Path) (v : Rows Slot) → is_null v ≡ t → has_float (set_json p v) ≡ false
+whole_set true p v e = rw e refl
+whole_set false p v e = rw e (neither (has_float (json_of slot_printing v)) false (whole_rows slot_printing v whole_slot) refl)
+
+whole_op : (op : Op) → has_float (op_json op) ≡ false
+whole_op (Set p) = whole_set (is_null p.1) p.0 p.1 refl
+
+pub whole_up : (m : Up) → has_float (up_json m) ≡ false
+whole_up (up.Hello s) = refl
+whole_up (up.Op s q n op) = neither (has_float (op_json op)) false (whole_op op) refl
+whole_up (up.Bye s q) = refl
+
+-- the text of a value that has no float
+pub whole_text : (r : Result (String Global) AllocError) (made d : Data) → made ≡ d → has_float d ≡ false → IfOk r (λ t. has_float made ≡ false → string_bytes t ≡ compact_text made) → IfOk r (λ t. string_bytes t ≡ compact_text d)
+whole_text (Ok t) made d is whole h = h (ap has_float is ∙ whole) ∙ ap compact_text is
+whole_text (Err e) made d is whole h = tt
