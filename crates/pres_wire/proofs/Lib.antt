@@ -1,3 +1,4 @@
 pub mod Nesting
+pub mod Replies
 pub mod Sessions
 pub mod Whole

@@ -1,5 +1,6 @@
 -- The fields of messages: their JSON, and what is read of it.
-use Rattle.std.specs.Prelude.{◌&&◌, ℕ, List, [], ◌∷◌, nat_le, if◌then◌else◌, codes, Option, Some, None, option_and_then, option_map}
+use Rattle.std.specs.Prelude.{◌&&◌, ◌==◌, ℕ, Bool, List, [], ◌∷◌, nat_le, if◌then◌else◌, codes, Option, Some, None, option_and_then}
+use Rattle.std.specs.Cmp.Lexicographic.{pointwise}
 use Rattle.serde_json.specs.Data.{Data, number, string, array, object, unsigned, Items, no_items, item, Members, no_members, put}
 use Rattle.serde_json.specs.Find.{get, as_str, as_array, as_number, as_u64}
 use Rattle.pres_wire.specs.declared.id.SessionId.{SessionId}
@@ -32,12 +33,23 @@ session_json s = array (item (string s.client) (item (whole s.incarnation) (item
 
 -- ---- fields from JSON
 
+abbrev pub is_word : List ℕ → List ℕ → Bool
+is_word word name = pointwise ◌==◌ word name
+
+-- the field of this name, where it is what it has to be
+abbrev pub field_of : {A : Type 0} → (Data → Option A) → List ℕ → Data → Option A
+field_of kind name d = option_and_then kind (get name d)
+
 -- a number of a message: 1 to 2^53 - 1
 abbrev pub in_range : ℕ → Option ℕ
 in_range n = if nat_le 1 n && nat_le n greatest_number then Some n else None
 
 abbrev pub message_number : Data → Option ℕ
 message_number d = option_and_then in_range (option_and_then as_u64 (as_number d))
+
+-- a count: 0 to 2^53 - 1
+abbrev pub message_count : Data → Option ℕ
+message_count d = option_and_then (λ n. if nat_le n greatest_number then Some n else None) (option_and_then as_u64 (as_number d))
 
 abbrev pub client_in : List ℕ → Option ClientId
 client_in text = if is_client_id text then Some text else None
@@ -61,4 +73,3 @@ session_in_items (item c (item i (item a (item d ds)))) = None
 
 abbrev pub session_of : Data → Option SessionId
 session_of d = option_and_then session_in_items (as_array d)
-

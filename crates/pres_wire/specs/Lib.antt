@@ -1,4 +1,5 @@
 pub mod DownForms
+pub mod DownReads
 pub mod Faults
 pub mod Fields
 pub mod Ids

@@ -1,6 +1,5 @@
 -- Messages to the server as JSON.
-use Rattle.std.specs.Prelude.{◌==◌, ℕ, List, [], ◌∷◌, Bool, if◌then◌else◌, codes, nat_lt, length, Option, Some, None, option_and_then, Result, Ok, Err}
-use Rattle.std.specs.Cmp.Lexicographic.{pointwise}
+use Rattle.std.specs.Prelude.{ℕ, List, [], ◌∷◌, if◌then◌else◌, codes, nat_lt, length, Option, Some, None, option_and_then, Result, Ok, Err}
 use Rattle.serde_json.specs.Data.{Data}
 use Rattle.serde_json.specs.Find.{get, as_str}
 use Rattle.serde_json.specs.Read.{read}
@@ -15,7 +14,7 @@ use Rattle.pres_wire.specs.declared.fault.WireFault.TheVariants.{NotJson, TooLon
 use Rattle.pres_wire.specs.declared.up.Up.{Up}
 use Rattle.pres_wire.specs.declared.up.Up.TheVariants as up
 use Rattle.pres_wire.specs.Faults.{name_of}
-use Rattle.pres_wire.specs.Fields.{message, whole, session_json, message_number, session_of}
+use Rattle.pres_wire.specs.Fields.{message, whole, session_json, is_word, field_of, message_number, session_of}
 
 -- the JSON of a message: its word, and its fields in the order in which they are checked
 abbrev pub up_json : Up → Data
@@ -35,10 +34,10 @@ needed f (Some a) = Ok a
 needed f None = Err (FieldRefused f)
 
 abbrev pub session_field : Data → Result SessionId WireFault
-session_field d = needed field.Session (option_and_then session_of (get (codes "s") d))
+session_field d = needed field.Session (field_of session_of (codes "s") d)
 
 abbrev pub number_field : Field → Data → Result ℕ WireFault
-number_field f d = needed f (option_and_then message_number (get (name_of f) d))
+number_field f d = needed f (field_of message_number (name_of f) d)
 
 abbrev pub write_of : Result Op WriteFault → Result Op WireFault
 write_of (Ok op) = Ok op
@@ -56,9 +55,6 @@ op_message_read d =
 
 abbrev pub bye_read : Data → Result Up WireFault
 bye_read d = and_then (session_field d) (λ s. and_then (number_field field.Q d) (λ q. Ok (up.Bye s q)))
-
-abbrev pub is_word : List ℕ → List ℕ → Bool
-is_word word name = pointwise ◌==◌ word name
 
 abbrev pub by_word : Data → Option (List ℕ) → Result Up WireFault
 by_word d None = Err NoSuchMessage

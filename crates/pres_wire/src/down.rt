@@ -1,10 +1,11 @@
 //! Messages to a client.
 
-ghost use Rattle.std.specs.Prelude.{◌≡◌, IfOk, Ok, option_map, string_bytes};
+ghost use Rattle.std.specs.Prelude.{◌≡◌, IfOk, Some, option_map, string_bytes};
 ghost use Rattle.serde_json.specs.View.{view};
 ghost use Rattle.serde_json.specs.Written.{compact_text};
 ghost use Rattle.pres_wire.specs.Messages.{session_for, number_in};
 ghost use Rattle.pres_wire.specs.DownForms.{why_word, code_number, out_json, session_or_null, down_json};
+ghost use Rattle.pres_wire.specs.DownReads.{session_or_none, why_of, HasForm};
 
 use crate::field::{session_value, stamp_value};
 use crate::id::{SessionId, Stamp, Why};
@@ -151,22 +152,21 @@ impl Down {
         }
     }
 
-    /// The JSON text of the message.
+    /// The JSON text of the message. No JSON is two messages' form.
     pub fn encode(&self, alloc: Global) -> Result<String, AllocError>
-        ensures { IfOk result (λ t. string_bytes t ≡ compact_text (down_json self.now)) }
+        ensures text { IfOk result (λ t. string_bytes t ≡ compact_text (down_json self.now)) }
+        ensures form { IfOk result (λ _. HasForm self.now) }
     {
         self.to_value(alloc)?.to_string(alloc)
     }
 
-    // The JSON value of the message.
+    // The JSON value of the message, which is the form of no other.
     fn to_value(&self, alloc: Global) -> Result<Value, AllocError>
-        ensures { IfOk result (λ made. view made ≡ down_json self.now) }
+        ensures json { IfOk result (λ made. view made ≡ down_json self.now) }
+        ensures form { IfOk result (λ _. HasForm self.now) }
     {
         match self {
-            Down::Welcome { session, z, ops } => {
-                let session = session_value(alloc, session)?;
-                json!(in alloc; {"m": "welcome", "ops": ops.get(), "s": session, "z": z.get()})
-            }
+            Down::Welcome { session, z, ops } => welcome_value(alloc, session, *z, *ops),
             Down::Reply {
                 session,
                 r,
@@ -183,15 +183,40 @@ impl Down {
                     "r": r.get(), "s": session, "z": z.get()
                 })
             }
-            Down::Gone { session, r, z, why } => {
-                let session = session_value(alloc, session)?;
-                json!(in alloc; {
-                    "m": "gone", "r": r.get(), "s": session, "why": word_of(*why), "z": z.get()
-                })
-            }
+            Down::Gone { session, r, z, why } => gone_value(alloc, session, *r, *z, *why),
             Down::Fault { session, code } => fault_value(alloc, session, *code),
         }
     }
+}
+
+// The JSON value of a Welcome.
+fn welcome_value(
+    alloc: Global,
+    session: &SessionId,
+    z: Number,
+    ops: Count,
+) -> Result<Value, AllocError>
+    ensures json { IfOk result (λ made. view made ≡ down_json (Down.Welcome session.now z ops)) }
+    ensures form { IfOk result (λ _. HasForm (Down.Welcome session.now z ops)) }
+{
+    let session = session_value(alloc, session)?;
+    json!(in alloc; {"m": "welcome", "ops": ops.get(), "s": session, "z": z.get()})
+}
+
+// The JSON value of a Gone.
+fn gone_value(
+    alloc: Global,
+    session: &SessionId,
+    r: Number,
+    z: Number,
+    why: Why,
+) -> Result<Value, AllocError>
+    ensures json { IfOk result (λ made. view made ≡ down_json (Down.Gone session.now r z why)) }
+    ensures form { IfOk result (λ _. HasForm (Down.Gone session.now r z why)) }
+{
+    let session = session_value(alloc, session)?;
+    let word = word_of(why);
+    json!(in alloc; {"m": "gone", "r": r.get(), "s": session, "why": word, "z": z.get()})
 }
 
 fn copied_session(
@@ -216,7 +241,8 @@ fn copied_out(out: &Kept) -> Kept
 
 // The word for why a session ended.
 fn word_of(why: Why) -> &'static str
-    ensures { result.now ≡ why_word why }
+    ensures word { result.now ≡ why_word why }
+    ensures form { why_of (why_word why) ≡ Some why }
 {
     match why {
         Why::Bye => "bye",
@@ -238,7 +264,8 @@ fn out_value(alloc: Global, out: &Kept) -> Result<Value, AllocError>
 }
 
 fn session_or_null(alloc: Global, session: &Option<SessionId>) -> Result<Value, AllocError>
-    ensures { IfOk result (λ made. view made ≡ session_or_null session.now) }
+    ensures json { IfOk result (λ made. view made ≡ session_or_null session.now) }
+    ensures form { IfOk result (λ _. session_or_none (session_or_null session.now) ≡ Some session.now) }
 {
     match session {
         Some(session) => session_value(alloc, session),
@@ -252,7 +279,8 @@ fn fault_value(
     session: &Option<SessionId>,
     code: Code,
 ) -> Result<Value, AllocError>
-    ensures { IfOk result (λ made. view made ≡ down_json (Down.Fault session.now code)) }
+    ensures json { IfOk result (λ made. view made ≡ down_json (Down.Fault session.now code)) }
+    ensures form { IfOk result (λ _. HasForm (Down.Fault session.now code)) }
 {
     let session = session_or_null(alloc, session)?;
     let number = code.number();

@@ -1,0 +1,101 @@
+-- The message to a client that a JSON value is the form of: so no JSON is two messages' form.
+use Rattle.std.specs.Prelude.{◌≡◌, ◌==◌, ◌&&◌, ℕ, List, nat_le, if◌then◌else◌, codes, Option, Some, None, option_and_then, option_map, ⊤}
+use Rattle.serde_json.specs.Data.{Data, Items, no_items, item}
+use Rattle.serde_json.specs.Find.{as_null, as_number, as_u64, as_str, as_array}
+use Rattle.pres_write.specs.declared.op.Kept.{Kept}
+use Rattle.pres_write.specs.declared.op.Kept.TheVariants.{Wrote}
+use Rattle.pres_wire.specs.declared.id.SessionId.{SessionId}
+use Rattle.pres_wire.specs.declared.id.Stamp.{Stamp}
+use Rattle.pres_wire.specs.declared.id.Why.{Why}
+use Rattle.pres_wire.specs.declared.id.Why.TheVariants as why
+use Rattle.pres_wire.specs.declared.down.Code.{Code}
+use Rattle.pres_wire.specs.declared.down.Code.TheVariants as code
+use Rattle.pres_wire.specs.declared.down.Down.{Down}
+use Rattle.pres_wire.specs.declared.down.Down.TheVariants as down
+use Rattle.pres_wire.specs.DownForms.{down_json}
+use Rattle.pres_wire.specs.Fields.{is_word, field_of, message_number, message_count, session_of}
+
+abbrev pub given : {A B : Type 0} → Option A → (A → Option B) → Option B
+given o f = option_and_then f o
+
+abbrev pub why_of : List ℕ → Option Why
+why_of word =
+    if is_word word (codes "bye") then Some why.Bye
+    else (if is_word word (codes "lost") then Some why.Lost
+    else (if is_word word (codes "lease") then Some why.Lease
+    else (if is_word word (codes "superseded") then Some why.Superseded
+    else (if is_word word (codes "slow") then Some why.Slow
+    else (if is_word word (codes "restart") then Some why.Restart else None)))))
+
+abbrev pub out_of : List ℕ → Option Kept
+out_of word = if is_word word (codes "wrote") then Some Wrote else None
+
+abbrev pub stamp_of_items : Items → Option Stamp
+stamp_of_items no_items = None
+stamp_of_items (item i no_items) = None
+stamp_of_items (item i (item a no_items)) = given (message_number i) (λ n. given (message_number a) (λ m. Some (record { incarnation = n; attempt = m })))
+stamp_of_items (item i (item a (item d ds))) = None
+
+abbrev pub stamp_of : Data → Option Stamp
+stamp_of d = option_and_then stamp_of_items (as_array d)
+
+abbrev pub code_of : ℕ → Option Stamp → Option Code
+code_of n last =
+    if n == 1 then Some code.Bad
+    else (if n == 2 then option_map code.Old last
+    else (if n == 3 then Some code.Session
+    else (if n == 4 then Some code.Order
+    else (if n == 5 then Some code.Full
+    else (if n == 6 then Some code.Busy
+    else (if n == 7 then Some code.Spent
+    else (if n == 8 then Some code.Down else None)))))))
+
+abbrev pub session_unless : Option ⊤ → Option SessionId → Option (Option SessionId)
+session_unless (Some t) s = Some None
+session_unless None s = option_map Some s
+
+abbrev pub session_or_none : Data → Option (Option SessionId)
+session_or_none d = session_unless (as_null d) (session_of d)
+
+abbrev pub welcome_of : Data → Option Down
+welcome_of d =
+    given (field_of session_of (codes "s") d) (λ s.
+    given (field_of message_number (codes "z") d) (λ z.
+    given (field_of message_count (codes "ops") d) (λ ops. Some (down.Welcome s z ops))))
+
+abbrev pub reply_of : Data → Option Down
+reply_of d =
+    given (field_of session_of (codes "s") d) (λ s.
+    given (field_of message_number (codes "r") d) (λ r.
+    given (field_of message_number (codes "z") d) (λ z.
+    given (field_of message_number (codes "q") d) (λ q.
+    given (field_of message_number (codes "n") d) (λ n.
+    given (field_of message_number (codes "done") d) (λ done.
+    given (option_and_then out_of (field_of as_str (codes "out") d)) (λ out. Some (down.Reply s r z q n done out))))))))
+
+abbrev pub gone_of : Data → Option Down
+gone_of d =
+    given (field_of session_of (codes "s") d) (λ s.
+    given (field_of message_number (codes "r") d) (λ r.
+    given (field_of message_number (codes "z") d) (λ z.
+    given (option_and_then why_of (field_of as_str (codes "why") d)) (λ reason. Some (down.Gone s r z reason)))))
+
+abbrev pub fault_of : Data → Option Down
+fault_of d =
+    given (field_of session_or_none (codes "s") d) (λ s.
+    given (field_of message_number (codes "code") d) (λ n.
+    given (code_of n (field_of stamp_of (codes "last") d)) (λ c. Some (down.Fault s c))))
+
+abbrev pub by_word : Data → List ℕ → Option Down
+by_word d word =
+    if is_word word (codes "welcome") then welcome_of d
+    else (if is_word word (codes "reply") then reply_of d
+    else (if is_word word (codes "gone") then gone_of d
+    else (if is_word word (codes "fault") then fault_of d else None)))
+
+abbrev pub down_of : Data → Option Down
+down_of d = given (field_of as_str (codes "m") d) (λ word. by_word d word)
+
+-- its JSON is the form of no other message
+abbrev pub HasForm : Down → Type 0
+HasForm m = down_of (down_json m) ≡ Some m
