@@ -27,8 +27,11 @@ why_of word =
     else (if is_word word (codes "slow") then Some why.Slow
     else (if is_word word (codes "restart") then Some why.Restart else None)))))
 
-abbrev pub out_of : List ℕ → Option Kept
-out_of word = if is_word word (codes "wrote") then Some Wrote else None
+abbrev pub out_in : List ℕ → Option Kept
+out_in word = if is_word word (codes "wrote") then Some Wrote else None
+
+abbrev pub out_of : Data → Option Kept
+out_of d = option_and_then out_in (as_str d)
 
 abbrev pub stamp_of_items : Items → Option Stamp
 stamp_of_items no_items = None
@@ -71,7 +74,7 @@ reply_of d =
     given (field_of message_number (codes "q") d) (λ q.
     given (field_of message_number (codes "n") d) (λ n.
     given (field_of message_number (codes "done") d) (λ done.
-    given (option_and_then out_of (field_of as_str (codes "out") d)) (λ out. Some (down.Reply s r z q n done out))))))))
+    given (field_of out_of (codes "out") d) (λ out. Some (down.Reply s r z q n done out))))))))
 
 abbrev pub gone_of : Data → Option Down
 gone_of d =

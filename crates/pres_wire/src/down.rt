@@ -5,7 +5,7 @@ ghost use Rattle.serde_json.specs.View.{view};
 ghost use Rattle.serde_json.specs.Written.{compact_text};
 ghost use Rattle.pres_wire.specs.Messages.{session_for, number_in};
 ghost use Rattle.pres_wire.specs.DownForms.{why_word, code_number, out_json, session_or_null, down_json};
-ghost use Rattle.pres_wire.specs.DownReads.{session_or_none, why_of, HasForm};
+ghost use Rattle.pres_wire.specs.DownReads.{session_or_none, why_of, out_of, HasForm};
 
 use crate::field::{session_value, stamp_value};
 use crate::id::{SessionId, Stamp, Why};
@@ -256,7 +256,8 @@ fn word_of(why: Why) -> &'static str
 
 // The JSON value of what a write came to.
 fn out_value(alloc: Global, out: &Kept) -> Result<Value, AllocError>
-    ensures { IfOk result (λ made. view made ≡ out_json out.now) }
+    ensures json { IfOk result (λ made. view made ≡ out_json out.now) }
+    ensures form { IfOk result (λ _. out_of (out_json out.now) ≡ Some out.now) }
 {
     match out {
         Kept::Wrote => json!(in alloc; "wrote"),
