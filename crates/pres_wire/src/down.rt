@@ -275,11 +275,7 @@ fn session_or_null(alloc: Global, session: &Option<SessionId>) -> Result<Value, 
 }
 
 // The JSON value of a Fault.
-fn fault_value(
-    alloc: Global,
-    session: &Option<SessionId>,
-    code: Code,
-) -> Result<Value, AllocError>
+fn fault_value(alloc: Global, session: &Option<SessionId>, code: Code) -> Result<Value, AllocError>
     ensures json { IfOk result (λ made. view made ≡ down_json (Down.Fault session.now code)) }
     ensures form { IfOk result (λ _. HasForm (Down.Fault session.now code)) }
 {

@@ -1,6 +1,6 @@
 //! Messages as JSON texts: what is read and printed, and why texts are refused.
 
-use crate::{ClientId, Code, Count, Down, Field, Number, SessionId, Stamp, Up, WireFault, Why};
+use crate::{ClientId, Code, Count, Down, Field, Number, SessionId, Stamp, Up, Why, WireFault};
 use pres_tree::TreeFault;
 use pres_write::{Kept, WriteFault};
 use std::alloc::Global;
@@ -143,6 +143,8 @@ fn texts_are_refused(rt: HostRuntime) -> Result<(), Fail> {
         assert_eq!(rt; refused, fault, "at {text}");
         assert_eq!(rt; refused.number(), number, "at {text}");
     }
+    let told = format!(in alloc; "{}", WireFault::Field(Field::N))?;
+    assert_eq!(rt; told.as_str(), "the field n is missing or wrong");
     Ok(())
 }
 
@@ -182,6 +184,20 @@ fn fields_are_checked(rt: HostRuntime) -> Result<(), Fail> {
                 r#"["a",1,9007199254740992]"#,
                 r#"["a b",1,1]"#,
                 r#"[null,1,1]"#,
+            ],
+        ),
+        (
+            Field::Session,
+            [r#"{"m":"bye","q":1,"s":"#, "}"],
+            [
+                "null",
+                "true",
+                r#"["a"]"#,
+                r#"["a",0,1]"#,
+                r#"["a",1,-1]"#,
+                r#"["a",1,18446744073709551616]"#,
+                r#"["ä",1,1]"#,
+                r#"[["a"],1,1]"#,
             ],
         ),
         (
@@ -240,9 +256,18 @@ fn fields_are_checked(rt: HostRuntime) -> Result<(), Fail> {
 fn missing_fields_are_named(rt: HostRuntime) -> Result<(), Fail> {
     let alloc = rt.alloc();
     for (text, fault) in [
-        (r#"{"m":"op","q":1,"n":1}"#, WireFault::Field(Field::Session)),
-        (r#"{"m":"op","s":["a",1,1],"n":1}"#, WireFault::Field(Field::Q)),
-        (r#"{"m":"op","s":["a",1,1],"q":1}"#, WireFault::Field(Field::N)),
+        (
+            r#"{"m":"op","q":1,"n":1}"#,
+            WireFault::Field(Field::Session),
+        ),
+        (
+            r#"{"m":"op","s":["a",1,1],"n":1}"#,
+            WireFault::Field(Field::Q),
+        ),
+        (
+            r#"{"m":"op","s":["a",1,1],"q":1}"#,
+            WireFault::Field(Field::N),
+        ),
         (
             r#"{"m":"op","s":["a",1,1],"q":1,"n":1}"#,
             WireFault::Field(Field::Op),

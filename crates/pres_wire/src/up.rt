@@ -24,7 +24,9 @@ const LONGEST: usize = 1048576;
 #[derive(Drop)]
 pub enum Up {
     /// Opens the session.
-    Hello { session: SessionId },
+    Hello {
+        session: SessionId,
+    },
     /// The client's write `n`, as message `q` of the session.
     Op {
         session: SessionId,
@@ -33,7 +35,10 @@ pub enum Up {
         op: Op,
     },
     /// Ends the session, as its message `q`.
-    Bye { session: SessionId, q: Number },
+    Bye {
+        session: SessionId,
+        q: Number,
+    },
 }
 
 impl Up {
