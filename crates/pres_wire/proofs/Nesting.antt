@@ -1,17 +1,17 @@
 -- How deep the JSON of an operation nests.
-use Rattle.std.proofs.Common.{◌≡◌, ℕ, suc, max, ◌+◌, ◌-◌, ◌≤◌, Bool, true, false, cond, List, [], ◌∷◌, length, refl, ap, sym, arith}
+use Rattle.std.proofs.Common.{◌≡◌, ℕ, ◌+◌, ◌-◌, ◌≤◌, Bool, true, false, [], ◌∷◌, length, refl, arith}
 use Rattle.serde_json.specs.Data.{Data, null, boolean, number, string, array, object, Members, no_members, member, depth, members_depth}
 use Rattle.pres_tree.specs.declared.scalar.Scalar.{Scalar}
 use Rattle.pres_tree.specs.declared.scalar.Scalar.TheVariants.{Bool as BoolOf, Int, Text}
 use Rattle.pres_tree.specs.Scalars.{scalar_printing}
 use Rattle.pres_tree.specs.Keys.{Key, same_key}
-use Rattle.pres_tree.specs.Paths.{Path, path_text}
+use Rattle.pres_tree.specs.Paths.{Path}
 use Rattle.pres_tree.specs.Rows.{Rows, Fits, height, is_null}
 use Rattle.pres_tree.specs.Printing.{members_in, with_first, with_row, json_of}
 use Rattle.pres_write.specs.declared.draft.Slot.{Slot}
 use Rattle.pres_write.specs.declared.draft.Slot.TheVariants.{Fixed, Timestamp}
 use Rattle.pres_write.specs.Drafts.{slot_printing}
-use Rattle.pres_write.specs.OpForms.{set_json, set_form, remove_form}
+use Rattle.pres_write.specs.OpForms.{set_json}
 use Rattle.pres_write.proofs.Depths.{fits_height}
 
 -- with a level for the members of an object

@@ -4,8 +4,8 @@ use Rattle.std.proofs.lemmas.Bool.Decides.{nat_tests}
 use Rattle.pres_write.specs.declared.op.Kept.{Kept}
 use Rattle.pres_wire.specs.declared.id.SessionId.{SessionId}
 use Rattle.pres_wire.specs.declared.down.Down.TheVariants as down
-use Rattle.pres_wire.specs.Numbers.{greatest_number, IsNumber}
-use Rattle.pres_wire.specs.Fields.{whole, session_json, in_range, message_number, session_of}
+use Rattle.pres_wire.specs.Numbers.{IsNumber}
+use Rattle.pres_wire.specs.Fields.{whole, session_json, message_number, session_of}
 use Rattle.pres_wire.specs.DownForms.{out_json}
 use Rattle.pres_wire.specs.DownReads.{out_of, HasForm}
 

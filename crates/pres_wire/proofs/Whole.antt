@@ -1,5 +1,5 @@
 -- The JSON of messages has no floats, so that its text is stated.
-use Rattle.std.proofs.Common.{◌≡◌, pos, negsuc, Bool, true, false, [], ◌∷◌, refl, sym, ap, ◌∙◌, ◌||◌}
+use Rattle.std.proofs.Common.{◌≡◌, pos, negsuc, Bool, true, false, [], ◌∷◌, refl, ap, ◌∙◌, ◌||◌}
 use Rattle.std.specs.Prelude.{IfOk, Result, Ok, Err, String, string_bytes}
 use Rattle.std.specs.declared.alloc.AllocError.{AllocError}
 use Rattle.std.specs.declared.alloc.Global.{Global}

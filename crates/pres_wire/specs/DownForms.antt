@@ -1,5 +1,5 @@
 -- Messages to a client as JSON.
-use Rattle.std.specs.Prelude.{ℕ, List, [], ◌∷◌, ◌++◌, codes, Option, Some, None}
+use Rattle.std.specs.Prelude.{ℕ, List, [], ◌∷◌, codes, Option, Some, None}
 use Rattle.serde_json.specs.Data.{Data, null, string}
 use Rattle.pres_write.specs.declared.op.Kept.{Kept}
 use Rattle.pres_write.specs.declared.op.Kept.TheVariants.{Wrote}

@@ -1,7 +1,7 @@
 -- The message to a client that a JSON value is the form of: so no JSON is two messages' form.
-use Rattle.std.specs.Prelude.{◌≡◌, ◌==◌, ◌&&◌, ℕ, List, nat_le, if◌then◌else◌, codes, Option, Some, None, option_and_then, option_map, ⊤}
+use Rattle.std.specs.Prelude.{◌≡◌, ◌==◌, ℕ, List, if◌then◌else◌, codes, Option, Some, None, option_and_then, option_map, ⊤}
 use Rattle.serde_json.specs.Data.{Data, Items, no_items, item}
-use Rattle.serde_json.specs.Find.{as_null, as_number, as_u64, as_str, as_array}
+use Rattle.serde_json.specs.Find.{as_null, as_str, as_array}
 use Rattle.pres_write.specs.declared.op.Kept.{Kept}
 use Rattle.pres_write.specs.declared.op.Kept.TheVariants.{Wrote}
 use Rattle.pres_wire.specs.declared.id.SessionId.{SessionId}
@@ -15,6 +15,7 @@ use Rattle.pres_wire.specs.declared.down.Down.TheVariants as down
 use Rattle.pres_wire.specs.DownForms.{down_json}
 use Rattle.pres_wire.specs.Fields.{is_word, field_of, message_number, message_count, session_of}
 
+-- what is read next, where this was there
 abbrev pub given : {A B : Type 0} → Option A → (A → Option B) → Option B
 given o f = option_and_then f o
 
@@ -33,6 +34,7 @@ out_in word = if is_word word (codes "wrote") then Some Wrote else None
 abbrev pub out_of : Data → Option Kept
 out_of d = option_and_then out_in (as_str d)
 
+-- two items: an incarnation, an attempt
 abbrev pub stamp_of_items : Items → Option Stamp
 stamp_of_items no_items = None
 stamp_of_items (item i no_items) = None
@@ -42,6 +44,7 @@ stamp_of_items (item i (item a (item d ds))) = None
 abbrev pub stamp_of : Data → Option Stamp
 stamp_of d = option_and_then stamp_of_items (as_array d)
 
+-- with code 2 the last stamp is needed
 abbrev pub code_of : ℕ → Option Stamp → Option Code
 code_of n last =
     if n == 1 then Some code.Bad
@@ -96,6 +99,7 @@ by_word d word =
     else (if is_word word (codes "gone") then gone_of d
     else (if is_word word (codes "fault") then fault_of d else None)))
 
+-- the message that the JSON value is the form of
 abbrev pub down_of : Data → Option Down
 down_of d = given (field_of as_str (codes "m") d) (λ word. by_word d word)
 

@@ -51,6 +51,7 @@ message_number d = option_and_then in_range (option_and_then as_u64 (as_number d
 abbrev pub message_count : Data → Option ℕ
 message_count d = option_and_then (λ n. if nat_le n greatest_number then Some n else None) (option_and_then as_u64 (as_number d))
 
+-- a client id
 abbrev pub client_in : List ℕ → Option ClientId
 client_in text = if is_client_id text then Some text else None
 

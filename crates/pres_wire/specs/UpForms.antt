@@ -24,6 +24,7 @@ up_json (up.Bye s q) = message (codes "bye") ((codes "s", session_json s) ∷ (c
 
 -- ---- reading
 
+-- what is read next, unless this was refused
 abbrev pub and_then : {A B : Type 0} → Result A WireFault → (A → Result B WireFault) → Result B WireFault
 and_then (Ok a) f = f a
 and_then (Err e) f = Err e
@@ -33,19 +34,24 @@ abbrev pub needed : {A : Type 0} → Field → Option A → Result A WireFault
 needed f (Some a) = Ok a
 needed f None = Err (FieldRefused f)
 
+-- `s`
 abbrev pub session_field : Data → Result SessionId WireFault
 session_field d = needed field.Session (field_of session_of (codes "s") d)
 
+-- `q` and `n`
 abbrev pub number_field : Field → Data → Result ℕ WireFault
 number_field f d = needed f (field_of message_number (name_of f) d)
 
-abbrev pub write_of : Result Op WriteFault → Result Op WireFault
-write_of (Ok op) = Ok op
-write_of (Err e) = Err (Write e)
+-- what an operation is refused for is a Write
+abbrev pub or_write : Result Op WriteFault → Result Op WireFault
+or_write (Ok op) = Ok op
+or_write (Err e) = Err (Write e)
 
+-- `op`
 abbrev pub op_field : Data → Result Op WireFault
-op_field d = and_then (needed field.Op (get (codes "op") d)) (λ v. write_of (op_read v))
+op_field d = and_then (needed field.Op (get (codes "op") d)) (λ v. or_write (op_read v))
 
+-- the fields of each message, in the order in which they are checked
 abbrev pub hello_read : Data → Result Up WireFault
 hello_read d = and_then (session_field d) (λ s. Ok (up.Hello s))
 
@@ -56,6 +62,7 @@ op_message_read d =
 abbrev pub bye_read : Data → Result Up WireFault
 bye_read d = and_then (session_field d) (λ s. and_then (number_field field.Q d) (λ q. Ok (up.Bye s q)))
 
+-- `m` is the word of a message
 abbrev pub by_word : Data → Option (List ℕ) → Result Up WireFault
 by_word d None = Err NoSuchMessage
 by_word d (Some word) =
