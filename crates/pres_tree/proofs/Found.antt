@@ -172,11 +172,11 @@ node_write k p v t t' es es' w old new sets root child order = same_rows t' (set
 pub write_root : {A : Type 0} (v t : Rows A) → InOrder v → v ≡ set_at [] v t
 write_root v t h = same_rows v (set_at [] v t) h (in_order-after t (write [] v ∷ [])) (λ x. sym (leaf_at-set_at [] v t x))
 
-abbrev IsRest : Path → Path → Option Path → Type 0
+abbrev pub IsRest : Path → Path → Option Path → Type 0
 IsRest p x None = Unit {0}
 IsRest p x (Some q) = x ≡ p ++ q
 
-rest_is : (p x : Path) → IsRest p x (below p x)
+pub rest_is : (p x : Path) → IsRest p x (below p x)
 rest_is [] x = refl
 rest_is (k ∷ p) [] = tt
 rest_is (k ∷ p) (l ∷ x) =
