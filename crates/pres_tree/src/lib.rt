@@ -19,7 +19,7 @@ pub use fault::TreeFault;
 pub use key::Key;
 pub use nested::{Change, Leaf, Nested};
 pub use path::Path;
-pub use read::Form;
+pub use read::{Form, OwnForm};
 pub use scalar::{Scalar, Text};
 
 /// A value: null, a scalar, or an object of values under keys.

@@ -43,10 +43,10 @@ pub trait Form<L> {
             (λ e. (e ≡ Memory) ⊎ (reading (view value.now) ≡ bad e)) };
 }
 
-// Leaves are told as their own type says.
-struct Own {}
+/// The form in which leaves are told as their own type says.
+pub struct OwnForm {}
 
-impl<L: Leaf> Form<L> for Own {
+impl<L: Leaf> Form<L> for OwnForm {
     ghost reading = { L.reading };
 
     fn is_leaf(value: &Value) -> bool {
@@ -67,7 +67,7 @@ impl<L: Leaf> Nested<L> {
             (λ t. (fault_of L.reading 33 (view value.now) ≡ None) × (t ≡ rows_of L.reading (view value.now)))
             (λ e. (e ≡ Memory) ⊎ (fault_of L.reading 33 (view value.now) ≡ Some e)) }
     {
-        read_at::<L, Own>(alloc, value, LEVELS)
+        read_at::<L, OwnForm>(alloc, value, LEVELS)
     }
 
     /// The same for a value that is to stand at the path, whose keys count as depth.
@@ -81,7 +81,7 @@ impl<L: Leaf> Nested<L> {
             (λ e. (e ≡ Memory) ⊎ (fault_of L.reading (33 - length path.now) (view value.now) ≡ Some e)) }
         ensures fits { IfOk result (λ t. Fits path.now t) }
     {
-        Nested::from_value_as::<Own>(alloc, value, path)
+        Nested::from_value_as::<OwnForm>(alloc, value, path)
     }
 }
 
