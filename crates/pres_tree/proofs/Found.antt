@@ -235,6 +235,14 @@ write_not_null p (r ∷ v) t h =
 
 -- ---- no child is null
 
+pub Children-at : {A : Type 0} (k : Key) (w : Rows A) (es : List (Key × Rows A)) → Children es → lookup (is_at (key_cmp k)) es ≡ Some w → IsChild w
+Children-at k w [] h e = cc
+Children-at k w (e ∷ es) h is =
+    elim (same_key k e.0) as (λ b. cond b (Some e.1) (lookup (is_at (key_cmp k)) es) ≡ Some w → IsChild w) [
+      | true ↦ λ g. let same : e.1 ≡ w = cc in subst IsChild same h.0
+      | false ↦ λ g. Children-at k w es h.1 g
+    ] is
+
 pub Children-set : {A : Type 0} (k : Key) (w : Rows A) (es : List (Key × Rows A)) → Children es → IsChild w → Children (set_value (is_at (key_cmp k)) es w)
 Children-set k w [] h n = tt
 Children-set k w (e ∷ es) h n =

@@ -11,3 +11,5 @@ pub mod Texts
 pub mod Firsts
 pub mod Items
 pub mod Shallow
+pub mod Undone
+pub mod SameChildren

@@ -4,6 +4,7 @@
 //! holds one, in path order. Null is the empty list.
 #![tactic(auto)]
 
+mod equal;
 mod fault;
 mod key;
 pub mod laws;
