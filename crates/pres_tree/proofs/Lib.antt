@@ -13,3 +13,4 @@ pub mod Items
 pub mod Shallow
 pub mod Undone
 pub mod SameChildren
+pub mod SameRows

@@ -2,8 +2,8 @@ use Rattle.std.proofs.Common.{◌≡◌, ◌∙◌, sym, ap}
 use Rattle.pres_tree.specs.Rows.{rows_in}
 use Rattle.pres_tree.proofs.Found.{null_is_empty}
 use Rattle.pres_write.proofs.Fitting.{one_fits}
-use Rattle.pres_write.proofs.op.Op.resolve.Goals as goal
-use Rattle.pres_write.proofs.op.Op.resolve.Goals.{then-is_empty, else-is_empty}
+use Rattle.pres_write.proofs.op.set_outcome.Goals as goal
+use Rattle.pres_write.proofs.op.set_outcome.Goals.{then-is_empty, else-is_empty}
 
 pub returns-clause-fits : goal.returns-clause-fits
 returns-clause-fits c =
