@@ -3,3 +3,5 @@ pub mod Depths
 pub mod Fitting
 pub mod Printed
 pub mod Slots
+pub mod Held
+pub mod Forms

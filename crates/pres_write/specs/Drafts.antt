@@ -56,9 +56,9 @@ slot_reading (array ds) = branch
 slot_reading (object ms) = placeholder ms (get_member (codes ".sv") ms)
 
 -- a value without placeholders: an object with the name `.sv` is refused
-abbrev pub no_placeholder : Option Data → Reading Scalar
-no_placeholder None = branch
-no_placeholder (Some d) = bad Placeholder
+abbrev pub unless_placeholder : Option Data → Reading Scalar
+unless_placeholder None = branch
+unless_placeholder (Some d) = bad Placeholder
 
 abbrev pub fixed_reading : Data → Reading Scalar
 fixed_reading null = branch
@@ -66,7 +66,7 @@ fixed_reading (boolean b) = scalar_reading (boolean b)
 fixed_reading (number n) = scalar_reading (number n)
 fixed_reading (string s) = scalar_reading (string s)
 fixed_reading (array ds) = branch
-fixed_reading (object ms) = no_placeholder (get_member (codes ".sv") ms)
+fixed_reading (object ms) = unless_placeholder (get_member (codes ".sv") ms)
 
 abbrev pub slot_printing : Slot → Data
 slot_printing (Fixed s) = scalar_printing s

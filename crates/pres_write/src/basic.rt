@@ -1,14 +1,17 @@
 //! Basic writes, and how they change the tree.
 
 ghost use Rattle.std.specs.Prelude.{◌≡◌, ◌∷◌, [], All, IfOk, IfErr};
-ghost use Rattle.pres_tree.specs.Rows.{Fits, rows_in};
+ghost use Rattle.pres_tree.specs.Rows.{Fits, option_of, rows_in};
 ghost use Rattle.pres_tree.specs.Writes.{write, after};
 ghost use Rattle.pres_tree.specs.declared.fault.TreeFault.TheVariants.{Memory};
-ghost use Rattle.pres_write.specs.Basics.{Apart, FitsThere, AppliesFirst, applied};
+ghost use Rattle.pres_write.specs.Basics.{Apart, basic, FitsThere, AppliesFirst, applied};
+ghost use Rattle.pres_write.specs.Drafts.{settled};
 ghost use Rattle.pres_write.specs.declared.fault.WriteFault.TheVariants.{Tree as TreeRefused};
 
+use crate::draft::{Draft, settle};
 use crate::fault::WriteFault;
 use crate::items::Items;
+use crate::moment::Moment;
 use pres_tree::{Path, Tree};
 use std::alloc::{AllocError, Global};
 
@@ -34,6 +37,28 @@ impl Basic {
             value,
         })
     }
+}
+
+// The write of a draft at its path, its placeholders made the moment.
+pub(crate) fn settled_write(
+    alloc: Global,
+    path: Path,
+    draft: &Draft,
+    moment: Moment,
+) -> Result<Basic, AllocError>
+    requires { Fits path draft.now }
+    ensures write { IfOk result (λ made. made ≡ basic path (settled moment draft.now)) }
+    ensures fits { IfOk result (λ made. FitsThere made) }
+{
+    let value = some_value(settle(alloc, draft, moment)?);
+    Ok(Basic { path, value })
+}
+
+// Null as none.
+fn some_value(value: Tree) -> Option<Tree>
+    ensures { result ≡ option_of value }
+{
+    if value.is_empty() { None } else { Some(value) }
 }
 
 /// Applies the writes in their order, with copies of their values. At Memory, the one refusal, a

@@ -4,13 +4,14 @@ ghost use Rattle.std.specs.Prelude.{◌≡◌, ◌⊎◌, [], All, IfOk, IfErr, 
 ghost use Rattle.serde_json.specs.View.{view};
 ghost use Rattle.pres_tree.specs.declared.fault.TreeFault.TheVariants.{Memory};
 ghost use Rattle.serde_json.specs.Find.{as_object};
+ghost use Rattle.pres_tree.specs.Rows.{Fits};
 ghost use Rattle.pres_write.specs.Basics.{Apart, FitsThere};
 ghost use Rattle.pres_write.specs.Outcomes.{resolved, writes_in};
 ghost use Rattle.pres_write.specs.OpForms.{op_read, form_read, set_read, update_read, tx_read, with_part, op_json, set_json, remove_form, set_form, update_form, tx_form};
 ghost use Rattle.pres_write.specs.declared.fault.WriteFault.TheVariants.{Tree as TreeRefused};
 
-use crate::basic::Basic;
-use crate::draft::{Draft, FixedForm, settle};
+use crate::basic::settled_write;
+use crate::draft::{Draft, FixedForm};
 use crate::fault::WriteFault;
 use crate::items::Items;
 use crate::moment::Moment;
@@ -100,34 +101,20 @@ fn set_value(alloc: Global, placement: &Placement) -> Result<Value, AllocError>
     set_form(alloc, path, value)
 }
 
-// What a set comes to at the moment.
-fn set_outcome(alloc: Global, placement: &Placement, moment: Moment) -> Result<Outcome, AllocError>
-    ensures outcome { IfOk result (λ outcome. outcome ≡ resolved [] moment (Op.Set placement.now)) }
-    ensures fits { IfOk result (λ outcome. All FitsThere (writes_in outcome)) }
-    ensures apart { IfOk result (λ outcome. Apart (writes_in outcome)) }
-{
-    let value = settle(alloc, placement.draft(), moment)?;
-    let value = if value.is_empty() { None } else { Some(value) };
-    let path = placement.path().copy(alloc)?;
-    let writes = Items::one(alloc, Basic { path, value })?;
-    Ok(Outcome::Wrote(writes))
-}
-
-// The same of a placement that isn't needed any more: its path is moved, and not copied.
-fn set_outcome_owned(
+// What the draft at its path comes to at the moment.
+fn one_write(
     alloc: Global,
-    placement: Placement,
+    path: Path,
+    draft: &Draft,
     moment: Moment,
 ) -> Result<Outcome, AllocError>
-    ensures outcome { IfOk result (λ outcome. outcome ≡ resolved [] moment (Op.Set placement)) }
+    requires { Fits path draft.now }
+    ensures outcome { IfOk result (λ outcome. outcome ≡ resolved [] moment (Op.Set (path, draft.now))) }
     ensures fits { IfOk result (λ outcome. All FitsThere (writes_in outcome)) }
     ensures apart { IfOk result (λ outcome. Apart (writes_in outcome)) }
 {
-    let (path, draft) = placement.into_parts();
-    let value = settle(alloc, &draft, moment)?;
-    let value = if value.is_empty() { None } else { Some(value) };
-    let writes = Items::one(alloc, Basic { path, value })?;
-    Ok(Outcome::Wrote(writes))
+    let write = settled_write(alloc, path, draft, moment)?;
+    Ok(Outcome::Wrote(Items::one(alloc, write)?))
 }
 
 // The update of a path's text and the JSON value of its places.
@@ -248,7 +235,10 @@ impl Op {
         ensures err { IfErr result (λ e. e ≡ TreeRefused Memory) }
     {
         match self {
-            Op::Set(placement) => Ok(set_outcome(alloc, placement, moment)?),
+            Op::Set(placement) => {
+                let path = placement.path().copy(alloc)?;
+                Ok(one_write(alloc, path, placement.draft(), moment)?)
+            }
             Op::Update(update) => Ok(Outcome::Wrote(update.writes(alloc, moment)?)),
             Op::Tx(tx) => Ok(tx.compare(alloc, tree, moment)?),
         }
@@ -267,7 +257,10 @@ impl Op {
         ensures err { IfErr result (λ e. e ≡ TreeRefused Memory) }
     {
         match self {
-            Op::Set(placement) => Ok(set_outcome_owned(alloc, placement, moment)?),
+            Op::Set(placement) => {
+                let (path, draft) = placement.into_parts();
+                Ok(one_write(alloc, path, &draft, moment)?)
+            }
             Op::Update(update) => Ok(Outcome::Wrote(update.writes(alloc, moment)?)),
             Op::Tx(tx) => Ok(tx.compare(alloc, tree, moment)?),
         }

@@ -1,13 +1,13 @@
 //! Transactions: a new draft for a place, if that holds the expected value.
 
-ghost use Rattle.std.specs.Prelude.{◌≡◌, ◌↔◌, ◌+◌, ◌<◌, ◌⊎◌, All, IfOk, IsTrue, MatchResult, length, option_map};
+ghost use Rattle.std.specs.Prelude.{◌≡◌, ◌↔◌, ◌+◌, ◌<◌, ◌⊎◌, All, IfOk, IsTrue, MatchResult, length, option_copied};
 ghost use Rattle.pres_tree.specs.Paths.{IsPath};
 ghost use Rattle.pres_tree.specs.Rows.{Fits, depth_of, rows_in};
 ghost use Rattle.pres_write.specs.Basics.{Apart, FitsThere};
 ghost use Rattle.pres_write.specs.Outcomes.{compared, writes_in};
 
-use crate::basic::Basic;
-use crate::draft::{Draft, settle};
+use crate::basic::settled_write;
+use crate::draft::Draft;
 use crate::items::Items;
 use crate::moment::Moment;
 use crate::outcome::Outcome;
@@ -89,7 +89,7 @@ impl Transaction {
 
     // Whether the value held is the expected one.
     fn is_expected(&self, held: Option<&Tree>) -> bool
-        ensures { IsTrue result ↔ (rows_in (option_map (λ t. t.now) held) ≡ self.now.expect) }
+        ensures { IsTrue result ↔ (rows_in (option_copied held.entry) ≡ self.now.expect) }
     {
         match held {
             Some(held) => held.equal(&self.expect),
@@ -112,10 +112,9 @@ impl Transaction {
         if !self.is_expected(held) {
             return Ok(Outcome::Stale(copied(alloc, held)?));
         }
-        let value = settle(alloc, &self.new, moment)?;
-        let value = if value.is_empty() { None } else { Some(value) };
         let path = self.path.copy(alloc)?;
-        Ok(Outcome::Wrote(Items::one(alloc, Basic { path, value })?))
+        let write = settled_write(alloc, path, &self.new, moment)?;
+        Ok(Outcome::Wrote(Items::one(alloc, write)?))
     }
 
     /// An equal transaction.
@@ -131,7 +130,7 @@ impl Transaction {
 }
 
 fn copied(alloc: Global, held: Option<&Tree>) -> Result<Option<Tree>, AllocError>
-    ensures { IfOk result (λ made. made ≡ option_map (λ t. t.now) held) }
+    ensures { IfOk result (λ made. made ≡ option_copied held.entry) }
 {
     match held {
         Some(held) => Ok(Some(held.copy(alloc)?)),
