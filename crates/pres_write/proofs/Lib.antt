@@ -5,3 +5,4 @@ pub mod Printed
 pub mod Slots
 pub mod Held
 pub mod Forms
+pub mod Together
