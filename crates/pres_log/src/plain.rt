@@ -5,7 +5,7 @@ ghost use Rattle.pres_log.specs.Plains.{fresh, last_number, state_after, kept_af
 
 use crate::fault::Fault;
 use pres_tree::Tree;
-use pres_write::{Kept, Moment, Op, apply_owned};
+use pres_write::{Kept, Moment, Op, Outcome, apply_all};
 use std::alloc::Global;
 use std::marker::Model;
 
@@ -77,18 +77,18 @@ impl Plain {
         let Ok(outcome) = op.resolve_owned(self.alloc, &self.tree, moment) else {
             return Err(Fault::Busy);
         };
-        let kept = outcome.kept();
-        let writes = outcome.into_writes();
-        // it ensures that the tree's rows are in order
-        let _ = self.tree.is_empty();
-        match apply_owned(self.alloc, &mut self.tree, writes) {
-            Ok(()) => {
-                self.number += 1;
-                self.moment = moment;
-                Ok((self.number, kept))
+        let kept = match outcome {
+            Outcome::Wrote(writes) => {
+                if apply_all(self.alloc, &mut self.tree, writes).is_err() {
+                    return Err(Fault::Busy);
+                }
+                Kept::Wrote
             }
-            Err(_) => Err(Fault::Busy),
-        }
+            Outcome::Stale(held) => Kept::Stale(held),
+        };
+        self.number += 1;
+        self.moment = moment;
+        Ok((self.number, kept))
     }
 
     // Whether no number is left.
