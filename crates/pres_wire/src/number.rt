@@ -1,6 +1,6 @@
 //! Numbers that messages carry.
 
-ghost use Rattle.std.specs.Prelude.{◌≡◌, ◌+◌, ◌<◌, ◌≤◌};
+ghost use Rattle.std.specs.Prelude.{◌≡◌, ◌+◌, ◌<◌, ◌≤◌, MatchOption};
 ghost use Rattle.std.specs.Option.{SomeIff};
 ghost use Rattle.pres_wire.specs.Numbers.{greatest_number, IsNumber};
 
@@ -56,7 +56,7 @@ impl Number {
 
     /// The number after it, none after 2^53 - 1.
     pub fn next(self) -> Option<Number>
-        ensures { SomeIff result (self < greatest_number) (self + 1) }
+        ensures { MatchOption result (self ≡ greatest_number) (λ n. (self < greatest_number) × (n ≡ self + 1)) }
     {
         Count::up_to(self).next()
     }
@@ -116,7 +116,7 @@ impl Count {
 
     /// The number after so many, none after 2^53 - 1.
     pub fn next(self) -> Option<Number>
-        ensures { SomeIff result (self < greatest_number) (self + 1) }
+        ensures { MatchOption result (self ≡ greatest_number) (λ n. (self < greatest_number) × (n ≡ self + 1)) }
     {
         if self.value == GREATEST {
             return None;
