@@ -173,8 +173,8 @@ pub struct Stamp {
 
 impl Stamp {
     /// Whether it comes before the other: by incarnation, then by attempt.
-    pub fn is_earlier(self, other: Stamp) -> bool
-        ensures { result ≡ is_earlier self other }
+    pub fn is_earlier(&self, other: &Stamp) -> bool
+        ensures { result ≡ is_earlier self.now other.now }
     {
         self < other
     }
@@ -262,8 +262,8 @@ mod tests {
         let second = SessionId::of(first.client.copy(rt.alloc())?, stamp(2, 1)?);
         assert!(rt; first.copy(rt.alloc())? == first);
         assert!(rt; first < second);
-        assert!(rt; first.stamp().is_earlier(second.stamp()));
-        assert!(rt; !second.stamp().is_earlier(first.stamp()));
+        assert!(rt; first.stamp().is_earlier(&second.stamp()));
+        assert!(rt; !second.stamp().is_earlier(&first.stamp()));
         Ok(())
     }
 }
