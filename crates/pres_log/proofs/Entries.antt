@@ -1,5 +1,5 @@
 -- Where an entry stands, and what one batch more adds.
-use Rattle.std.proofs.Common.{◌≡◌, ◌+◌, ◌-◌, ◌<◌, ◌≤◌, ◌⊎◌, ℕ, zero, suc, List, [], ◌∷◌, ◌++◌, length, map, max, take, get_or, leb, true, false, refl, sym, ap, subst, ◌∙◌, Option, Some, None, slice_get, arith, inl, inr}
+use Rattle.std.proofs.Common.{◌≡◌, ◌+◌, ◌-◌, ◌<◌, ◌≤◌, ℕ, zero, suc, List, [], ◌∷◌, ◌++◌, length, map, max, take, get_or, leb, true, false, refl, sym, ap, subst, ◌∙◌, Some, None, slice_get, arith, inl, inr}
 use Rattle.std.proofs.lemmas.List.{append-nil, length-append, map-append, take_all, take-append-le}
 use Rattle.std.proofs.lemmas.List.Concat.{flat_map-append}
 use Rattle.std.proofs.lemmas.Bool.{cases_lt}
@@ -67,15 +67,15 @@ pub IsNumbered-push : (log : Log) (b : Batch) → IsNumbered log → b.first ≡
 IsNumbered-push log b is first = λ i c at.
     elim (cases_lt i (length log)) [
       | inl within ↦
-        is i c (sym (slice_get_left log (b ∷ []) i within) ∙ at)
-        ∙ ap (λ l. number l + 1) (sym (take-append-le i log (b ∷ []) (omega arith)))
+          is i c (sym (slice_get_left log (b ∷ []) i within) ∙ at)
+          ∙ ap (λ l. number l + 1) (sym (take-append-le i log (b ∷ []) (omega arith)))
       | inr past ↦
-        let below = slice_get_within (log ++ b ∷ []) i c at in
-        let size = length-append log (b ∷ []) in
-        let place : i ≡ length log + 0 = omega (arith, below, size) in
-        let same : b ≡ c = same_Some b c (sym (slice_get_right log (b ∷ []) 0) ∙ ap (slice_get (log ++ b ∷ [])) (sym place) ∙ at) in
-        let before : take i (log ++ b ∷ []) ≡ log = take-append-le i log (b ∷ []) (omega arith) ∙ take_all i log past in
-        ap (λ (x : Batch). x.first) (sym same) ∙ first ∙ ap (λ l. number l + 1) (sym before)
+          let below = slice_get_within (log ++ b ∷ []) i c at in
+          let size = length-append log (b ∷ []) in
+          let place : i ≡ length log + 0 = omega (arith, below, size) in
+          let same : b ≡ c = same_Some b c (sym (slice_get_right log (b ∷ []) 0) ∙ ap (slice_get (log ++ b ∷ [])) (sym place) ∙ at) in
+          let before : take i (log ++ b ∷ []) ≡ log = take-append-le i log (b ∷ []) (omega arith) ∙ take_all i log past in
+          ap (λ (x : Batch). x.first) (sym same) ∙ first ∙ ap (λ l. number l + 1) (sym before)
     ]
 
 -- the last batch tells how many entries there are
@@ -91,14 +91,14 @@ pub firsts_rise : (log : Log) → IsNumbered log → IsNonDecreasingBy (λ (b : 
 firsts_rise log is =
     IsNonDecreasingBy-from_all_adjacent (λ (b : Batch). b.first) log
     (λ k d within.
-      let here = slice_get-get_or log k d (omega (arith, within)) in
-      let there = slice_get-get_or log (k + 1) d within in
-      let first = is k (get_or log k d) here in
-      let next = is (k + 1) (get_or log (k + 1) d) there in
-      let more = number-take log k (get_or log k d) here in
-      let after : k + 1 ≡ suc k = omega arith in
-      let step : number (take (k + 1) log) ≡ number (take (suc k) log) = ap (λ n. number (take n log)) after in
-      omega (arith, first, next, more, step))
+    let here = slice_get-get_or log k d (omega (arith, within)) in
+    let there = slice_get-get_or log (k + 1) d within in
+    let first = is k (get_or log k d) here in
+    let next = is (k + 1) (get_or log (k + 1) d) there in
+    let more = number-take log k (get_or log k d) here in
+    let after : k + 1 ≡ suc k = omega arith in
+    let step : number (take (k + 1) log) ≡ number (take (suc k) log) = ap (λ n. number (take n log)) after in
+    omega (arith, first, next, more, step))
 
 from_test : (m n : ℕ) → leb m n ≡ true → m ≤ n
 from_test m n is = grind (arith, nat_tests)
@@ -159,17 +159,17 @@ entry_found log i k b is at low next =
     elim (cases_lt k (b.first + length b.entries)) [
       | inl within ↦ entry_in log i k b is at low within
       | inr past ↦
-        let none : slice_get b.entries (k - b.first) ≡ None = slice_get_past b.entries (k - b.first) (omega arith) in
-        let first = is i b at in
-        let more = number-take log i b at in
-        elim (slice_get_cases log (suc i)).1 [
-          | inl more_of ↦
-            let high = next more_of.0 more_of.2 in
-            let after = is (suc i) more_of.0 more_of.2 in
-            absurd (omega (arith, first, more, high, after))
-          | inr end ↦
-            let here = slice_get_within log i b at in
-            let count = number_by_last log i b is at (omega (arith, here, end.0)) in
-            entry_past log k (omega (arith, count, first)) ∙ sym none
-        ]
+          let none : slice_get b.entries (k - b.first) ≡ None = slice_get_past b.entries (k - b.first) (omega arith) in
+          let first = is i b at in
+          let more = number-take log i b at in
+          elim (slice_get_cases log (suc i)).1 [
+            | inl more_of ↦
+                let high = next more_of.0 more_of.2 in
+                let after = is (suc i) more_of.0 more_of.2 in
+                absurd (omega (arith, first, more, high, after))
+            | inr end ↦
+                let here = slice_get_within log i b at in
+                let count = number_by_last log i b is at (omega (arith, here, end.0)) in
+                entry_past log k (omega (arith, count, first)) ∙ sym none
+          ]
     ]

@@ -10,7 +10,9 @@ use std::alloc::{AllocError, Global};
 #[derive(Drop)]
 pub enum Entry {
     /// The session was opened.
-    Open { session: SessionId },
+    Open {
+        session: SessionId,
+    },
     /// By the session's message `q` its client's write `n` was carried out, and came to the
     /// outcome.
     Op {

@@ -63,11 +63,14 @@ fn superseded(alloc: Global) -> Result<(Batch, Batch), Fail> {
 fn entries_are_numbered(rt: HostRuntime) -> Result<(), Fail> {
     let alloc = rt.alloc();
     let (first, second) = superseded(alloc)?;
+    let copied = second.copy(alloc)?;
     let mut log = Log::new(alloc);
     assert!(rt; log.is_empty());
+    assert_eq!(rt; first.first.get(), 1);
     log.push(first)?;
     assert_eq!(rt; log.len(), 1);
-    log.push(second.copy(alloc)?)?;
+    assert_eq!(rt; copied.first.get(), 2);
+    log.push(copied)?;
     assert_eq!(rt; log.len(), 3);
     assert_eq!(rt; log.batches().len(), 2);
     assert!(rt; log.entry(0).is_none());

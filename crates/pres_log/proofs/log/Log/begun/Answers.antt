@@ -1,4 +1,4 @@
-use Rattle.std.proofs.Common.{◌≡◌, rules, subst, sym, ◌∙◌, List, leb, of_calls}
+use Rattle.std.proofs.Common.{rules, subst, sym, ◌∙◌, List, leb, of_calls}
 use Rattle.std.proofs.lemmas.Fn.{always_returns_same}
 use Rattle.std.proofs.lemmas.List.Sorted.{IsPartitionedBy-leb}
 use Rattle.pres_log.specs.declared.entry.Batch.{Batch}

@@ -1,10 +1,9 @@
-use Rattle.std.proofs.Common.{◌≡◌, ◌≤◌, ◌<◌, ◌-◌, ℕ, suc, rules, refl, subst, sym, ap, ◌∙◌, List, Option, Some, None, MatchOption, length, get_or, slice_get, arith}
+use Rattle.std.proofs.Common.{◌≡◌, ◌≤◌, ◌<◌, ◌-◌, ℕ, suc, refl, subst, sym, ap, ◌∙◌, List, Option, Some, None, MatchOption, length, get_or, slice_get, arith}
 use Rattle.std.proofs.lemmas.Option.{slice_get_read, slice_get_past}
 use Rattle.std.specs.List.{HoldsAt}
 use Rattle.std.specs.Borrow.{Bor}
 use Rattle.std.specs.Option.{option_copied}
 use Rattle.pres_log.specs.declared.entry.Batch.{Batch}
-use Rattle.pres_log.specs.declared.entry.Entry.{Entry}
 use Rattle.pres_log.specs.Logs.{Log, IsNumbered}
 use Rattle.pres_log.proofs.Entries.{entry_before_all, entry_found}
 use Rattle.pres_log.proofs.log.Log.entry.Goals as goal

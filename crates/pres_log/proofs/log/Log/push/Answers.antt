@@ -1,4 +1,4 @@
-use Rattle.std.proofs.Common.{rules, subst, sym, ap, ◌∙◌, ◌+◌}
+use Rattle.std.proofs.Common.{subst, sym, ap, ◌∙◌, ◌+◌}
 use Rattle.pres_log.specs.Logs.{IsNumbered, number}
 use Rattle.pres_log.proofs.Entries.{IsNumbered-push}
 use Rattle.pres_log.proofs.log.Log.push.Goals as goal
