@@ -77,8 +77,8 @@ impl Applier {
     {
         let (number, kept) = match self.plain.apply_owned(op, now) {
             Ok(answer) => answer,
-            Err(Fault::Busy) => return Err(RunFault::Memory),
             Err(Fault::Spent) => return Err(RunFault::Spent),
+            Err(_) => return Err(RunFault::Memory),
         };
         let text = match kept {
             Kept::Wrote => format!(in self.alloc; "{number} wrote\n")?,
