@@ -58,7 +58,7 @@ impl Entry {
                 q: *q,
                 n: *n,
                 op: op.copy(alloc)?,
-                outcome: copy_outcome(alloc, outcome)?,
+                outcome: outcome.copy(alloc)?,
             }),
             Entry::Again { session, q, n } => Ok(Entry::Again {
                 session: session.copy(alloc)?,
@@ -77,15 +77,6 @@ impl Entry {
                 rows: copy_writes(alloc, rows.as_slice())?,
             }),
         }
-    }
-}
-
-// An equal outcome.
-fn copy_outcome(alloc: Global, outcome: &Outcome) -> Result<Outcome, AllocError>
-    ensures { IfOk result (λ made. made ≡ outcome.now) }
-{
-    match outcome {
-        Outcome::Wrote(writes) => Ok(Outcome::Wrote(copy_writes(alloc, writes.as_slice())?)),
     }
 }
 

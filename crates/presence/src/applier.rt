@@ -1,13 +1,13 @@
 //! What the lines of operations do, and what is answered to each.
 
-ghost use Rattle.std.specs.Prelude.{◌≡◌, ◌++◌, OnOk, IfOk, IfErr, option_map};
+ghost use Rattle.std.specs.Prelude.{◌≡◌, ◌++◌, OnOk, IfOk, IfErr, option_map, string_bytes};
 ghost use Rattle.serde_json.specs.View.{view};
-ghost use Rattle.presence.specs.Replies.{start, refuse, carry_out, taken, tree_line, data_of, moment_in};
+ghost use Rattle.presence.specs.Replies.{start, refuse, carry_out, taken, tree_line, value_text, data_of, moment_in};
 ghost use Rattle.presence.specs.Faults.{EndsAt};
 
 use crate::faults::{LineFault, RunFault};
 use pres_log::{Fault, Plain};
-use pres_tree::TreeFault;
+use pres_tree::{Tree, TreeFault};
 use pres_write::{Kept, Moment, Op, WriteFault};
 use serde_json::Value;
 use std::alloc::{AllocError, Global};
@@ -82,6 +82,10 @@ impl Applier {
         };
         let text = match kept {
             Kept::Wrote => format!(in self.alloc; "{number} wrote\n")?,
+            Kept::Stale(held) => {
+                let held = json_text(self.alloc, &held.unwrap_or(Tree::empty()))?;
+                format!(in self.alloc; "{number} stale {held}\n")?
+            }
         };
         out.extend_from_slice(text.as_bytes())?;
         Ok(())
@@ -106,13 +110,19 @@ impl Applier {
         ensures text { OnOk result (out.new.items ≡ out.old.items ++ tree_line self.now) }
         ensures err { IfErr result (λ e. e ≡ RunFault.Memory) }
     {
-        let value = self.plain.tree().to_value(self.alloc)?;
-        let text = value.to_string(self.alloc)?;
+        let text = json_text(self.alloc, self.plain.tree())?;
         out.extend_from_slice(b"tree ")?;
         out.extend_from_slice(text.as_bytes())?;
         out.extend_from_slice(b"\n")?;
         Ok(())
     }
+}
+
+// The JSON text of a value.
+fn json_text(alloc: Global, tree: &Tree) -> Result<String, AllocError>
+    ensures { IfOk result (λ text. string_bytes text ≡ value_text tree.now) }
+{
+    tree.to_value(alloc)?.to_string(alloc)
 }
 
 // The JSON value that a line is.
