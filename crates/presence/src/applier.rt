@@ -2,7 +2,8 @@
 
 ghost use Rattle.std.specs.Prelude.{◌≡◌, ◌++◌, OnOk, IfOk, IfErr, option_map, string_bytes};
 ghost use Rattle.serde_json.specs.View.{view};
-ghost use Rattle.presence.specs.Replies.{start, refuse, carry_out, taken, tree_line, value_text, data_of, moment_in};
+ghost use Rattle.presence.specs.Replies.{start, refuse, carry_out, taken, tree_line, value_text, kept_line, data_of, moment_in};
+ghost use Rattle.pres_tree.specs.Rows.{rows_in};
 ghost use Rattle.presence.specs.Faults.{EndsAt};
 
 use crate::faults::{LineFault, RunFault};
@@ -80,13 +81,7 @@ impl Applier {
             Err(Fault::Spent) => return Err(RunFault::Spent),
             Err(_) => return Err(RunFault::Memory),
         };
-        let text = match kept {
-            Kept::Wrote => format!(in self.alloc; "{number} wrote\n")?,
-            Kept::Stale(held) => {
-                let held = json_text(self.alloc, &held.unwrap_or(Tree::empty()))?;
-                format!(in self.alloc; "{number} stale {held}\n")?
-            }
-        };
+        let text = kept_text(self.alloc, number, &kept)?;
         out.extend_from_slice(text.as_bytes())?;
         Ok(())
     }
@@ -122,7 +117,33 @@ impl Applier {
 fn json_text(alloc: Global, tree: &Tree) -> Result<String, AllocError>
     ensures { IfOk result (λ text. string_bytes text ≡ value_text tree.now) }
 {
-    tree.to_value(alloc)?.to_string(alloc)
+    let value = tree.to_value(alloc)?;
+    let text = value.to_string(alloc)?;
+    Ok(text)
+}
+
+// The JSON text of what a place holds.
+fn held_text(alloc: Global, held: &Option<Tree>) -> Result<String, AllocError>
+    ensures { IfOk result (λ text. string_bytes text ≡ value_text (rows_in held.now)) }
+{
+    match held {
+        Some(tree) => json_text(alloc, tree),
+        None => String::from_str(alloc, "null"),
+    }
+}
+
+// The reply to an operation that was carried out.
+fn kept_text(alloc: Global, number: u64, kept: &Kept) -> Result<String, AllocError>
+    ensures { IfOk result (λ text. string_bytes text ≡ kept_line number kept.now) }
+{
+    match kept {
+        Kept::Wrote => format!(in alloc; "{number} wrote\n"),
+        Kept::Stale(held) => {
+            let held = held_text(alloc, held)?;
+            let text = format!(in alloc; "{number} stale {held}\n")?;
+            Ok(text)
+        }
+    }
 }
 
 // The JSON value that a line is.
