@@ -5,3 +5,5 @@ pub mod Printed
 pub mod Slots
 pub mod Held
 pub mod Forms
+pub mod Ordered
+pub mod Overlaps
