@@ -7,3 +7,4 @@ pub mod Held
 pub mod Forms
 pub mod Ordered
 pub mod Overlaps
+pub mod Members

@@ -16,7 +16,7 @@ both : (a b : Bool) → T a → T b → T (a && b)
 both true b p q = q
 both false b p q = p
 
-either_first : (a b c : Bool) → (a || (b || c)) ≡ (b || (a || c))
+pub either_first : (a b c : Bool) → (a || (b || c)) ≡ (b || (a || c))
 either_first true true c = refl
 either_first true false c = refl
 either_first false true c = refl

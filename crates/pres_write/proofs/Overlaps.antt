@@ -109,7 +109,7 @@ left_first b o q ps e h = subst (λ r. Left b r (q ∷ ps)) e h
 
 -- ---- in any order
 
-meet-itself : (p : Path) → meet p p ≡ true
+pub meet-itself : (p : Path) → meet p p ≡ true
 meet-itself p = ap (λ o. is_some o || is_prefix p p) (below-itself p)
 
 pub meet-sym : (p q : Path) → meet p q ≡ meet q p
@@ -138,11 +138,11 @@ overlap-put R same h k v (e ∷ es) none = elim (R k e.0) as (λ r. cond (is_eq 
       ∙ ap (λ b. (b || list_any (meet (h k)) (map (λ e. h e.0) es)) || (list_any (meet (h e.0)) (map (λ e. h e.0) es) || overlap (map (λ e. h e.0) es))) (meet-sym (h e.0) (h k))
 ] none
 
-or_false : (a : Bool) → (a || false) ≡ a
+pub or_false : (a : Bool) → (a || false) ≡ a
 or_false true = refl
 or_false false = refl
 
-or_swap : (a b : Bool) → (a || b) ≡ (b || a)
+pub or_swap : (a b : Bool) → (a || b) ≡ (b || a)
 or_swap true true = refl
 or_swap true false = refl
 or_swap false true = refl
