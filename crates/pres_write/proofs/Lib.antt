@@ -8,3 +8,4 @@ pub mod Forms
 pub mod Ordered
 pub mod Overlaps
 pub mod Members
+pub mod Named
