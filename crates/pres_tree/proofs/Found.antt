@@ -172,11 +172,11 @@ node_write k p v t t' es es' w old new sets root child order = same_rows t' (set
 pub write_root : {A : Type 0} (v t : Rows A) → InOrder v → v ≡ set_at [] v t
 write_root v t h = same_rows v (set_at [] v t) h (in_order-after t (write [] v ∷ [])) (λ x. sym (leaf_at-set_at [] v t x))
 
-abbrev IsRest : Path → Path → Option Path → Type 0
+abbrev pub IsRest : Path → Path → Option Path → Type 0
 IsRest p x None = Unit {0}
 IsRest p x (Some q) = x ≡ p ++ q
 
-rest_is : (p x : Path) → IsRest p x (below p x)
+pub rest_is : (p x : Path) → IsRest p x (below p x)
 rest_is [] x = refl
 rest_is (k ∷ p) [] = tt
 rest_is (k ∷ p) (l ∷ x) =
@@ -234,6 +234,14 @@ write_not_null p (r ∷ v) t h =
         ∙ ap (λ b. cond b (Some r.1) (leaf_at v r.0)) ((eq_by_cmp_equiv path_total).refl r.0)
 
 -- ---- no child is null
+
+pub Children-at : {A : Type 0} (k : Key) (w : Rows A) (es : List (Key × Rows A)) → Children es → lookup (is_at (key_cmp k)) es ≡ Some w → IsChild w
+Children-at k w [] h e = cc
+Children-at k w (e ∷ es) h is =
+    elim (same_key k e.0) as (λ b. cond b (Some e.1) (lookup (is_at (key_cmp k)) es) ≡ Some w → IsChild w) [
+      | true ↦ λ g. let same : e.1 ≡ w = cc in subst IsChild same h.0
+      | false ↦ λ g. Children-at k w es h.1 g
+    ] is
 
 pub Children-set : {A : Type 0} (k : Key) (w : Rows A) (es : List (Key × Rows A)) → Children es → IsChild w → Children (set_value (is_at (key_cmp k)) es w)
 Children-set k w [] h n = tt

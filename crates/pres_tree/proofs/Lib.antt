@@ -11,3 +11,7 @@ pub mod Texts
 pub mod Firsts
 pub mod Items
 pub mod Shallow
+pub mod Undone
+pub mod SameChildren
+pub mod SameRows
+pub mod Swapped

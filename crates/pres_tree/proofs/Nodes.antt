@@ -250,3 +250,7 @@ pub tallest-middle : {A : Type 0} (es : List (Key × Rows A)) (e : Key × Rows A
 unfolding tallest
 tallest-middle [] e left = omega arith
 tallest-middle (f ∷ es) e left = omega (arith, tallest-middle es e left)
+
+pub tallest-rest : {A : Type 0} (e : Key × Rows A) (left : List (Key × Rows A)) → tallest left ≤ tallest (e ∷ left)
+unfolding tallest
+tallest-rest e left = omega arith

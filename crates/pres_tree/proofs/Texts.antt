@@ -1,10 +1,11 @@
 -- A printed path is parsed as itself, and the steps of the walk over the pieces of a text.
-use Rattle.std.proofs.Common.{◌≡◌, ℕ, ◌<◌, ◌≤◌, Bool, true, false, List, [], ◌∷◌, ◌++◌, length, length-append, take, cond, nat_lt, ◌==◌, ◌||◌, ◌&&◌, Option, Some, None, is_none, refl, sym, ap, ◌∙◌, append_assoc, append-nil, arith}
+use Rattle.std.proofs.Common.{◌≡◌, ℕ, ◌+◌, ◌<◌, ◌≤◌, Bool, true, false, List, [], ◌∷◌, ◌++◌, length, length-append, take, drop, cond, nat_lt, ◌==◌, ◌||◌, ◌&&◌, Option, Some, None, is_none, refl, sym, ap, ◌∙◌, append_assoc, append-nil, arith}
 use Rattle.std.specs.Prelude.{filter}
 use Rattle.std.specs.List.{list_any, list_all, slice_split, onto_first}
 use Rattle.std.specs.Option.{option_or}
 use Rattle.std.proofs.lemmas.Bool.Decides.{nat_tests}
 use Rattle.std.proofs.lemmas.Bool.{false≢true}
+use Rattle.std.proofs.lemmas.List.Folds.{list_all-append}
 use Rattle.std.proofs.lemmas.List.{length-take, take_all, take-append-le}
 use borrow.Author.Tests.{eqb-true}
 use Rattle.pres_tree.specs.Keys.{Key, is_banned, is_key, key_fault}
@@ -117,11 +118,31 @@ pub segments-path_text : (p : Path) → IsPath p → segments (path_text p) ≡ 
 segments-path_text [] h = refl
 segments-path_text (k ∷ p) h = ap (filter has_bytes) (ap (λ ps. [] ∷ ps) (pieces-keys k p h.1)) ∙ filter-keys (k ∷ p) h.1
 
-pub path_fault-path_text : (p : Path) → IsPath p → path_fault (path_text p) ≡ None
-path_fault-path_text p h =
+-- a text of these pieces is a path without a fault
+sound : (text : List ℕ) (p : Path) → IsPath p → segments text ≡ p → path_fault text ≡ None
+sound text p h is =
     let few : nat_lt 32 (length p) ≡ false = grind (arith, nat_tests) in
-    ap (λ q. option_or (keys_fault q) (cond (nat_lt 32 (length q)) (Some TooDeep) None)) (segments-path_text p h)
+    ap (λ q. option_or (keys_fault q) (cond (nat_lt 32 (length q)) (Some TooDeep) None)) is
     ∙ (λ i. option_or (keys_fault-none p h.1 i) (cond (few i) (Some TooDeep) None))
+
+pub path_fault-path_text : (p : Path) → IsPath p → path_fault (path_text p) ≡ None
+path_fault-path_text p h = sound (path_text p) p h (segments-path_text p h)
+
+-- the leading slash may be left out
+pub segments-name : (p : Path) → IsPath p → segments (drop 1 (path_text p)) ≡ p
+segments-name [] h = refl
+segments-name (k ∷ p) h = ap (filter has_bytes) (pieces-keys k p h.1) ∙ filter-keys (k ∷ p) h.1
+
+pub path_fault-name : (p : Path) → IsPath p → path_fault (drop 1 (path_text p)) ≡ None
+path_fault-name p h = sound (drop 1 (path_text p)) p h (segments-name p h)
+
+-- ---- paths of parts
+
+pub path_append : (p q : Path) → IsPath p → IsPath q → length p + length q ≤ 32 → IsPath (p ++ q)
+path_append p q h g low = (omega (arith, length-append p q), rw (list_all-append is_key p q) (both_yes (list_all is_key p) (list_all is_key q) h.1 g.1))
+
+pub path_rest : (p q : Path) → IsPath (p ++ q) → IsPath q
+path_rest p q h = (omega (arith, h.0, length-append p q), (both_of (list_all is_key p) (list_all is_key q) (sym (list_all-append is_key p q) ∙ h.1)).1)
 
 -- ---- the walk over the pieces of a text
 

@@ -1,7 +1,7 @@
 -- Paths: lists of keys from the root to a place, and their texts.
 -- Paths are ordered key by key, a prefix first, as Rust orders a `Vec<Vec<u8>>`.
-use Rattle.std.specs.Prelude.{◌≤◌, ◌==◌, ℕ, Bool, IsTrue, List, [], ◌∷◌, ◌++◌, if◌then◌else◌, Option, Some, None, is_some, nat_lt, length, filter}
-use Rattle.std.specs.List.{list_all, slice_split}
+use Rattle.std.specs.Prelude.{◌≤◌, ◌==◌, ◌||◌, ℕ, Bool, false, IsTrue, List, [], ◌∷◌, ◌++◌, if◌then◌else◌, Option, Some, None, is_some, nat_lt, length, filter}
+use Rattle.std.specs.List.{list_any, list_all, slice_split}
 use Rattle.std.specs.Option.{option_or}
 use Rattle.std.specs.declared.cmp.Ordering.{Ordering}
 use Rattle.std.specs.Cmp.Lexicographic.{slice_cmp}
@@ -29,6 +29,15 @@ below (k ∷ p) (l ∷ x) = if same_key k l then below p x else None
 -- p stands at x or above it
 abbrev pub is_prefix : Path → Path → Bool
 is_prefix p x = is_some (below p x)
+
+-- one of the paths is at the other or above it
+abbrev pub meet : Path → Path → Bool
+meet p q = is_prefix p q || is_prefix q p
+
+-- two of the paths meet
+abbrev pub overlap : List Path → Bool
+overlap [] = false
+overlap (p ∷ ps) = list_any (meet p) ps || overlap ps
 
 -- entries in the order of their keys; of two with one key the first stays
 abbrev pub sorted_by : {K A : Type 0} → (K → K → Ordering) → List (K × A) → List (K × A)

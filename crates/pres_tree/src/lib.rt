@@ -4,6 +4,7 @@
 //! holds one, in path order. Null is the empty list.
 #![tactic(auto)]
 
+mod equal;
 mod fault;
 mod key;
 pub mod laws;
@@ -19,6 +20,7 @@ pub use fault::TreeFault;
 pub use key::Key;
 pub use nested::{Change, Leaf, Nested};
 pub use path::Path;
+pub use read::{Form, OwnForm};
 pub use scalar::{Scalar, Text};
 
 /// A value: null, a scalar, or an object of values under keys.

@@ -1,13 +1,13 @@
 //! Values: nothing, one leaf, or values under keys.
 
-ghost use Rattle.std.specs.Prelude.{◌≡◌, ◌∷◌, MatchOption, IfOk, IfErr, false, [], option_map};
+ghost use Rattle.std.specs.Prelude.{◌≡◌, ◌∷◌, ◌≤◌, MatchOption, IfOk, IfErr, false, [], length, take, option_map};
 ghost use Rattle.std.specs.BTreeMap.{IsOrdered};
 ghost use Rattle.pres_tree.specs.declared.fault.TreeFault.TheVariants.{Memory};
 ghost use Rattle.pres_tree.specs.Keys.{key_cmp};
 ghost use Rattle.pres_tree.specs.Paths.{path_cmp, sorted_by};
 ghost use Rattle.pres_tree.specs.Layer.{Children, child_rows, deepest_of};
 ghost use Rattle.pres_tree.specs.Rows.{IsValue, Fits, is_null, leaf_at, value_at, depth_of, with_leaves, children_with, rows_in};
-ghost use Rattle.pres_tree.specs.Writes.{write, after};
+ghost use Rattle.pres_tree.specs.Writes.{Undoes, write, after};
 
 use crate::fault::TreeFault;
 use crate::key::Key;
@@ -16,10 +16,11 @@ use serde_json::Value;
 use std::alloc::{AllocError, Global};
 use std::collections::BTreeMap;
 use std::marker::Model;
+use std::mem::replace;
 
 /// What may stand at a place of a value, and how JSON tells it.
 pub trait Leaf: Drop {
-    ghost use Rattle.std.specs.Prelude.{◌≡◌, ◌⊎◌, true, IfOk, MatchResult};
+    ghost use Rattle.std.specs.Prelude.{◌≡◌, ◌⊎◌, ◌↔◌, true, IsTrue, IfOk, MatchResult};
     ghost use Rattle.serde_json.specs.Data.{Data, Members, null, object};
     ghost use Rattle.serde_json.specs.View.{view};
     ghost use Rattle.pres_tree.specs.Reading.{Reading, HasKeys, branch, leaf, bad, is_leaf};
@@ -32,6 +33,10 @@ pub trait Leaf: Drop {
     /// An equal leaf.
     fn copy(&self, alloc: Global) -> Result<Self, AllocError>
         ensures { IfOk result (λ made. made ≡ self.now) };
+
+    /// Whether both are the same leaf.
+    fn equal(&self, other: &Self) -> bool
+        ensures { IsTrue result ↔ (self.now ≡ other.now) };
 
     /// Whether the JSON value is a leaf, or refused as one.
     fn is_leaf(value: &Value) -> bool
@@ -179,6 +184,13 @@ fn deepest<L>(children: &BTreeMap<Key, Nested<L>>) -> usize
     deepest
 }
 
+// The first keys, so many or all.
+fn first(keys: &[Key], count: usize) -> &[Key]
+    ensures { result.now ≡ take count keys.now }
+{
+    &keys[..count.min(keys.len())]
+}
+
 impl<L: Drop> Nested<L> {
     // The value with these children.
     pub(crate) fn of_children(children: BTreeMap<Key, Nested<L>>) -> Nested<L>
@@ -214,12 +226,75 @@ impl<L: Drop> Nested<L> {
                 if value.is_empty() {
                     self.clear(path.keys());
                 } else {
-                    self.put(alloc, path.keys(), value)?;
+                    drop(self.put(alloc, path.keys(), value)?);
                 }
             }
             None => self.clear(path.keys()),
         }
         Ok(())
+    }
+
+    /// Takes away what stands at or below the path. It takes no memory.
+    pub fn remove(&mut self, path: &Path)
+        ensures { self.new ≡ after self.old (write path.now [] ∷ []) }
+    {
+        let keys = path.keys();
+        self.clear(keys);
+    }
+
+    /// Puts a value that isn't null, as `set` does, and answers what it took the place of: all
+    /// that stood at so many first keys of the path.
+    pub fn replace(
+        &mut self,
+        alloc: Global,
+        path: &Path,
+        value: Nested<L>,
+    ) -> Result<(usize, Nested<L>), TreeFault>
+        requires some { is_null value ≡ false }
+        requires fits { Fits path.now value }
+        ensures ok { IfOk result (λ _. self.new ≡ after self.old (write path.now value ∷ [])) }
+        ensures back { IfOk result (λ place. Undoes (take place.0 path.now) place.1 self.old self.new) }
+        ensures err { IfErr result (λ e. (e ≡ Memory) × (self.new ≡ self.old)) }
+    {
+        // it ensures that the value is one
+        let _ = value.is_empty();
+        Ok(self.put(alloc, path.keys(), value)?)
+    }
+
+    /// Puts a value where something stands, at so many first keys of the path. It takes no
+    /// memory.
+    pub fn put_back(&mut self, path: &Path, depth: usize, value: Nested<L>)
+        requires stands { is_null (value_at (take depth path.now) self.old) ≡ false }
+        requires fits { Fits (take depth path.now) value }
+        ensures { self.new ≡ after self.old (write (take depth path.now) value ∷ []) }
+    {
+        // it ensures that the value is one
+        if value.is_empty() {
+            self.clear(first(path.keys(), depth));
+        } else {
+            self.put_over(first(path.keys(), depth), value);
+        }
+    }
+
+    // Puts a value that is not null where something stands.
+    fn put_over(&mut self, keys: &[Key], value: Nested<L>)
+        requires some { is_null value ≡ false }
+        requires value { IsValue value }
+        requires fits { Fits keys.now value }
+        requires stands { is_null (value_at keys.now self.old) ≡ false }
+        ensures { self.new ≡ after self.old (write keys.now value ∷ []) }
+    {
+        let Some((key, rest)) = keys.split_first() else {
+            drop(replace(self, value));
+            return;
+        };
+        let Node::Object(children) = &mut self.node else {
+            return;
+        };
+        let Some(child) = children.get_mut(key) else {
+            return;
+        };
+        child.put_over(rest, value);
     }
 
     // The value with `value` alone, below the keys.
@@ -242,29 +317,39 @@ impl<L: Drop> Nested<L> {
         }
     }
 
-    // Puts a value that is not null.
-    fn put(&mut self, alloc: Global, keys: &[Key], value: Nested<L>) -> Result<(), AllocError>
+    // Puts a value that is not null, and answers what it took the place of: all that stood at so
+    // many first keys.
+    fn put(
+        &mut self,
+        alloc: Global,
+        keys: &[Key],
+        value: Nested<L>,
+    ) -> Result<(usize, Nested<L>), AllocError>
         requires some { is_null value ≡ false }
         requires value { IsValue value }
         requires fits { Fits keys.now value }
         ensures ok { IfOk result (λ _. self.new ≡ after self.old (write keys.now value ∷ [])) }
+        ensures depth { IfOk result (λ place. place.0 ≤ length keys.now) }
+        ensures back { IfOk result (λ place. Undoes (take place.0 keys.now) place.1 self.old self.new) }
         ensures err { IfErr result (λ _. self.new ≡ self.old) }
     {
         let Some((key, rest)) = keys.split_first() else {
-            *self = value;
-            return Ok(());
+            let old = replace(self, value);
+            // it ensures that the rows are in order
+            let _ = old.is_empty();
+            return Ok((0, old));
         };
         if let Node::Object(children) = &mut self.node {
             if let Some(child) = children.get_mut(key) {
-                child.put(alloc, rest, value)?;
-                return Ok(());
+                let (depth, old) = child.put(alloc, rest, value)?;
+                return Ok((depth + 1, old));
             }
             let child = Nested::branch(alloc, rest, value)?;
             drop(children.insert(key.copy(alloc)?, child)?);
-            return Ok(());
+            return Ok((1, Nested::empty()));
         }
-        *self = Nested::branch(alloc, keys, value)?;
-        Ok(())
+        let branch = Nested::branch(alloc, keys, value)?;
+        Ok((0, replace(self, branch)))
     }
 
     // Takes away what stands at or below the keys.

@@ -1,9 +1,9 @@
 //! Paths: the keys from the root to a place.
 
-ghost use Rattle.std.specs.Prelude.{◌≡◌, ◌⊎◌, ◌↔◌, [], length, IsTrue, IfOk, MatchResult, Some, None, option_map, string_bytes};
+ghost use Rattle.std.specs.Prelude.{◌≡◌, ◌⊎◌, ◌↔◌, ◌+◌, ◌<◌, ◌++◌, [], length, drop, IsTrue, IfOk, IfErr, IsErrOf, OnOk, MatchResult, Some, None, option_map, string_bytes};
 ghost use Rattle.pres_tree.specs.Keys.{key_cmp};
 ghost use Rattle.pres_tree.specs.Paths.{IsPath, below, is_prefix, segments, path_fault, path_text, keys_text};
-ghost use Rattle.pres_tree.specs.declared.fault.TreeFault.TheVariants.{Memory};
+ghost use Rattle.pres_tree.specs.declared.fault.TreeFault.TheVariants.{Memory, TooDeep};
 
 use crate::fault::TreeFault;
 use crate::key::Key;
@@ -79,11 +79,22 @@ impl Path {
             return String::from_str(alloc, "/");
         }
         let mut text = String::new(alloc);
-        for key in &self.keys {
-            text.push('/')?;
-            text.push_str(key.text())?;
-        }
+        push_keys(&mut text, &self.keys)?;
         Ok(text)
+    }
+
+    /// Its text without the leading slash, which is empty for the root. The text is parsed as this
+    /// path.
+    pub fn name(&self, alloc: Global) -> Result<String, AllocError>
+        ensures name { IfOk result (λ t. string_bytes t ≡ drop 1 (path_text self.now)) }
+        ensures reads_back { IfOk result (λ t. (segments (string_bytes t) ≡ self.now) × (path_fault (string_bytes t) ≡ None)) }
+    {
+        let Some((first, rest)) = self.keys.split_first() else {
+            return Ok(String::new(alloc));
+        };
+        let mut name = String::from_str(alloc, first.text())?;
+        push_keys(&mut name, rest)?;
+        Ok(name)
     }
 
     pub(crate) fn keys(&self) -> &[Key]
@@ -115,16 +126,64 @@ impl Path {
         rest(&self.keys, &other.keys).is_some()
     }
 
-    /// An equal path.
-    pub fn copy(&self, alloc: Global) -> Result<Path, AllocError>
-        ensures { IfOk result (λ p. p ≡ self.now) }
+    /// The path that goes on with the keys of the other one. Refused as TooDeep where both have
+    /// more than 32 keys together.
+    pub fn join(&self, alloc: Global, other: &Path) -> Result<Path, TreeFault>
+        ensures path { IfOk result (λ p. p ≡ self.now ++ other.now) }
+        ensures deep { IsErrOf result TreeFault.TooDeep ↔ (32 < length self.now + length other.now) }
+        ensures err { IfErr result (λ e. (e ≡ TooDeep) ⊎ (e ≡ Memory)) }
     {
-        let mut keys = Vec::new(alloc);
-        for key in &self.keys {
+        if self.keys.len() + other.keys.len() > DEEPEST {
+            return Err(TreeFault::TooDeep);
+        }
+        let mut keys = copies(alloc, &self.keys)?;
+        for key in &other.keys {
             keys.push(key.copy(alloc)?)?;
         }
         Ok(Path { keys })
     }
+
+    /// The other path with this one cut off, where it is this one or below it.
+    pub fn below(&self, alloc: Global, other: &Path) -> Result<Option<Path>, AllocError>
+        ensures { IfOk result (λ found. found ≡ below self.now other.now) }
+    {
+        match rest(&self.keys, &other.keys) {
+            Some(keys) => Ok(Some(Path {
+                keys: copies(alloc, keys)?,
+            })),
+            None => Ok(None),
+        }
+    }
+
+    /// An equal path.
+    pub fn copy(&self, alloc: Global) -> Result<Path, AllocError>
+        ensures { IfOk result (λ p. p ≡ self.now) }
+    {
+        Ok(Path {
+            keys: copies(alloc, &self.keys)?,
+        })
+    }
+}
+
+// Puts the keys at the end of the text, each after a slash.
+fn push_keys(text: &mut String, keys: &[Key]) -> Result<(), AllocError>
+    ensures { OnOk result (string_bytes text.new ≡ string_bytes text.old ++ keys_text keys.now) }
+{
+    for key in keys {
+        text.push('/')?;
+        text.push_str(key.text())?;
+    }
+    Ok(())
+}
+
+fn copies(alloc: Global, keys: &[Key]) -> Result<Vec<Key>, AllocError>
+    ensures { IfOk result (λ made. made.items ≡ keys.now) }
+{
+    let mut made = Vec::new(alloc);
+    for key in keys {
+        made.push(key.copy(alloc)?)?;
+    }
+    Ok(made)
 }
 
 // The keys after these first ones.

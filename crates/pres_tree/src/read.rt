@@ -21,6 +21,43 @@ const LEVELS: usize = 33;
 // A fault, and the key of the item that has it.
 type KeyedFault = (Key, TreeFault);
 
+/// How JSON tells the leaves of a value.
+pub trait Form<L> {
+    ghost use Rattle.std.specs.Prelude.{◌≡◌, ◌⊎◌, true, MatchResult};
+    ghost use Rattle.serde_json.specs.Data.{Data};
+    ghost use Rattle.serde_json.specs.View.{view};
+    ghost use Rattle.pres_tree.specs.Reading.{Reading, leaf, bad, is_leaf};
+    ghost use Rattle.pres_tree.specs.declared.fault.TreeFault.TheVariants.{Memory};
+
+    ghost reading: { Data → Reading L };
+
+    /// Whether the JSON value is a leaf, or refused as one.
+    fn is_leaf(value: &Value) -> bool
+        ensures { result ≡ is_leaf (reading (view value.now)) };
+
+    /// The leaf of a JSON value.
+    fn read(alloc: Global, value: &Value) -> Result<L, TreeFault>
+        requires { is_leaf (reading (view value.now)) ≡ true }
+        ensures { MatchResult result
+            (λ made. reading (view value.now) ≡ leaf made)
+            (λ e. (e ≡ Memory) ⊎ (reading (view value.now) ≡ bad e)) };
+}
+
+/// The form in which leaves are told as their own type says.
+pub struct OwnForm {}
+
+impl<L: Leaf> Form<L> for OwnForm {
+    ghost reading = { L.reading };
+
+    fn is_leaf(value: &Value) -> bool {
+        L::is_leaf(value)
+    }
+
+    fn read(alloc: Global, value: &Value) -> Result<L, TreeFault> {
+        L::read(alloc, value)
+    }
+}
+
 impl<L: Leaf> Nested<L> {
     /// The value of a JSON value: arrays under their indexes, nulls and objects without
     /// children left out. The first fault of a depth-first walk in byte order of keys is
@@ -30,7 +67,7 @@ impl<L: Leaf> Nested<L> {
             (λ t. (fault_of L.reading 33 (view value.now) ≡ None) × (t ≡ rows_of L.reading (view value.now)))
             (λ e. (e ≡ Memory) ⊎ (fault_of L.reading 33 (view value.now) ≡ Some e)) }
     {
-        read_at(alloc, value, LEVELS)
+        read_at::<L, OwnForm>(alloc, value, LEVELS)
     }
 
     /// The same for a value that is to stand at the path, whose keys count as depth.
@@ -44,42 +81,58 @@ impl<L: Leaf> Nested<L> {
             (λ e. (e ≡ Memory) ⊎ (fault_of L.reading (33 - length path.now) (view value.now) ≡ Some e)) }
         ensures fits { IfOk result (λ t. Fits path.now t) }
     {
-        read_at(alloc, value, LEVELS - path.len())
+        Nested::from_value_as::<OwnForm>(alloc, value, path)
+    }
+}
+
+impl<L: Drop> Nested<L> {
+    /// The same where JSON tells the leaves in the given form.
+    pub fn from_value_as<F: Form<L>>(
+        alloc: Global,
+        value: &Value,
+        path: &Path,
+    ) -> Result<Nested<L>, TreeFault>
+        ensures read { MatchResult result
+            (λ t. (fault_of F.reading (33 - length path.now) (view value.now) ≡ None) × (t ≡ rows_of F.reading (view value.now)))
+            (λ e. (e ≡ Memory) ⊎ (fault_of F.reading (33 - length path.now) (view value.now) ≡ Some e)) }
+        ensures fits { IfOk result (λ t. Fits path.now t) }
+    {
+        read_at::<L, F>(alloc, value, LEVELS - path.len())
     }
 }
 
 // The value, with so many levels left for its leaves.
 #[cycle(read)]
-fn read_at<L: Leaf>(alloc: Global, value: &Value, left: usize) -> Result<Nested<L>, TreeFault>
+fn read_at<L: Drop, F: Form<L>>(alloc: Global, value: &Value, left: usize) -> Result<Nested<L>, TreeFault>
     requires { left ≤ 33 }
     ensures read { MatchResult result
-        (λ t. (fault_of L.reading left (view value.now) ≡ None) × (t ≡ rows_of L.reading (view value.now)))
-        (λ e. (e ≡ Memory) ⊎ (fault_of L.reading left (view value.now) ≡ Some e)) }
+        (λ t. (fault_of F.reading left (view value.now) ≡ None) × (t ≡ rows_of F.reading (view value.now)))
+        (λ e. (e ≡ Memory) ⊎ (fault_of F.reading left (view value.now) ≡ Some e)) }
     ensures shallow { IfOk result (λ t. Shallow left t) }
 {
-    if L::is_leaf(value) {
+    if F::is_leaf(value) {
         if left == 0 {
             return Err(TreeFault::TooDeep);
         }
-        return Ok(Nested::scalar(L::read(alloc, value)?));
+        return Ok(Nested::scalar(F::read(alloc, value)?));
     }
     match value {
-        Value::Array(items) => read_items(alloc, items, left.saturating_sub(1)),
-        Value::Object(members) => read_members(alloc, members, left.saturating_sub(1)),
+        Value::Array(items) => read_items::<L, F>(alloc, items, left.saturating_sub(1)),
+        Value::Object(members) => read_members::<L, F>(alloc, members, left.saturating_sub(1)),
         _ => Ok(Nested::empty()),
     }
 }
 
 #[cycle(read)]
-fn read_items<L: Leaf>(
+fn read_items<L: Drop, F: Form<L>>(
     alloc: Global,
     items: &Vec<Value>,
     left: usize,
 ) -> Result<Nested<L>, TreeFault>
     requires { left ≤ 32 }
     ensures read { MatchResult result
-        (λ t. (items_fault L.reading left 0 (items_view items.now.items) ≡ None) × (t ≡ sorted_by path_cmp (items_rows L.reading 0 (items_view items.now.items))))
-        (λ e. (e ≡ Memory) ⊎ (fault_in (items_fault L.reading left 0 (items_view items.now.items)) ≡ Some e)) }
+        (λ t. (items_fault F.reading left 0 (items_view items.now.items) ≡ None) × (t ≡ sorted_by path_cmp (items_rows F.reading 0 (items_view items.now.items))))
+        (λ e. (e ≡ Memory) ⊎ (fault_in (items_fault F.reading left 0 (items_view items.now.items)) ≡ Some e)) }
     ensures shallow { IfOk result (λ t. Shallow (left + 1) t) }
 {
     let mut children = BTreeMap::new(alloc);
@@ -87,7 +140,7 @@ fn read_items<L: Leaf>(
     let mut index: usize = 0;
     for item in items {
         let key = Key::of_index(alloc, index)?;
-        match read_at(alloc, item, left) {
+        match read_at::<L, F>(alloc, item, left) {
             Ok(child) => if !child.is_empty() {
                 drop(children.insert(key, child)?);
             },
@@ -115,21 +168,21 @@ fn earlier(first: Option<KeyedFault>, key: Key, fault: TreeFault) -> KeyedFault
 }
 
 #[cycle(read)]
-fn read_members<L: Leaf>(
+fn read_members<L: Drop, F: Form<L>>(
     alloc: Global,
     members: &Map<String, Value>,
     left: usize,
 ) -> Result<Nested<L>, TreeFault>
     requires { left ≤ 32 }
     ensures read { MatchResult result
-        (λ t. (members_fault L.reading left (members_view members.now.entries) ≡ None) × (t ≡ sorted_by path_cmp (members_rows L.reading (members_view members.now.entries))))
-        (λ e. (e ≡ Memory) ⊎ (members_fault L.reading left (members_view members.now.entries) ≡ Some e)) }
+        (λ t. (members_fault F.reading left (members_view members.now.entries) ≡ None) × (t ≡ sorted_by path_cmp (members_rows F.reading (members_view members.now.entries))))
+        (λ e. (e ≡ Memory) ⊎ (members_fault F.reading left (members_view members.now.entries) ≡ Some e)) }
     ensures shallow { IfOk result (λ t. Shallow (left + 1) t) }
 {
     let mut children = BTreeMap::new(alloc);
     for (name, member) in members.iter() {
         let key = Key::parse(alloc, name.as_str())?;
-        let child = read_at(alloc, member, left)?;
+        let child = read_at::<L, F>(alloc, member, left)?;
         if !child.is_empty() {
             drop(children.insert(key, child)?);
         }

@@ -70,6 +70,15 @@ impl Leaf for Scalar {
         }
     }
 
+    fn equal(&self, other: &Scalar) -> bool {
+        match (self, other) {
+            (Scalar::Bool(truth), Scalar::Bool(other)) => truth == other,
+            (Scalar::Int(number), Scalar::Int(other)) => number == other,
+            (Scalar::Text(text), Scalar::Text(other)) => text.as_str() == other.as_str(),
+            _ => false,
+        }
+    }
+
     fn is_leaf(value: &Value) -> bool {
         matches!(value, Value::Bool(_) | Value::Number(_) | Value::String(_))
     }

@@ -11,9 +11,11 @@ use Rattle.pres_tree.specs.Rows.{Rows, height}
 use Rattle.pres_tree.specs.Printing.{ReadsBack}
 use Rattle.pres_write.specs.declared.draft.Slot.{Slot}
 use Rattle.pres_write.specs.declared.op.Op.{Op}
-use Rattle.pres_write.specs.declared.op.Op.TheVariants.{Set}
-use Rattle.pres_write.specs.Drafts.{slot_reading}
-use Rattle.pres_write.specs.OpForms.{unless, op_read, set_read, set_form, remove_form}
+use Rattle.pres_write.specs.declared.op.Op.TheVariants.{Set, Tx}
+use Rattle.pres_write.specs.Drafts.{slot_reading, fixed_reading}
+use Rattle.pres_write.specs.OpForms.{unless, op_read, set_read, set_form, remove_form, tx_form}
+use Rattle.pres_write.specs.Transactions.{Comparison}
+use Rattle.pres_write.specs.declared.fault.WriteFault.{WriteFault}
 
 -- what is read of a path that is printed as the text, and of a draft that is read back
 reads_set : (p : Path) (v : Rows Slot) (d : Data) → segments (path_text p) ≡ p → path_fault (path_text p) ≡ None → ReadsBack slot_reading v d → height v ≤ 33 - length p → set_read (path_text p) d ≡ Ok (Set (p, v))
@@ -30,6 +32,20 @@ reads_remove p v keys sound none =
 
 pub reads_put : (p : Path) (v : Rows Slot) (d : Data) → segments (path_text p) ≡ p → path_fault (path_text p) ≡ None → ReadsBack slot_reading v d → height v ≤ 33 - length p → op_read (set_form (path_text p) d) ≡ Ok (Set (p, v))
 reads_put p v d keys sound reads low = reads_set p v d keys sound reads low
+
+pub reads_tx : (t : Comparison) (e d : Data) → segments (path_text t.path) ≡ t.path → path_fault (path_text t.path) ≡ None → ReadsBack fixed_reading t.expect e → ReadsBack slot_reading t.new d → height t.expect ≤ 33 - length t.path → height t.new ≤ 33 - length t.path → op_read (tx_form (path_text t.path) e d) ≡ Ok (Tx t)
+reads_tx t e d keys sound reads-e reads-d low-e low-d =
+    ap (λ o. unless o (after (segments (path_text t.path)))) sound
+    ∙ ap after keys
+    ∙ ap (λ o. unless o (unless (fault_of slot_reading (33 - length t.path) d) (made t.path))) (reads-e.1 (33 - length t.path) low-e)
+    ∙ ap (λ o. unless o (made t.path)) (reads-d.1 (33 - length t.path) low-d)
+    ∙ (λ i. Ok (Tx (record { path = t.path; expect = reads-e.0 i; new = reads-d.0 i })))
+  where
+    made : Path → Result Op WriteFault
+    made p = Ok (Tx (record { path = p; expect = rows_of fixed_reading e; new = rows_of slot_reading d }))
+
+    after : Path → Result Op WriteFault
+    after p = unless (fault_of fixed_reading (33 - length p) e) (unless (fault_of slot_reading (33 - length p) d) (made p))
 
 -- what was made is read as the operation whose form it has
 pub reads_made : (r : Result Value AllocError) (d : Data) (op : Op) → IfOk r (λ made. view made ≡ d) → op_read d ≡ Ok op → IfOk r (λ made. op_read (view made) ≡ Ok op)

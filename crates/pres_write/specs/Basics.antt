@@ -1,7 +1,7 @@
 -- Basic writes as code holds them, where null is `None`.
-use Rattle.std.specs.Prelude.{◌≡◌, ◌<◌, ℕ, List, map, length, take}
+use Rattle.std.specs.Prelude.{◌≡◌, ◌<◌, ℕ, false, List, map, length, take}
 use Rattle.pres_tree.specs.declared.scalar.Scalar.{Scalar}
-use Rattle.pres_tree.specs.Paths.{Path}
+use Rattle.pres_tree.specs.Paths.{Path, overlap}
 use Rattle.pres_tree.specs.Rows.{Rows, Fits, option_of, rows_in}
 use Rattle.pres_tree.specs.Writes.{Write, write, after}
 use Rattle.pres_write.specs.declared.basic.Basic.{Basic}
@@ -15,6 +15,10 @@ basic p v = record { path = p; value = option_of v }
 -- the value may stand at the path
 abbrev pub FitsThere : Basic → Type 0
 FitsThere b = Fits b.path (rows_in b.value)
+
+-- no write's path is at or above another's
+abbrev pub Apart : List Basic → Type 0
+Apart writes = overlap (map (λ b. b.path) writes) ≡ false
 
 -- the tree after these writes
 abbrev pub applied : Rows Scalar → List Basic → Rows Scalar

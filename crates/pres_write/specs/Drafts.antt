@@ -55,6 +55,19 @@ slot_reading (string s) = fixed (scalar_reading (string s))
 slot_reading (array ds) = branch
 slot_reading (object ms) = placeholder ms (get_member (codes ".sv") ms)
 
+-- a value without placeholders: an object with the name `.sv` is refused
+abbrev pub unless_placeholder : Option Data → Reading Scalar
+unless_placeholder None = branch
+unless_placeholder (Some d) = bad Placeholder
+
+abbrev pub fixed_reading : Data → Reading Scalar
+fixed_reading null = branch
+fixed_reading (boolean b) = scalar_reading (boolean b)
+fixed_reading (number n) = scalar_reading (number n)
+fixed_reading (string s) = scalar_reading (string s)
+fixed_reading (array ds) = branch
+fixed_reading (object ms) = unless_placeholder (get_member (codes ".sv") ms)
+
 abbrev pub slot_printing : Slot → Data
 slot_printing (Fixed s) = scalar_printing s
 slot_printing Timestamp = object (member (codes ".sv") (string (codes "timestamp")) no_members)

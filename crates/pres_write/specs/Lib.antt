@@ -5,3 +5,5 @@ pub mod Moments
 pub mod OpForms
 pub mod Outcomes
 pub mod Placeholders
+pub mod Transactions
+pub mod Updates

@@ -1,23 +1,36 @@
 -- What an operation does to the tree at a moment.
-use Rattle.std.specs.Prelude.{ℕ, List, [], ◌∷◌}
+use Rattle.std.specs.Prelude.{ℕ, List, [], ◌∷◌, if◌then◌else◌}
 use Rattle.pres_tree.specs.declared.scalar.Scalar.{Scalar}
-use Rattle.pres_tree.specs.Rows.{Rows}
+use Rattle.pres_tree.specs.Rows.{Rows, option_of, value_at}
+use Rattle.pres_tree.specs.Scalars.{same_rows}
 use Rattle.pres_write.specs.declared.basic.Basic.{Basic}
 use Rattle.pres_write.specs.declared.op.Op.{Op}
-use Rattle.pres_write.specs.declared.op.Op.TheVariants.{Set}
-use Rattle.pres_write.specs.declared.op.Outcome.{Outcome}
-use Rattle.pres_write.specs.declared.op.Outcome.TheVariants.{Wrote}
-use Rattle.pres_write.specs.declared.op.Kept.{Kept}
-use Rattle.pres_write.specs.declared.op.Kept.TheVariants as kept
+use Rattle.pres_write.specs.declared.op.Op.TheVariants.{Set, Update, Tx}
+use Rattle.pres_write.specs.declared.outcome.Outcome.{Outcome}
+use Rattle.pres_write.specs.declared.outcome.Outcome.TheVariants.{Wrote, Stale}
+use Rattle.pres_write.specs.declared.outcome.Kept.{Kept}
+use Rattle.pres_write.specs.declared.outcome.Kept.TheVariants as kept
 use Rattle.pres_write.specs.Basics.{basic}
 use Rattle.pres_write.specs.Drafts.{settled}
+use Rattle.pres_write.specs.Updates.{update_writes}
+use Rattle.pres_write.specs.Transactions.{Comparison}
 
--- a set is one basic write, its placeholders made the moment
+-- a transaction is one basic write where its place holds exactly the expected value, and else stale with the value held
+abbrev pub compared : Rows Scalar → ℕ → Comparison → Outcome
+compared tree moment t =
+    if same_rows (value_at t.path tree) t.expect then Wrote (basic t.path (settled moment t.new) ∷ []) else Stale (option_of (value_at t.path tree))
+
+-- a set is one basic write, an update those of its places in path order; placeholders are made the moment
 abbrev pub resolved : Rows Scalar → ℕ → Op → Outcome
 resolved tree moment (Set p) = Wrote (basic p.0 (settled moment p.1) ∷ [])
+resolved tree moment (Update u) = Wrote (update_writes moment u)
+resolved tree moment (Tx t) = compared tree moment t
 
 abbrev pub kept_of : Outcome → Kept
 kept_of (Wrote writes) = kept.Wrote
+kept_of (Stale held) = kept.Stale held
 
+-- a stale transaction writes nothing
 abbrev pub writes_in : Outcome → List Basic
 writes_in (Wrote writes) = writes
+writes_in (Stale held) = []

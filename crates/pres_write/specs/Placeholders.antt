@@ -11,10 +11,10 @@ use Rattle.pres_tree.specs.Keys.{is_key}
 use Rattle.pres_tree.specs.Reading.{HasKeys, branch}
 use Rattle.pres_write.specs.Drafts.{slot_reading, placeholder}
 
-abbrev sv : List ℕ
+abbrev pub sv : List ℕ
 sv = codes ".sv"
 
-no_placeholder : (ms : Members) → HasKeys ms → get_member sv ms ≡ None
+pub no_placeholder : (ms : Members) → HasKeys ms → get_member sv ms ≡ None
 no_placeholder no_members h = refl
 no_placeholder (member l d ms) h =
     elim (slice_cmp nat_cmp sv l) as (λ o. slice_cmp nat_cmp sv l ≡ o → match_ordering o (get_member sv ms) (Some d) (get_member sv ms) ≡ None) [

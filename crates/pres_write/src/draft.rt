@@ -5,7 +5,7 @@ ghost use Rattle.serde_json.specs.View.{view};
 ghost use Rattle.pres_write.specs.Drafts.{is_timestamp, settled};
 
 use crate::moment::Moment;
-use pres_tree::{Change, Leaf, Nested, Scalar, Tree, TreeFault};
+use pres_tree::{Change, Form, Leaf, Nested, Scalar, Tree, TreeFault};
 use serde_json::{Map, Value};
 use std::alloc::{AllocError, Global};
 
@@ -47,6 +47,14 @@ impl Leaf for Slot {
         match self {
             Slot::Fixed(scalar) => Ok(Slot::Fixed(scalar.copy(alloc)?)),
             Slot::Timestamp => Ok(Slot::Timestamp),
+        }
+    }
+
+    fn equal(&self, other: &Slot) -> bool {
+        match (self, other) {
+            (Slot::Fixed(scalar), Slot::Fixed(other)) => scalar.equal(other),
+            (Slot::Timestamp, Slot::Timestamp) => true,
+            _ => false,
         }
     }
 
@@ -92,6 +100,29 @@ impl Leaf for Slot {
     ghost null_is_branch = { refl };
 
     ghost object_is_branch = { keys_are_no_placeholder };
+}
+
+/// The form of values without placeholders.
+pub struct FixedForm {}
+
+impl Form<Scalar> for FixedForm {
+    ghost use Rattle.pres_write.specs.Drafts.{fixed_reading};
+
+    ghost reading = { fixed_reading };
+
+    fn is_leaf(value: &Value) -> bool {
+        match value {
+            Value::Object(_) => value.get(PLACEHOLDER).is_some(),
+            _ => Scalar::is_leaf(value),
+        }
+    }
+
+    fn read(alloc: Global, value: &Value) -> Result<Scalar, TreeFault> {
+        match value {
+            Value::Object(_) => Err(TreeFault::Placeholder),
+            _ => Scalar::read(alloc, value),
+        }
+    }
 }
 
 // Placeholders become the moment.

@@ -13,18 +13,26 @@ pub enum WriteFault {
     /// A path or a value of it is.
     #[error("{0}")]
     Tree(TreeFault),
+    /// One place of an update is at or above another, or named twice.
+    #[error("one place is at or above another")]
+    Overlap,
+    /// An update names more than 256 places.
+    #[error("more than 256 places")]
+    ManyPaths,
     /// The JSON value has none of the forms of operations.
     #[error("not an operation")]
     Shape,
 }
 
 impl WriteFault {
-    /// The number that programs and messages give: that of the tree's refusal, or 11.
+    /// The number that programs and messages give: that of the tree's refusal, or 9 to 11.
     pub fn number(self) -> u8
         ensures { result ≡ number_of self }
     {
         match self {
             WriteFault::Tree(fault) => fault.number(),
+            WriteFault::Overlap => 9,
+            WriteFault::ManyPaths => 10,
             WriteFault::Shape => 11,
         }
     }
@@ -35,6 +43,8 @@ impl WriteFault {
     {
         match self {
             WriteFault::Tree(fault) => fault.name(),
+            WriteFault::Overlap => "Overlap",
+            WriteFault::ManyPaths => "ManyPaths",
             WriteFault::Shape => "Shape",
         }
     }

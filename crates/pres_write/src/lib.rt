@@ -7,15 +7,21 @@ mod fault;
 mod items;
 mod moment;
 mod op;
+mod outcome;
 mod placement;
+mod transaction;
+mod update;
 
-pub use basic::{Basic, apply, apply_owned};
-pub use draft::{Draft, Slot, settle};
+pub use basic::{Basic, apply, apply_all, apply_owned};
+pub use draft::{Draft, FixedForm, Slot, settle};
 pub use fault::WriteFault;
 pub use items::Items;
 pub use moment::Moment;
-pub use op::{Kept, Op, Outcome};
+pub use op::Op;
+pub use outcome::{Kept, Outcome};
 pub use placement::Placement;
+pub use transaction::Transaction;
+pub use update::Update;
 
 #[cfg(test)]
 mod tests;

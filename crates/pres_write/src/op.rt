@@ -1,19 +1,24 @@
 //! Operations, in code and in JSON, and what they come to.
 
-ghost use Rattle.std.specs.Prelude.{◌≡◌, ◌⊎◌, All, IfOk, IfErr, Ok, Err, MatchResult, string_bytes};
+ghost use Rattle.std.specs.Prelude.{◌≡◌, ◌⊎◌, [], All, IfOk, IfErr, Ok, Err, MatchResult, string_bytes};
 ghost use Rattle.serde_json.specs.View.{view};
 ghost use Rattle.pres_tree.specs.declared.fault.TreeFault.TheVariants.{Memory};
-ghost use Rattle.pres_write.specs.Basics.{FitsThere};
-ghost use Rattle.pres_write.specs.Outcomes.{resolved, kept_of, writes_in};
-ghost use Rattle.pres_write.specs.OpForms.{op_read, set_read, op_json, set_json, remove_form, set_form};
+ghost use Rattle.serde_json.specs.Find.{as_object};
+ghost use Rattle.pres_tree.specs.Rows.{Fits};
+ghost use Rattle.pres_write.specs.Basics.{Apart, FitsThere};
+ghost use Rattle.pres_write.specs.Outcomes.{resolved, writes_in};
+ghost use Rattle.pres_write.specs.OpForms.{op_read, form_read, set_read, update_read, tx_read, with_part, op_json, set_json, remove_form, set_form, update_form, tx_form};
 ghost use Rattle.pres_write.specs.declared.fault.WriteFault.TheVariants.{Tree as TreeRefused};
 
-use crate::basic::Basic;
-use crate::draft::{Draft, settle};
+use crate::basic::settled_write;
+use crate::draft::{Draft, FixedForm};
 use crate::fault::WriteFault;
 use crate::items::Items;
 use crate::moment::Moment;
+use crate::outcome::Outcome;
 use crate::placement::Placement;
+use crate::transaction::Transaction;
+use crate::update::Update;
 use pres_tree::{Path, Tree};
 use serde_json::{Value, json};
 use std::alloc::{AllocError, Global};
@@ -23,39 +28,10 @@ use std::alloc::{AllocError, Global};
 pub enum Op {
     /// Puts a value in the place of all that stands at the path; null removes it.
     Set(Placement),
-}
-
-/// What an operation comes to at a moment.
-#[derive(Drop)]
-pub enum Outcome {
-    /// These writes.
-    Wrote(Items<Basic>),
-}
-
-/// An outcome without its writes.
-#[derive(Clone, Copy, Debug, PartialEq, Eq)]
-pub enum Kept {
-    Wrote,
-}
-
-impl Outcome {
-    /// The outcome without its writes.
-    pub fn kept(&self) -> Kept
-        ensures { result ≡ kept_of self.now }
-    {
-        match self {
-            Outcome::Wrote(_) => Kept::Wrote,
-        }
-    }
-
-    /// Its writes, which are moved.
-    pub fn into_writes(self) -> Items<Basic>
-        ensures { result ≡ writes_in self }
-    {
-        match self {
-            Outcome::Wrote(writes) => writes,
-        }
-    }
+    /// Puts values at several places, all of them or none.
+    Update(Update),
+    /// Puts a value where the path holds exactly an expected one.
+    Tx(Transaction),
 }
 
 // The JSON value of a remove at the path of the text.
@@ -72,6 +48,46 @@ fn set_form(alloc: Global, path: String, value: Value) -> Result<Value, AllocErr
     json!(in alloc; {"op": "set", "path": path, "value": value})
 }
 
+// The JSON value of an update at the path of the text.
+fn update_form(alloc: Global, path: String, values: Value) -> Result<Value, AllocError>
+    ensures { IfOk result (λ made. view made ≡ update_form (string_bytes path) (view values)) }
+{
+    json!(in alloc; {"op": "update", "path": path, "values": values})
+}
+
+// The JSON value of a transaction at the path of the text.
+fn tx_form(
+    alloc: Global,
+    path: String,
+    expect: Value,
+    value: Value,
+) -> Result<Value, AllocError>
+    ensures { IfOk result (λ made. view made ≡ tx_form (string_bytes path) (view expect) (view value)) }
+{
+    json!(in alloc; {"expect": expect, "op": "tx", "path": path, "value": value})
+}
+
+// The JSON value of an update.
+fn update_value(alloc: Global, update: &Update) -> Result<Value, AllocError>
+    ensures json { IfOk result (λ made. view made ≡ op_json (Op.Update update.now)) }
+    ensures reads_back { IfOk result (λ made. op_read (view made) ≡ Ok (Op.Update update.now)) }
+{
+    let path = update.path().text(alloc)?;
+    let values = update.values(alloc)?;
+    update_form(alloc, path, Value::Object(values))
+}
+
+// The JSON value of a transaction.
+fn tx_value(alloc: Global, tx: &Transaction) -> Result<Value, AllocError>
+    ensures json { IfOk result (λ made. view made ≡ op_json (Op.Tx tx.now)) }
+    ensures reads_back { IfOk result (λ made. op_read (view made) ≡ Ok (Op.Tx tx.now)) }
+{
+    let path = tx.path().text(alloc)?;
+    let expect = tx.expect().to_value(alloc)?;
+    let value = tx.draft().to_value(alloc)?;
+    tx_form(alloc, path, expect, value)
+}
+
 // The JSON value of the set of a draft at its path.
 fn set_value(alloc: Global, placement: &Placement) -> Result<Value, AllocError>
     ensures json { IfOk result (λ made. view made ≡ set_json placement.now.0 placement.now.1) }
@@ -85,9 +101,105 @@ fn set_value(alloc: Global, placement: &Placement) -> Result<Value, AllocError>
     set_form(alloc, path, value)
 }
 
+// What the draft at its path comes to at the moment.
+fn one_write(
+    alloc: Global,
+    path: Path,
+    draft: &Draft,
+    moment: Moment,
+) -> Result<Outcome, AllocError>
+    requires { Fits path draft.now }
+    ensures outcome { IfOk result (λ outcome. outcome ≡ resolved [] moment (Op.Set (path, draft.now))) }
+    ensures fits { IfOk result (λ outcome. All FitsThere (writes_in outcome)) }
+    ensures apart { IfOk result (λ outcome. Apart (writes_in outcome)) }
+{
+    let write = settled_write(alloc, path, draft, moment)?;
+    Ok(Outcome::Wrote(Items::one(alloc, write)?))
+}
+
+// The update of a path's text and the JSON value of its places.
+fn read_update(alloc: Global, text: &str, values: &Value) -> Result<Op, WriteFault>
+    ensures { MatchResult result
+        (λ op. with_part (as_object (view values.now)) (update_read text.now) ≡ Ok op)
+        (λ e. (e ≡ TreeRefused Memory) ⊎ (with_part (as_object (view values.now)) (update_read text.now) ≡ Err e)) }
+{
+    let Some(members) = values.as_object() else {
+        return Err(WriteFault::Shape);
+    };
+    let path = Path::parse(alloc, text)?;
+    Ok(Op::Update(Update::from_members(alloc, path, members)?))
+}
+
+// The set of a path's text and a JSON value.
+fn read_set(alloc: Global, text: &str, value: &Value) -> Result<Op, WriteFault>
+    ensures { MatchResult result
+        (λ op. set_read text.now (view value.now) ≡ Ok op)
+        (λ e. (e ≡ TreeRefused Memory) ⊎ (set_read text.now (view value.now) ≡ Err e)) }
+{
+    let path = Path::parse(alloc, text)?;
+    let draft = Draft::from_value_below(alloc, value, &path)?;
+    Ok(Op::Set(Placement::fitting(path, draft)))
+}
+
+// The transaction of a path's text and two JSON values.
+fn read_tx(
+    alloc: Global,
+    text: &str,
+    expect: &Value,
+    value: &Value,
+) -> Result<Op, WriteFault>
+    ensures { MatchResult result
+        (λ op. tx_read text.now (view expect.now) (view value.now) ≡ Ok op)
+        (λ e. (e ≡ TreeRefused Memory) ⊎ (tx_read text.now (view expect.now) (view value.now) ≡ Err e)) }
+{
+    let path = Path::parse(alloc, text)?;
+    let expect = Tree::from_value_as::<FixedForm>(alloc, expect, &path)?;
+    let new = Draft::from_value_below(alloc, value, &path)?;
+    Ok(Op::Tx(Transaction::fitting(path, expect, new)))
+}
+
+// The operation of the form that the word names, at a path's text.
+fn read_form(
+    alloc: Global,
+    value: &Value,
+    word: &str,
+    text: &str,
+) -> Result<Op, WriteFault>
+    ensures { MatchResult result
+        (λ op. form_read (view value.now) word.now text.now ≡ Ok op)
+        (λ e. (e ≡ TreeRefused Memory) ⊎ (form_read (view value.now) word.now text.now ≡ Err e)) }
+{
+    if word == "remove" {
+        return read_set(alloc, text, &Value::Null);
+    }
+    if word == "update" {
+        let Some(values) = value.get("values") else {
+            return Err(WriteFault::Shape);
+        };
+        return read_update(alloc, text, values);
+    }
+    let Some(new) = value.get("value") else {
+        return Err(WriteFault::Shape);
+    };
+    if word == "set" {
+        return read_set(alloc, text, new);
+    }
+    let Some(expect) = value.get("expect") else {
+        return Err(WriteFault::Shape);
+    };
+    if word == "tx" {
+        read_tx(alloc, text, expect, new)
+    } else {
+        Err(WriteFault::Shape)
+    }
+}
+
 impl Op {
     /// The operation of a JSON value. Names that no form has are ignored. Refused, in this order:
-    /// Shape, what the path is refused for, what the value is refused for below that path.
+    /// Shape; what the path is refused for; of a set what the value is refused for below that
+    /// path, of an update ManyPaths, then in byte order of the names what each name as a path and
+    /// its value are refused for, then Overlap, of a transaction what the expected value and then
+    /// the new one are refused for.
     pub fn from_value(alloc: Global, value: &Value) -> Result<Op, WriteFault>
         ensures { MatchResult result
             (λ op. op_read (view value.now) ≡ Ok op)
@@ -96,31 +208,10 @@ impl Op {
         let Some(word) = value.get("op").and_then(Value::as_str) else {
             return Err(WriteFault::Shape);
         };
-        let Some(path) = value.get("path").and_then(Value::as_str) else {
+        let Some(text) = value.get("path").and_then(Value::as_str) else {
             return Err(WriteFault::Shape);
         };
-        if word == "remove" {
-            return Op::read_set(alloc, path, &Value::Null);
-        }
-        let Some(new) = value.get("value") else {
-            return Err(WriteFault::Shape);
-        };
-        if word == "set" {
-            Op::read_set(alloc, path, new)
-        } else {
-            Err(WriteFault::Shape)
-        }
-    }
-
-    // The set of a path's text and a JSON value.
-    fn read_set(alloc: Global, text: &str, value: &Value) -> Result<Op, WriteFault>
-        ensures { MatchResult result
-            (λ op. set_read text.now (view value.now) ≡ Ok op)
-            (λ e. (e ≡ TreeRefused Memory) ⊎ (set_read text.now (view value.now) ≡ Err e)) }
-    {
-        let path = Path::parse(alloc, text)?;
-        let draft = Draft::from_value_below(alloc, value, &path)?;
-        Ok(Op::Set(Placement::fitting(path, draft)))
+        read_form(alloc, value, word, text)
     }
 
     /// The JSON value of the operation: a set of null is printed as remove. Read again, it is an
@@ -131,6 +222,8 @@ impl Op {
     {
         match self {
             Op::Set(placement) => set_value(alloc, placement),
+            Op::Update(update) => update_value(alloc, update),
+            Op::Tx(tx) => tx_value(alloc, tx),
         }
     }
 
@@ -138,20 +231,20 @@ impl Op {
     pub fn resolve(&self, alloc: Global, tree: &Tree, moment: Moment) -> Result<Outcome, WriteFault>
         ensures outcome { IfOk result (λ outcome. outcome ≡ resolved tree.now moment self.now) }
         ensures fits { IfOk result (λ outcome. All FitsThere (writes_in outcome)) }
+        ensures apart { IfOk result (λ outcome. Apart (writes_in outcome)) }
         ensures err { IfErr result (λ e. e ≡ TreeRefused Memory) }
     {
         match self {
             Op::Set(placement) => {
-                let value = settle(alloc, placement.draft(), moment)?;
-                let value = if value.is_empty() { None } else { Some(value) };
                 let path = placement.path().copy(alloc)?;
-                let writes = Items::one(alloc, Basic { path, value })?;
-                Ok(Outcome::Wrote(writes))
+                Ok(one_write(alloc, path, placement.draft(), moment)?)
             }
+            Op::Update(update) => Ok(Outcome::Wrote(update.writes(alloc, moment)?)),
+            Op::Tx(tx) => Ok(tx.compare(alloc, tree, moment)?),
         }
     }
 
-    /// The same of an operation that isn't needed any more: its path is moved, and not copied.
+    /// The same of an operation that isn't needed any more: the path of a set is moved.
     pub fn resolve_owned(
         self,
         alloc: Global,
@@ -160,16 +253,16 @@ impl Op {
     ) -> Result<Outcome, WriteFault>
         ensures outcome { IfOk result (λ outcome. outcome ≡ resolved tree.now moment self) }
         ensures fits { IfOk result (λ outcome. All FitsThere (writes_in outcome)) }
+        ensures apart { IfOk result (λ outcome. Apart (writes_in outcome)) }
         ensures err { IfErr result (λ e. e ≡ TreeRefused Memory) }
     {
         match self {
             Op::Set(placement) => {
                 let (path, draft) = placement.into_parts();
-                let value = settle(alloc, &draft, moment)?;
-                let value = if value.is_empty() { None } else { Some(value) };
-                let writes = Items::one(alloc, Basic { path, value })?;
-                Ok(Outcome::Wrote(writes))
+                Ok(one_write(alloc, path, &draft, moment)?)
             }
+            Op::Update(update) => Ok(Outcome::Wrote(update.writes(alloc, moment)?)),
+            Op::Tx(tx) => Ok(tx.compare(alloc, tree, moment)?),
         }
     }
 
@@ -179,6 +272,8 @@ impl Op {
     {
         match self {
             Op::Set(placement) => Ok(Op::Set(placement.copy(alloc)?)),
+            Op::Update(update) => Ok(Op::Update(update.copy(alloc)?)),
+            Op::Tx(tx) => Ok(Op::Tx(tx.copy(alloc)?)),
         }
     }
 }

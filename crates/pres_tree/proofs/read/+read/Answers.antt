@@ -24,12 +24,12 @@ pub read_at-returns-then-is_leaf-clause-shallow : goal.read_at-returns-then-is_l
 read_at-returns-then-is_leaf-clause-shallow g t c = subst (Shallow c.args.left) (sym c.scalar.ensures) (Shallow-leaf c.args.left c.in_ok-read.field-0 (omega arith))
 
 pub read_items-loop-item-init : goal.read_items-loop-item-init
-read_items-loop-item-init g t c = (refl, items_start g.L.Leaf.reading c.args.left (items_view c.deref-item-items.result.now) c.new-children.result.entries c.new-children.ensures.empty c.new-children.ensures.ordered)
+read_items-loop-item-init g t c = (refl, items_start g.F.Form.reading c.args.left (items_view c.deref-item-items.result.now) c.new-children.result.entries c.new-children.ensures.empty c.new-children.ensures.ordered)
 
 pub read_items-loop-item-preserved : goal.read_items-loop-item-preserved
 read_items-loop-item-preserved g t c =
     let l = c.loop-item in
-    let f = g.L.Leaf.reading in
+    let f = g.F.Form.reading in
     let i = l.item-index in
     let items = c.deref-item-items.result.now in
     let es = l.children.entries in
@@ -77,7 +77,7 @@ read_items-of_children-requires-clause-value g t c =
 pub read_items-returns-in-None-clause-read : goal.read_items-returns-in-None-clause-read
 read_items-returns-in-None-clause-read g t c =
     let l = c.loop-item in
-    let f = g.L.Leaf.reading in
+    let f = g.F.Form.reading in
     let items = c.deref-item-items.result.now in
     let done : drop l.item-index items ≡ [] = drop_all l.item-index items c.loop-item-test.false in
     let value = c.deref-item-items.ensures.value in
@@ -93,19 +93,19 @@ read_items-returns-in-None-clause-shallow g t c =
 
 pub read_at-returns-in-Array-clause-shallow : goal.read_at-returns-in-Array-clause-shallow
 read_at-returns-in-Array-clause-shallow g t c =
-    let f = g.L.Leaf.reading in
+    let f = g.F.Form.reading in
     let ds = items_view c.in-Array.items.items in
     Shallow-result _ _ c.args.left c.saturating_sub.result (items_rows f 0 ds) c.read_items.result c.saturating_sub.ensures (items-root f 0 ds) c.read_items.ensures.read c.read_items.ensures.shallow
 
 pub read_at-returns-in-Object-clause-shallow : goal.read_at-returns-in-Object-clause-shallow
 read_at-returns-in-Object-clause-shallow g t c =
-    let f = g.L.Leaf.reading in
+    let f = g.F.Form.reading in
     let ms = members_view c.in-Object.members.entries in
     Shallow-result _ _ c.args.left c.saturating_sub-in-Object.result (members_rows f ms) c.read_members.result c.saturating_sub-in-Object.ensures (members-root f ms) c.read_members.ensures.read c.read_members.ensures.shallow
 
 pub read_members-loop-name-init : goal.read_members-loop-name-init
 read_members-loop-name-init g t c =
-    let f = g.L.Leaf.reading in
+    let f = g.F.Form.reading in
     let all = c.into_iter-name-iterator.result in
     let same = c.into_iter-name-iterator.ensures.into_iter_gives ∙ c.iter-name-items.ensures.rest in
     let none = c.new-children.ensures.empty in (
@@ -118,7 +118,7 @@ read_members-loop-name-init g t c =
 pub read_members-loop-name-preserved-then-not-is_empty : goal.read_members-loop-name-preserved-then-not-is_empty
 read_members-loop-name-preserved-then-not-is_empty g t c =
     let l = c.loop-name in
-    let f = g.L.Leaf.reading in
+    let f = g.F.Form.reading in
     let rest = c.next.new.self in
     let es = l.children.entries in
     let steps = c.in-Some.ensures.steps in
@@ -150,7 +150,7 @@ read_members-loop-name-preserved-then-not-is_empty g t c =
 pub read_members-loop-name-preserved : goal.read_members-loop-name-preserved
 read_members-loop-name-preserved g t c =
     let l = c.loop-name in
-    let f = g.L.Leaf.reading in
+    let f = g.F.Form.reading in
     let rest = c.next.new.self in
     let es = l.children.entries in
     let steps = c.in-Some.ensures.steps in

@@ -1,7 +1,0 @@
-use Rattle.std.proofs.Common.{◌≡◌, take}
-use Rattle.std.specs.Prelude.{string_bytes}
-use Rattle.pres_tree.specs.Paths.{keys_text}
-use Rattle.pres_tree.proofs.path.Path.text.Given as goal
-
-abbrev pub invariant-loop-key : goal.invariant-loop-key
-invariant-loop-key l = string_bytes l.text ≡ keys_text (take l.key-index l.key-items)

@@ -1,0 +1,78 @@
+//! What operations come to.
+
+ghost use Rattle.std.specs.Prelude.{◌≡◌, IfOk};
+ghost use Rattle.pres_write.specs.Outcomes.{kept_of};
+
+use crate::basic::Basic;
+use crate::items::Items;
+use pres_tree::Tree;
+use std::alloc::{AllocError, Global};
+
+/// What an operation comes to at a moment.
+#[derive(Drop)]
+pub enum Outcome {
+    /// These writes, of which no path is at or above another's.
+    Wrote(Items<Basic>),
+    /// Nothing: the place of a transaction held this value, and not the expected one.
+    Stale(Option<Tree>),
+}
+
+/// An outcome without its writes.
+#[derive(Drop)]
+pub enum Kept {
+    Wrote,
+    Stale(Option<Tree>),
+}
+
+fn held_copy(alloc: Global, held: &Option<Tree>) -> Result<Option<Tree>, AllocError>
+    ensures { IfOk result (λ made. made ≡ held.now) }
+{
+    match held {
+        Some(value) => Ok(Some(value.copy(alloc)?)),
+        None => Ok(None),
+    }
+}
+
+impl Outcome {
+    /// The outcome without its writes.
+    pub fn kept(&self, alloc: Global) -> Result<Kept, AllocError>
+        ensures { IfOk result (λ kept. kept ≡ kept_of self.now) }
+    {
+        match self {
+            Outcome::Wrote(_) => Ok(Kept::Wrote),
+            Outcome::Stale(held) => Ok(Kept::Stale(held_copy(alloc, held)?)),
+        }
+    }
+
+    /// An equal outcome.
+    pub fn copy(&self, alloc: Global) -> Result<Outcome, AllocError>
+        ensures { IfOk result (λ made. made ≡ self.now) }
+    {
+        match self {
+            Outcome::Wrote(writes) => Ok(Outcome::Wrote(copies(alloc, writes)?)),
+            Outcome::Stale(held) => Ok(Outcome::Stale(held_copy(alloc, held)?)),
+        }
+    }
+}
+
+fn copies(alloc: Global, writes: &Items<Basic>) -> Result<Items<Basic>, AllocError>
+    ensures { IfOk result (λ made. made ≡ writes.now) }
+{
+    let mut made = Vec::new(alloc);
+    for write in writes.as_slice() {
+        made.push(write.copy(alloc)?)?;
+    }
+    Ok(Items::of(made))
+}
+
+impl Kept {
+    /// An equal outcome.
+    pub fn copy(&self, alloc: Global) -> Result<Kept, AllocError>
+        ensures { IfOk result (λ made. made ≡ self.now) }
+    {
+        match self {
+            Kept::Wrote => Ok(Kept::Wrote),
+            Kept::Stale(held) => Ok(Kept::Stale(held_copy(alloc, held)?)),
+        }
+    }
+}

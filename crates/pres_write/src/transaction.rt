@@ -1,0 +1,139 @@
+//! Transactions: a new draft for a place, if that holds the expected value.
+
+ghost use Rattle.std.specs.Prelude.{◌≡◌, ◌↔◌, ◌+◌, ◌<◌, ◌⊎◌, All, IfOk, IsTrue, MatchResult, length, option_copied};
+ghost use Rattle.pres_tree.specs.Paths.{IsPath};
+ghost use Rattle.pres_tree.specs.Rows.{Fits, depth_of, rows_in};
+ghost use Rattle.pres_write.specs.Basics.{Apart, FitsThere};
+ghost use Rattle.pres_write.specs.Outcomes.{compared, writes_in};
+
+use crate::basic::settled_write;
+use crate::draft::Draft;
+use crate::items::Items;
+use crate::moment::Moment;
+use crate::outcome::Outcome;
+use pres_tree::{Path, Tree, TreeFault};
+use std::alloc::{AllocError, Global};
+use std::marker::Model;
+
+// The keys from the root to the deepest leaf.
+const DEEPEST: usize = 32;
+
+/// A draft for the path, which is written if the path holds exactly the expected value. No leaf of
+/// either is more than 32 keys from the root.
+#[derive(Drop)]
+pub struct Transaction {
+    path: Path,
+    expect: Tree,
+    new: Draft,
+}
+
+impl Model for Transaction {
+    ghost use Rattle.pres_write.specs.Transactions.{Comparison, IsTransaction};
+
+    ghost Value = { Comparison };
+
+    ghost view = { λ t. record { path = t.path; expect = t.expect; new = t.new } };
+
+    ghost invariant = { λ t. IsTransaction (record { path = t.path; expect = t.expect; new = t.new }) };
+}
+
+impl Transaction {
+    /// The transaction, refused as TooDeep where a leaf of one of its values would stand below 32
+    /// keys.
+    pub fn new(path: Path, expect: Tree, new: Draft) -> Result<Transaction, TreeFault>
+        ensures { MatchResult result
+            (λ t. t ≡ record { path = path; expect = expect; new = new })
+            (λ e. (e ≡ TreeFault.TooDeep) × ((32 < length path + depth_of expect) ⊎ (32 < length path + depth_of new))) }
+    {
+        let keys = path.len();
+        if keys + expect.depth() > DEEPEST || keys + new.depth() > DEEPEST {
+            return Err(TreeFault::TooDeep);
+        }
+        Ok(Transaction { path, expect, new })
+    }
+
+    // The same where it is known to fit.
+    pub(crate) fn fitting(path: Path, expect: Tree, new: Draft) -> Transaction
+        requires expect { Fits path expect }
+        requires new { Fits path new }
+        ensures { result ≡ record { path = path; expect = expect; new = new } }
+    {
+        Transaction { path, expect, new }
+    }
+
+    /// The path.
+    pub fn path(&self) -> &Path
+        ensures path { result.now ≡ self.now.path }
+        ensures keys { IsPath self.now.path }
+        ensures expect { Fits self.now.path self.now.expect }
+        ensures new { Fits self.now.path self.now.new }
+    {
+        // it ensures that the path is one
+        let _ = self.path.len();
+        &self.path
+    }
+
+    /// The value that the path is to hold.
+    pub fn expect(&self) -> &Tree
+        ensures { result.now ≡ self.now.expect }
+    {
+        &self.expect
+    }
+
+    /// The draft that takes its place.
+    pub fn draft(&self) -> &Draft
+        ensures { result.now ≡ self.now.new }
+    {
+        &self.new
+    }
+
+    // Whether the value held is the expected one.
+    fn is_expected(&self, held: Option<&Tree>) -> bool
+        ensures { IsTrue result ↔ (rows_in (option_copied held.entry) ≡ self.now.expect) }
+    {
+        match held {
+            Some(held) => held.equal(&self.expect),
+            None => self.expect.is_empty(),
+        }
+    }
+
+    /// What it comes to on the tree at the moment.
+    pub fn compare(
+        &self,
+        alloc: Global,
+        tree: &Tree,
+        moment: Moment,
+    ) -> Result<Outcome, AllocError>
+        ensures outcome { IfOk result (λ outcome. outcome ≡ compared tree.now moment self.now) }
+        ensures fits { IfOk result (λ outcome. All FitsThere (writes_in outcome)) }
+        ensures apart { IfOk result (λ outcome. Apart (writes_in outcome)) }
+    {
+        let held = tree.at(&self.path);
+        if !self.is_expected(held) {
+            return Ok(Outcome::Stale(copied(alloc, held)?));
+        }
+        let path = self.path.copy(alloc)?;
+        let write = settled_write(alloc, path, &self.new, moment)?;
+        Ok(Outcome::Wrote(Items::one(alloc, write)?))
+    }
+
+    /// An equal transaction.
+    pub fn copy(&self, alloc: Global) -> Result<Transaction, AllocError>
+        ensures { IfOk result (λ made. made ≡ self.now) }
+    {
+        Ok(Transaction {
+            path: self.path.copy(alloc)?,
+            expect: self.expect.copy(alloc)?,
+            new: self.new.copy(alloc)?,
+        })
+    }
+}
+
+fn copied(alloc: Global, held: Option<&Tree>) -> Result<Option<Tree>, AllocError>
+    ensures { IfOk result (λ made. made ≡ option_copied held.entry) }
+{
+    match held {
+        Some(held) => Ok(Some(held.copy(alloc)?)),
+        None => Ok(None),
+    }
+}

@@ -1,0 +1,185 @@
+//! Updates: drafts at several places, written all or none.
+
+ghost use Rattle.std.specs.Prelude.{◌≡◌, ◌⊎◌, ◌≤◌, ◌++◌, All, IfOk, MatchResult, Ok, Err, Some, None, length};
+ghost use Rattle.std.specs.BTreeMap.{IsOrdered};
+ghost use Rattle.std.specs.Map.{keys_of};
+ghost use Rattle.serde_json.specs.View.{view, members_view};
+ghost use Rattle.pres_tree.specs.Paths.{IsPath, segments, path_cmp, overlap};
+ghost use Rattle.pres_tree.specs.Reading.{rows_of};
+ghost use Rattle.pres_tree.specs.declared.fault.TreeFault.TheVariants.{Memory};
+ghost use Rattle.pres_write.specs.Basics.{Apart, FitsThere};
+ghost use Rattle.pres_write.specs.Drafts.{slot_reading};
+ghost use Rattle.pres_write.specs.OpForms.{below_read, place_fault, values_json};
+ghost use Rattle.pres_write.specs.Updates.{FitsBelow, update_writes};
+ghost use Rattle.pres_write.specs.declared.fault.WriteFault.TheVariants.{Tree as TreeRefused};
+
+use crate::basic::{Basic, settled_write};
+use crate::draft::Draft;
+use crate::fault::WriteFault;
+use crate::items::Items;
+use crate::moment::Moment;
+use pres_tree::{Path, TreeFault};
+use serde_json::{Map, Value};
+use std::alloc::{AllocError, Global};
+use std::collections::BTreeMap;
+use std::marker::Model;
+
+// The places of the largest update.
+const MOST: usize = 256;
+
+/// Drafts at 0 to 256 places below a path, of which none is at or above another. Contracts see
+/// the path, and the places in path order with the path cut off.
+#[derive(Drop)]
+pub struct Update {
+    path: Path,
+    places: BTreeMap<Path, Draft>,
+}
+
+impl Model for Update {
+    ghost use Rattle.pres_write.specs.Updates.{PlacesBelow, IsUpdate};
+
+    ghost Value = { PlacesBelow };
+
+    ghost view = { λ u. record { path = u.path; places = u.places.entries } };
+
+    ghost invariant = { λ u. IsUpdate (record { path = u.path; places = u.places.entries }) };
+}
+
+impl Update {
+    /// The update of the drafts under their names, path texts below the path. Refused, in this
+    /// order: ManyPaths, then in byte order of the names what a name is refused for as a path,
+    /// TooDeep, what its draft is refused for, and at last Overlap.
+    pub fn from_members(
+        alloc: Global,
+        path: Path,
+        members: &Map<String, Value>,
+    ) -> Result<Update, WriteFault>
+        ensures { MatchResult result
+            (λ update. below_read path (members_view members.now.entries) ≡ Ok update)
+            (λ e. (e ≡ TreeRefused Memory) ⊎ (below_read path (members_view members.now.entries) ≡ Err e)) }
+    {
+        if members.len() > MOST {
+            return Err(WriteFault::ManyPaths);
+        }
+        let mut places = BTreeMap::new(alloc);
+        let mut is_twice = false;
+        for (name, value) in members.iter() {
+            let (place, draft) = read_place(alloc, &path, name.as_str(), value)?;
+            if places.insert(place, draft)?.is_some() {
+                is_twice = true;
+            }
+        }
+        if is_twice || overlaps(&places) {
+            return Err(WriteFault::Overlap);
+        }
+        Ok(Update { path, places })
+    }
+
+    /// The path.
+    pub fn path(&self) -> &Path
+        ensures path { result.now ≡ self.now.path }
+        ensures keys { IsPath self.now.path }
+    {
+        // it ensures that the path is one
+        let _ = self.path.len();
+        &self.path
+    }
+
+    /// How many places it has.
+    pub fn len(&self) -> usize
+        ensures len { result ≡ length self.now.places }
+        ensures few { result ≤ 256 }
+    {
+        self.places.len()
+    }
+
+    /// The JSON object of the drafts under their names. Read again, it is the same update.
+    pub fn values(&self, alloc: Global) -> Result<Map<String, Value>, AllocError>
+        ensures json { IfOk result (λ made. members_view made.entries ≡ values_json self.now.places) }
+        ensures reads_back { IfOk result (λ made. below_read self.now.path (members_view made.entries) ≡ Ok self.now) }
+    {
+        let mut values = Map::new(alloc);
+        for (place, draft) in self.places.iter() {
+            let name = place.name(alloc)?;
+            drop(values.insert(name, draft.to_value(alloc)?)?);
+        }
+        Ok(values)
+    }
+
+    /// Its writes at the moment, in path order.
+    pub fn writes(&self, alloc: Global, moment: Moment) -> Result<Items<Basic>, AllocError>
+        ensures writes { IfOk result (λ writes. writes ≡ update_writes moment self.now) }
+        ensures fits { IfOk result (λ writes. All FitsThere writes) }
+        ensures apart { IfOk result (λ writes. Apart writes) }
+    {
+        let mut writes = Vec::new(alloc);
+        for (place, draft) in self.places.iter() {
+            let path = whole_path(alloc, &self.path, place)?;
+            writes.push(settled_write(alloc, path, draft, moment)?)?;
+        }
+        Ok(Items::of(writes))
+    }
+
+    /// An equal update.
+    pub fn copy(&self, alloc: Global) -> Result<Update, AllocError>
+        ensures { IfOk result (λ made. made ≡ self.now) }
+    {
+        let mut places = BTreeMap::new(alloc);
+        for (place, draft) in self.places.iter() {
+            let place = place.copy(alloc)?;
+            drop(places.insert(place, draft.copy(alloc)?)?);
+        }
+        Ok(Update {
+            path: self.path.copy(alloc)?,
+            places,
+        })
+    }
+}
+
+// The place of a name below the path, and the draft there. Refused for the name as a path, then
+// where the place has too many keys, then for its draft.
+fn read_place(
+    alloc: Global,
+    path: &Path,
+    name: &str,
+    value: &Value,
+) -> Result<(Path, Draft), TreeFault>
+    ensures read { MatchResult result
+        (λ place. (place_fault path.now name.now (view value.now) ≡ None) × (place ≡ (segments name.now, rows_of slot_reading (view value.now))))
+        (λ e. (e ≡ Memory) ⊎ (place_fault path.now name.now (view value.now) ≡ Some e)) }
+    ensures fits { IfOk result (λ place. FitsBelow path.now place) }
+{
+    let place = Path::parse(alloc, name)?;
+    let whole = path.join(alloc, &place)?;
+    let draft = Draft::from_value_below(alloc, value, &whole)?;
+    Ok((place, draft))
+}
+
+// Whether one of the places is above another.
+fn overlaps(places: &BTreeMap<Path, Draft>) -> bool
+    requires { IsOrdered path_cmp places.now }
+    ensures { result ≡ overlap (keys_of places.now.entries) }
+{
+    let mut last: Option<&Path> = None;
+    for (place, _) in places.iter() {
+        if let Some(above) = last {
+            if above.is_prefix_of(place) {
+                return true;
+            }
+        }
+        last = Some(place);
+    }
+    false
+}
+
+// The path of a place below the path.
+fn whole_path(alloc: Global, path: &Path, place: &Path) -> Result<Path, AllocError>
+    requires { IsPath (path.now ++ place.now) }
+    ensures { IfOk result (λ whole. whole ≡ path.now ++ place.now) }
+{
+    match path.join(alloc, place) {
+        Ok(whole) => Ok(whole),
+        // of 32 keys at most, it is never too deep
+        Err(_) => Err(AllocError),
+    }
+}
