@@ -1,5 +1,5 @@
 -- one more record changes the rows of its own client alone, and keeps the numbers in turn
-use Rattle.std.proofs.Common.{◌≡◌, ◌+◌, [], ◌∷◌, ◌++◌, length, sym, ◌∙◌, ap, subst}
+use Rattle.std.proofs.Common.{◌+◌, [], ◌∷◌, ◌++◌, length, sym, ◌∙◌, ap, subst}
 use Rattle.pres_retry.specs.declared.table.Record.{Record}
 use Rattle.pres_retry.specs.Tables.{AreNumbered, row, rows_of}
 use Rattle.pres_retry.proofs.Records.{numbered_further, own_rows, others_rows}

@@ -1,5 +1,5 @@
 -- numbers stand for places: the record with the number has the row at its place
-use Rattle.std.proofs.Common.{◌≡◌, ◌-◌, length, slice_get, sym, ◌∙◌, ap, subst, eqb-true}
+use Rattle.std.proofs.Common.{◌-◌, slice_get, sym, ◌∙◌, ap, subst, eqb-true}
 use Rattle.std.proofs.lemmas.Bool.{eqb-false}
 use Rattle.pres_retry.specs.Tables.{AreNumbered, rows_of}
 use Rattle.pres_retry.proofs.Records.{row_found, row_absent, below_further, below_others}
