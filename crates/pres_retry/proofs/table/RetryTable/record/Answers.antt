@@ -7,8 +7,8 @@ use Rattle.pres_retry.proofs.table.RetryTable.record.Goals as goal
 
 pub invariant_of-self-2 : goal.invariant_of-self-2
 invariant_of-self-2 c =
-    let r : Record = record { client = c.args.client; number = c.args.n; row = row c.args.done c.args.kept }
-    in subst AreNumbered (sym c.in_ok-push.ensures.items) (numbered_further c.self.inside.records.items r c.self.invariant (c.requires ∙ ap (λ t. length (rows_of c.args.client t) + 1) (sym c.self.view_is)))
+    subst AreNumbered (sym c.in_ok-push.ensures.items)
+    (numbered_further _ _ c.self.invariant (c.requires ∙ ap (λ t. length (rows_of c.args.client t) + 1) (sym c.self.view_is)))
 
 pub returns-clause-own : goal.returns-clause-own
 returns-clause-own c =
