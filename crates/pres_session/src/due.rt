@@ -11,7 +11,7 @@ use pres_write::Basic;
 use std::marker::Model;
 
 /// A session that ended, with its plan still to be paid. It may not be let go: it is spent with
-/// the rows that its plan owes, or put back.
+/// the rows that its plan owes, or put back. Contracts see the session as it was, and why it ended.
 pub struct Due<P> {
     session: Live<P>,
     why: Why,

@@ -13,7 +13,8 @@ use pres_wire::{Count, Number, Stamp, Why};
 use pres_write::Moment;
 use std::marker::Model;
 
-/// An open session with the plan that is owed at its end.
+/// An open session. Contracts see its stamp, its two counts, when its client was heard of last, and
+/// the plan that is owed at its end.
 #[derive(Drop)]
 pub struct Live<P> {
     stamp: Stamp,

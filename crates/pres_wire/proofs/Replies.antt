@@ -1,7 +1,7 @@
 -- A Reply's JSON is the form of that message alone.
 use Rattle.std.proofs.Common.{◌≡◌, ℕ, Some, refl, arith}
 use Rattle.std.proofs.lemmas.Bool.Decides.{nat_tests}
-use Rattle.pres_write.specs.declared.op.Kept.{Kept}
+use Rattle.pres_write.specs.declared.outcome.Kept.{Kept}
 use Rattle.pres_wire.specs.declared.id.SessionId.{SessionId}
 use Rattle.pres_wire.specs.declared.down.Down.TheVariants as down
 use Rattle.pres_wire.specs.Numbers.{IsNumber}

@@ -1,8 +1,8 @@
 -- Messages to a client as JSON.
 use Rattle.std.specs.Prelude.{ℕ, List, [], ◌∷◌, codes, Option, Some, None}
 use Rattle.serde_json.specs.Data.{Data, null, string}
-use Rattle.pres_write.specs.declared.op.Kept.{Kept}
-use Rattle.pres_write.specs.declared.op.Kept.TheVariants.{Wrote}
+use Rattle.pres_write.specs.declared.outcome.Kept.{Kept}
+use Rattle.pres_write.specs.declared.outcome.Kept.TheVariants.{Wrote}
 use Rattle.pres_wire.specs.declared.id.SessionId.{SessionId}
 use Rattle.pres_wire.specs.declared.id.Why.{Why}
 use Rattle.pres_wire.specs.declared.id.Why.TheVariants as why

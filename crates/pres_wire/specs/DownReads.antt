@@ -2,8 +2,8 @@
 use Rattle.std.specs.Prelude.{◌≡◌, ◌==◌, ℕ, List, if◌then◌else◌, codes, Option, Some, None, option_and_then, option_map, ⊤}
 use Rattle.serde_json.specs.Data.{Data, Items, no_items, item}
 use Rattle.serde_json.specs.Find.{as_null, as_str, as_array}
-use Rattle.pres_write.specs.declared.op.Kept.{Kept}
-use Rattle.pres_write.specs.declared.op.Kept.TheVariants.{Wrote}
+use Rattle.pres_write.specs.declared.outcome.Kept.{Kept}
+use Rattle.pres_write.specs.declared.outcome.Kept.TheVariants.{Wrote}
 use Rattle.pres_wire.specs.declared.id.SessionId.{SessionId}
 use Rattle.pres_wire.specs.declared.id.Stamp.{Stamp}
 use Rattle.pres_wire.specs.declared.id.Why.{Why}

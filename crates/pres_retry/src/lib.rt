@@ -1,0 +1,11 @@
+//! Answers to numbered writes, kept for good: a write that is sent again gets the answer that it
+//! had.
+#![tactic(auto)]
+
+mod fault;
+mod table;
+#[cfg(test)]
+mod tests;
+
+pub use fault::RetryFault;
+pub use table::{RetryTable, Row, Verdict};

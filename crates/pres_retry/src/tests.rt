@@ -1,0 +1,73 @@
+use super::*;
+use pres_wire::{ClientId, Number};
+use pres_write::Kept;
+use std::test::Fail;
+
+fn number(value: u64) -> Result<Number, Fail> {
+    Ok(Number::new(value).ok_or("no number")?)
+}
+
+// Keeps the answer to the client's next write.
+fn keep(
+    table: &mut RetryTable,
+    client: &ClientId,
+    done: u64,
+    rt: &HostRuntime,
+) -> Result<(), Fail> {
+    let n = table.last(client).next().ok_or("no number is left")?;
+    table.record(client.copy(rt.alloc())?, n, number(done)?, Kept::Wrote)?;
+    Ok(())
+}
+
+// Where the client's write with the number was done.
+fn done(table: &RetryTable, client: &ClientId, n: u64) -> Result<u64, Fail> {
+    match table.find(client, number(n)?) {
+        Verdict::Again(row) => Ok(row.done.get()),
+        _ => Err(Fail::from("no row")),
+    }
+}
+
+#[test]
+fn strangers_begin_with_1(rt: HostRuntime) -> Result<(), Fail> {
+    let table = RetryTable::new(rt.alloc());
+    let alice = ClientId::parse(rt.alloc(), "alice")?;
+    assert_eq!(rt; table.last(&alice).get(), 0);
+    assert!(rt; matches!(table.find(&alice, number(1)?), Verdict::New));
+    assert!(rt; matches!(table.find(&alice, number(2)?), Verdict::Gap));
+    Ok(())
+}
+
+#[test]
+fn a_resent_write_gets_the_row_that_it_had(rt: HostRuntime) -> Result<(), Fail> {
+    let mut table = RetryTable::new(rt.alloc());
+    let alice = ClientId::parse(rt.alloc(), "alice")?;
+    table.record(
+        alice.copy(rt.alloc())?,
+        Number::first(),
+        number(2)?,
+        Kept::Wrote,
+    )?;
+    assert_eq!(rt; done(&table, &alice, 1)?, 2);
+    assert!(rt; matches!(table.find(&alice, number(2)?), Verdict::New));
+    assert!(rt; matches!(table.find(&alice, number(3)?), Verdict::Gap));
+    Ok(())
+}
+
+#[test]
+fn clients_are_counted_apart(rt: HostRuntime) -> Result<(), Fail> {
+    let mut table = RetryTable::new(rt.alloc());
+    let alice = ClientId::parse(rt.alloc(), "alice")?;
+    let bob = ClientId::parse(rt.alloc(), "bob")?;
+    keep(&mut table, &alice, 3, &rt)?;
+    keep(&mut table, &alice, 6, &rt)?;
+    keep(&mut table, &bob, 7, &rt)?;
+    keep(&mut table, &alice, 9, &rt)?;
+    keep(&mut table, &bob, 8, &rt)?;
+    assert_eq!(rt; table.last(&alice).get(), 3);
+    assert_eq!(rt; table.last(&bob).get(), 2);
+    assert_eq!(rt; done(&table, &alice, 2)?, 6);
+    assert_eq!(rt; done(&table, &alice, 3)?, 9);
+    assert_eq!(rt; done(&table, &bob, 1)?, 7);
+    assert_eq!(rt; done(&table, &bob, 2)?, 8);
+    Ok(())
+}
