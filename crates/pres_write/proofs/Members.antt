@@ -99,7 +99,12 @@ module _ (p : Path) (all left : Members) (name : List ℕ) (d : Data) (twice : B
   -- the place is new
   pub read_more : None ≡ lookup (is_at (path_cmp q)) es → Read p all left twice now
   read_more none = record {
-    done = next; is = next-is; fault = next-fault; few = next-few; fit = fit-put p q v es fits r.fit; same_keys = next-keys;
+    done = next;
+    is = next-is;
+    fault = next-fault;
+    few = next-few;
+    fit = fit-put p q v es fits r.fit;
+    same_keys = next-keys;
     meets =
         ap (λ fs. twice || overlap (keys_of fs)) (insert_entry-put path_cmp q v es)
         ∙ ap (λ b. twice || b) (overlap-put path_cmp path_same (λ k. k) q v es missing)
@@ -117,7 +122,12 @@ module _ (p : Path) (all left : Members) (name : List ℕ) (d : Data) (twice : B
   -- the place was there already
   pub read_again : is_some (lookup (is_at (path_cmp q)) es) ≡ true → Read p all left true now
   read_again some = record {
-    done = next; is = next-is; fault = next-fault; few = next-few; fit = fit-put p q v es fits r.fit; same_keys = next-keys;
+    done = next;
+    is = next-is;
+    fault = next-fault;
+    few = next-few;
+    fit = fit-put p q v es fits r.fit;
+    same_keys = next-keys;
     meets = sym (next-overlap ∙ ap (λ b. b || (twice || overlap (keys_of es))) (found-meets q es (ap is_some (sym (lookup-find path_cmp q es)) ∙ some)));
     sorted = λ h. absurd (true≢false h);
   }

@@ -225,5 +225,5 @@ values_read p places order apart few fit reads =
     let free : overlap (map seg es) ≡ false = ap overlap (sym (keys-places es) ∙ ap keys_of back) ∙ apart in
     let still : overlap (keys_of (places_read (members_from ms))) ≡ false = ap overlap (ap keys_of is ∙ keys-places ms) ∙ apart-sorted_by es free in
     let same : sorted_by path_cmp (places_read (members_from ms)) ≡ places =
-        ap (sorted_by path_cmp) is ∙ sorted-sorted es free ∙ ap (sorted_by path_cmp) back ∙ sorted_by-same path_cmp path_same path_total places (rising_keys path_cmp places order) in
+    ap (sorted_by path_cmp) is ∙ sorted-sorted es free ∙ ap (sorted_by path_cmp) back ∙ sorted_by-same path_cmp path_same path_total places (rising_keys path_cmp places order) in
     λ i. cond (small i) (Err ManyPaths) (unless (sound i) (cond (still i) (Err Overlap) (Ok (record { path = p; places = same i }))))
