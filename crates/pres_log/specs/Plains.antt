@@ -3,8 +3,8 @@ use Rattle.std.specs.Prelude.{◌+◌, ℕ, [], max}
 use Rattle.pres_tree.specs.declared.scalar.Scalar.{Scalar}
 use Rattle.pres_tree.specs.Rows.{Rows}
 use Rattle.pres_write.specs.declared.op.Op.{Op}
-use Rattle.pres_write.specs.declared.op.Outcome.{Outcome}
-use Rattle.pres_write.specs.declared.op.Kept.{Kept}
+use Rattle.pres_write.specs.declared.outcome.Outcome.{Outcome}
+use Rattle.pres_write.specs.declared.outcome.Kept.{Kept}
 use Rattle.pres_write.specs.Basics.{applied}
 use Rattle.pres_write.specs.Outcomes.{resolved, kept_of, writes_in}
 

@@ -1,10 +1,14 @@
 //! Logs of what was written.
 #![tactic(auto)]
 
+mod entry;
 mod fault;
+mod log;
 mod plain;
 
+pub use entry::{Batch, Entry};
 pub use fault::Fault;
+pub use log::Log;
 pub use plain::Plain;
 
 #[cfg(test)]

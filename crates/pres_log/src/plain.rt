@@ -1,11 +1,11 @@
 //! The log of one writer without sessions.
 
-ghost use Rattle.std.specs.Prelude.{◌≡◌, ◌↔◌, ◌+◌, ◌≤◌, IsTrue, IfOk, IsErrOf, OnErr};
+ghost use Rattle.std.specs.Prelude.{◌≡◌, ◌⊎◌, ◌↔◌, ◌+◌, ◌<◌, ◌≤◌, IsTrue, IfOk, IfErr, IsErrOf, OnErr};
 ghost use Rattle.pres_log.specs.Plains.{fresh, last_number, state_after, kept_after};
 
 use crate::fault::Fault;
 use pres_tree::Tree;
-use pres_write::{Kept, Moment, Op, apply_owned};
+use pres_write::{Kept, Moment, Op, Outcome, apply_all};
 use std::alloc::Global;
 use std::marker::Model;
 
@@ -52,6 +52,7 @@ impl Plain {
         ensures answer { IfOk result (λ answer. answer ≡ (self.old.number + 1, kept_after self.old op.now now)) }
         ensures ok { IfOk result (λ _. self.new ≡ state_after self.old op.now now) }
         ensures spent { IsErrOf result Fault.Spent ↔ (self.old.number ≡ last_number) }
+        ensures busy { IfErr result (λ e. (e ≡ Fault.Busy) ⊎ (e ≡ Fault.Spent)) }
         ensures err { OnErr result (self.new ≡ self.old) }
     {
         if self.is_spent() {
@@ -68,6 +69,7 @@ impl Plain {
         ensures answer { IfOk result (λ answer. answer ≡ (self.old.number + 1, kept_after self.old op now)) }
         ensures ok { IfOk result (λ _. self.new ≡ state_after self.old op now) }
         ensures spent { IsErrOf result Fault.Spent ↔ (self.old.number ≡ last_number) }
+        ensures busy { IfErr result (λ e. (e ≡ Fault.Busy) ⊎ (e ≡ Fault.Spent)) }
         ensures err { OnErr result (self.new ≡ self.old) }
     {
         if self.is_spent() {
@@ -77,18 +79,30 @@ impl Plain {
         let Ok(outcome) = op.resolve_owned(self.alloc, &self.tree, moment) else {
             return Err(Fault::Busy);
         };
-        let kept = outcome.kept();
-        let writes = outcome.into_writes();
-        // it ensures that the tree's rows are in order
-        let _ = self.tree.is_empty();
-        match apply_owned(self.alloc, &mut self.tree, writes) {
-            Ok(()) => {
-                self.number += 1;
-                self.moment = moment;
-                Ok((self.number, kept))
+        match outcome {
+            Outcome::Wrote(writes) => {
+                let Ok(()) = apply_all(self.alloc, &mut self.tree, writes) else {
+                    return Err(Fault::Busy);
+                };
+                self.count(moment);
+                Ok((self.number, Kept::Wrote))
             }
-            Err(_) => Err(Fault::Busy),
+            Outcome::Stale(held) => {
+                // it ensures that the tree's rows are in order
+                let _ = self.tree.is_empty();
+                self.count(moment);
+                Ok((self.number, Kept::Stale(held)))
+            }
         }
+    }
+
+    // One operation more, at the moment.
+    fn count(&mut self, moment: Moment)
+        requires { self.old.number < last_number }
+        ensures { self.new ≡ record { number = self.old.number + 1; moment = moment; tree = self.old.tree } }
+    {
+        self.number += 1;
+        self.moment = moment;
     }
 
     // Whether no number is left.

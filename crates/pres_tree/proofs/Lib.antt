@@ -14,3 +14,4 @@ pub mod Shallow
 pub mod Undone
 pub mod SameChildren
 pub mod SameRows
+pub mod Swapped

@@ -64,17 +64,17 @@ below-is (k ∷ p) (l ∷ y) x e = by_key (same_key k l) refl e (below-is p y x)
 prefix-append : (p z : Path) → is_prefix p (p ++ z) ≡ true
 prefix-append p z = ap is_some (below-append p z)
 
-cons_prefix : (k m : Key) (a x : Path) → is_prefix (k ∷ a) (m ∷ x) ≡ true → (k ≡ m) × (is_prefix a x ≡ true)
+pub cons_prefix : (k m : Key) (a x : Path) → is_prefix (k ∷ a) (m ∷ x) ≡ true → (k ≡ m) × (is_prefix a x ≡ true)
 cons_prefix k m a x h = by_key (same_key k m) refl h where
   by_key : (b : Bool) → same_key k m ≡ b → is_some (cond b (below a x) None) ≡ true → (k ≡ m) × (is_prefix a x ≡ true)
   by_key true e g = (key_same k m e, g)
   by_key false e g = absurd (true≢false (sym g))
 
-under : (k m : Key) (a b : Path) → k ≡ m → is_prefix a b ≡ true → is_prefix (k ∷ a) (m ∷ b) ≡ true
+pub under : (k m : Key) (a b : Path) → k ≡ m → is_prefix a b ≡ true → is_prefix (k ∷ a) (m ∷ b) ≡ true
 under k m a b e h = ap (λ l. is_prefix (k ∷ a) (l ∷ b)) (sym e) ∙ ap (λ c. is_some (cond c (below a b) None)) (key_itself k) ∙ h
 
 -- of two paths above one place one is above the other
-above_one : (a b x : Path) → is_prefix a x ≡ true → is_prefix b x ≡ true → (is_prefix a b ≡ true) ⊎ (is_prefix b a ≡ true)
+pub above_one : (a b x : Path) → is_prefix a x ≡ true → is_prefix b x ≡ true → (is_prefix a b ≡ true) ⊎ (is_prefix b a ≡ true)
 above_one [] b x h k = inl refl
 above_one (l ∷ a) [] x h k = inr refl
 above_one (l ∷ a) (m ∷ b) [] h k = absurd (true≢false (sym h))

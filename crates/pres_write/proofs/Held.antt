@@ -1,5 +1,6 @@
 -- What a place of the tree holds, as code and as definitions tell it.
 use Rattle.std.proofs.Common.{◌≡◌, ℕ, [], ◌∷◌, Bool, true, false, cond, Option, Some, None, refl, sym, ap, subst, ◌∙◌, true≢false}
+use Rattle.std.specs.Option.{unwrap_or}
 use Rattle.std.specs.Prelude.{MatchOption, IsTrue, ◌↔◌, option_map}
 use Rattle.pres_tree.specs.declared.scalar.Scalar.{Scalar}
 use Rattle.pres_tree.specs.Rows.{Rows, IsValue, is_null, option_of, rows_in, value_at}
@@ -26,3 +27,7 @@ held_is rows (Some t) v h = sym (option_of_some (rows t) h.0) ∙ ap option_of (
 -- the outcome by the test
 pub compared_as : (tree : Rows Scalar) (moment : ℕ) (t : Comparison) (r : Bool) → IsTrue r ↔ (value_at t.path tree ≡ t.expect) → compared tree moment t ≡ cond r (Wrote (basic t.path (settled moment t.new) ∷ [])) (Stale (option_of (value_at t.path tree)))
 compared_as tree moment t r h = ap (λ b. cond b (Wrote (basic t.path (settled moment t.new) ∷ [])) (Stale (option_of (value_at t.path tree)))) (sym (same_by r (value_at t.path tree) t.expect h))
+
+pub rows_unwrapped : {A : Type 0} (o : Option (Rows A)) (d : Rows A) → d ≡ [] → unwrap_or o d ≡ rows_in o
+rows_unwrapped None d h = h
+rows_unwrapped (Some v) d h = refl

@@ -1,11 +1,12 @@
 pub mod Applied
 pub mod Depths
 pub mod Fitting
-pub mod Printed
-pub mod Slots
-pub mod Held
 pub mod Forms
-pub mod Ordered
-pub mod Overlaps
+pub mod Held
 pub mod Members
 pub mod Named
+pub mod Ordered
+pub mod Overlaps
+pub mod Printed
+pub mod Slots
+pub mod Together

@@ -3,3 +3,4 @@ pub mod Split
 pub mod Going
 pub mod Whole
 pub mod Steps
+pub mod Asked

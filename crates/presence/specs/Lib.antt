@@ -2,3 +2,4 @@ pub mod Faults
 pub mod Replies
 pub mod Lines
 pub mod Statuses
+pub mod Words

@@ -1,5 +1,5 @@
 -- Lines of a text, and what is answered to all of them.
-use Rattle.std.specs.Prelude.{◌≡◌, ◌==◌, ℕ, Bool, false, nat_lt, List, [], ◌∷◌, ◌++◌, length, Option}
+use Rattle.std.specs.Prelude.{◌≡◌, ◌==◌, ℕ, Bool, false, nat_lt, List, [], ◌∷◌, ◌++◌, length, Option, IfSome}
 use Rattle.std.specs.Io.KnownBytes.{Appends, Consumes}
 use Rattle.std.specs.List.{list_any, slice_split}
 use Rattle.presence.specs.Replies.{State, start, limit, reply, next, tree_line}
@@ -23,6 +23,10 @@ end_state input = end_of start (lines_of input)
 -- what is written for a whole input: the replies to its lines, and the tree
 abbrev pub output_of : List ℕ → List ℕ
 output_of input = replies start (lines_of input) ++ tree_line (end_state input)
+
+-- What was written for the whole input, none of whose lines was refused.
+abbrev pub Finished : Option (List ℕ) → Option (List ℕ) → Option (List ℕ) → Type 0
+Finished input before after = IfSome input (λ bytes. Appends before after (output_of bytes) × ((end_state bytes).refused ≡ false))
 
 -- The input is read as far as `rest`, and what was written is the replies to the lines that ended there.
 pub record Reached (input rest before after : Option (List ℕ)) : Type 0 where

@@ -5,11 +5,13 @@ use Rattle.serde_json.specs.Data.{Data}
 use Rattle.serde_json.specs.Find.{get, as_number, as_u64}
 use Rattle.serde_json.specs.Read.{read}
 use Rattle.serde_json.specs.Written.{compact_text}
+use Rattle.pres_tree.specs.declared.scalar.Scalar.{Scalar}
+use Rattle.pres_tree.specs.Rows.{Rows, rows_in}
 use Rattle.pres_tree.specs.Printing.{json_of}
 use Rattle.pres_tree.specs.Scalars.{scalar_printing}
 use Rattle.pres_write.specs.declared.fault.WriteFault.{WriteFault}
-use Rattle.pres_write.specs.declared.op.Kept.{Kept}
-use Rattle.pres_write.specs.declared.op.Kept.TheVariants.{Wrote}
+use Rattle.pres_write.specs.declared.outcome.Kept.{Kept}
+use Rattle.pres_write.specs.declared.outcome.Kept.TheVariants.{Wrote, Stale}
 use Rattle.pres_write.specs.declared.op.Op.{Op}
 use Rattle.pres_write.specs.Moments.{last_moment}
 use Rattle.pres_write.specs.OpForms.{op_read}
@@ -44,8 +46,14 @@ after_refusal s = record s { refused = true }
 abbrev pub refuse : State → LineFault → Step
 refuse s e = (refused_line e, after_refusal s)
 
+-- the JSON text of a value
+abbrev pub value_text : Rows Scalar → List ℕ
+value_text tree = compact_text (json_of scalar_printing tree)
+
+-- what an operation came to: it wrote, or it was stale with the value that the place held
 abbrev pub kept_line : ℕ → Kept → List ℕ
 kept_line n Wrote = decimal n ++ codes " wrote\n"
+kept_line n (Stale held) = decimal n ++ codes " stale " ++ value_text (rows_in held) ++ codes "\n"
 
 -- the log carries the operation out, under its next number
 abbrev pub carry_out : State → Op → ℕ → Step
@@ -90,4 +98,4 @@ next s line = (on_line s line).1
 
 -- the last line of the output
 abbrev pub tree_line : State → List ℕ
-tree_line s = codes "tree " ++ compact_text (json_of scalar_printing s.log.tree) ++ codes "\n"
+tree_line s = codes "tree " ++ value_text s.log.tree ++ codes "\n"

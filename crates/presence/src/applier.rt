@@ -1,13 +1,14 @@
 //! What the lines of operations do, and what is answered to each.
 
-ghost use Rattle.std.specs.Prelude.{◌≡◌, ◌++◌, OnOk, IfOk, IfErr, option_map};
+ghost use Rattle.std.specs.Prelude.{◌≡◌, ◌++◌, OnOk, IfOk, IfErr, option_map, string_bytes};
 ghost use Rattle.serde_json.specs.View.{view};
-ghost use Rattle.presence.specs.Replies.{start, refuse, carry_out, taken, tree_line, data_of, moment_in};
+ghost use Rattle.presence.specs.Replies.{start, refuse, carry_out, taken, tree_line, value_text, kept_line, data_of, moment_in};
+ghost use Rattle.pres_tree.specs.Rows.{rows_in};
 ghost use Rattle.presence.specs.Faults.{EndsAt};
 
 use crate::faults::{LineFault, RunFault};
 use pres_log::{Fault, Plain};
-use pres_tree::TreeFault;
+use pres_tree::{Tree, TreeFault};
 use pres_write::{Kept, Moment, Op, WriteFault};
 use serde_json::Value;
 use std::alloc::{AllocError, Global};
@@ -77,12 +78,10 @@ impl Applier {
     {
         let (number, kept) = match self.plain.apply_owned(op, now) {
             Ok(answer) => answer,
-            Err(Fault::Busy) => return Err(RunFault::Memory),
             Err(Fault::Spent) => return Err(RunFault::Spent),
+            Err(_) => return Err(RunFault::Memory),
         };
-        let text = match kept {
-            Kept::Wrote => format!(in self.alloc; "{number} wrote\n")?,
-        };
+        let text = kept_text(self.alloc, number, &kept)?;
         out.extend_from_slice(text.as_bytes())?;
         Ok(())
     }
@@ -106,12 +105,44 @@ impl Applier {
         ensures text { OnOk result (out.new.items ≡ out.old.items ++ tree_line self.now) }
         ensures err { IfErr result (λ e. e ≡ RunFault.Memory) }
     {
-        let value = self.plain.tree().to_value(self.alloc)?;
-        let text = value.to_string(self.alloc)?;
+        let text = json_text(self.alloc, self.plain.tree())?;
         out.extend_from_slice(b"tree ")?;
         out.extend_from_slice(text.as_bytes())?;
         out.extend_from_slice(b"\n")?;
         Ok(())
+    }
+}
+
+// The JSON text of a value.
+fn json_text(alloc: Global, tree: &Tree) -> Result<String, AllocError>
+    ensures { IfOk result (λ text. string_bytes text ≡ value_text tree.now) }
+{
+    let value = tree.to_value(alloc)?;
+    let text = value.to_string(alloc)?;
+    Ok(text)
+}
+
+// The JSON text of what a place holds.
+fn held_text(alloc: Global, held: &Option<Tree>) -> Result<String, AllocError>
+    ensures { IfOk result (λ text. string_bytes text ≡ value_text (rows_in held.now)) }
+{
+    match held {
+        Some(tree) => json_text(alloc, tree),
+        None => String::from_str(alloc, "null"),
+    }
+}
+
+// The reply to an operation that was carried out.
+fn kept_text(alloc: Global, number: u64, kept: &Kept) -> Result<String, AllocError>
+    ensures { IfOk result (λ text. string_bytes text ≡ kept_line number kept.now) }
+{
+    match kept {
+        Kept::Wrote => format!(in alloc; "{number} wrote\n"),
+        Kept::Stale(held) => {
+            let held = held_text(alloc, held)?;
+            let text = format!(in alloc; "{number} stale {held}\n")?;
+            Ok(text)
+        }
     }
 }
 

@@ -1,9 +1,10 @@
 //! The program, over its words and streams.
 
-ghost use Rattle.std.specs.Prelude.{◌≡◌, ◌⊎◌, ◌≢◌, false, IfSome};
-ghost use Rattle.std.specs.Io.KnownBytes.{Appends};
-ghost use Rattle.presence.specs.Lines.{Stopped, output_of, end_state};
+ghost use Rattle.std.specs.Prelude.{◌≡◌, ◌⊎◌, ◌≢◌, map};
+ghost use Rattle.clap.specs.Words.{kind_of};
+ghost use Rattle.presence.specs.Lines.{Finished, Stopped};
 ghost use Rattle.presence.specs.Statuses.{IsStatus};
+ghost use Rattle.presence.specs.Words.{AsksApply};
 
 use crate::apply::apply_run;
 use crate::faults::RunFault;
@@ -33,9 +34,11 @@ pub fn presence_run<R: Read, W: Write, F: Write>(
     faults: &mut F,
 ) -> u8
     ensures status { IsStatus result }
-    ensures done { result ≡ 0 → (IfSome (R.remaining input.old) (λ bytes.
-        Appends (W.contents output.old) (W.contents output.new) (output_of bytes)
-        × ((end_state bytes).refused ≡ false))) ⊎ (input.new ≡ input.old) }
+    ensures asked { AsksApply (map (λ word. word.now) words.now) → result ≢ 2 }
+    ensures applied { AsksApply (map (λ word. word.now) words.now) → result ≡ 0
+        → Finished (R.remaining input.old) (W.contents output.old) (W.contents output.new) }
+    ensures done { result ≡ 0 → Finished (R.remaining input.old)
+        (W.contents output.old) (W.contents output.new) ⊎ (input.new ≡ input.old) }
     ensures words { result ≡ 2 → (input.new ≡ input.old) × (output.new ≡ output.old) }
     ensures memory { result ≡ 5 → Stopped (R.remaining input.old)
         (W.contents output.old) (W.contents output.new) }
@@ -55,9 +58,8 @@ pub fn presence_run<R: Read, W: Write, F: Write>(
 fn apply_status<R: Read, W: Write>(alloc: Global, input: &mut R, output: &mut W) -> u8
     ensures status { IsStatus result }
     ensures words { result ≢ 2 }
-    ensures done { result ≡ 0 → IfSome (R.remaining input.old) (λ bytes.
-        Appends (W.contents output.old) (W.contents output.new) (output_of bytes)
-        × ((end_state bytes).refused ≡ false)) }
+    ensures done { result ≡ 0 → Finished (R.remaining input.old)
+        (W.contents output.old) (W.contents output.new) }
     ensures memory { result ≡ 5 → Stopped (R.remaining input.old)
         (W.contents output.old) (W.contents output.new) }
 {
@@ -86,6 +88,7 @@ fn explain<W: Write, F: Write>(error: &Error, output: &mut W, faults: &mut F) ->
     ensures status { IsStatus result }
     ensures words { result ≡ 2 → output.new ≡ output.old }
     ensures memory { result ≡ 5 → output.new ≡ output.old }
+    ensures refused { kind_of error.now ≡ ErrorKind.OutOfMemory → result ≡ 5 }
 {
     if error.kind() == ErrorKind::OutOfMemory {
         tell(NO_MEMORY, faults);

@@ -111,6 +111,21 @@ fn answers_inputs(rt: HostRuntime) -> Result<(), Fail> {
             "1 wrote\nrefused 12 NotJson\n2 wrote\ntree {\"é\":\"ß\"}\n",
             1,
         ),
+        (
+            "{\"now\":1,\"op\":\"set\",\"path\":\"/\",\"value\":null}\n{\"now\":1,\"op\":\"update\",\"path\":\"/\",\"values\":{}}\n",
+            "1 wrote\n2 wrote\ntree null\n",
+            0,
+        ),
+        (
+            "{\"now\":1,\"op\":\"update\",\"path\":\"/\",\"values\":{\"a/b\":1,\"a\":2}}\n{\"now\":1,\"op\":\"update\",\"path\":\"/\",\"values\":{\"a/b\":1,\"a/c\":null}}\n",
+            "refused 9 Overlap\n1 wrote\ntree {\"a\":{\"b\":1}}\n",
+            1,
+        ),
+        (
+            "{\"expect\":null,\"now\":1,\"op\":\"tx\",\"path\":\"/n\",\"value\":1}\n{\"expect\":null,\"now\":1,\"op\":\"tx\",\"path\":\"/n\",\"value\":1}\n{\"expect\":2,\"now\":1,\"op\":\"tx\",\"path\":\"/m\",\"value\":1}\n",
+            "1 wrote\n2 stale 1\n3 stale null\ntree {\"n\":1}\n",
+            0,
+        ),
     ] {
         let mut whole = input.as_bytes();
         assert!(rt;

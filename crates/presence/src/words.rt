@@ -1,5 +1,10 @@
 //! The words of the command line.
 
+ghost use Rattle.std.specs.Prelude.{◌≡◌, IfOk, MatchResult, Some, map};
+ghost use Rattle.clap.specs.Words.{app_of, kind_of};
+ghost use Rattle.clap.specs.declared.error.kind.ErrorKind.TheVariants.{OutOfMemory};
+ghost use Rattle.presence.specs.Words.{AsksApply, program};
+
 use clap::{Command, Error};
 use std::alloc::{AllocError, Global};
 
@@ -10,7 +15,9 @@ pub enum Request {
     Apply,
 }
 
-fn command<'a>(alloc: Global) -> Result<Command<'a>, AllocError> {
+fn command<'a>(alloc: Global) -> Result<Command<'a>, AllocError>
+    ensures { IfOk result (λ made. app_of made ≡ program) }
+{
     let apply = Command::new(alloc, "apply").about(
         "Carries out operations, a JSON line each, and prints replies and the tree",
     );
@@ -24,7 +31,11 @@ fn command<'a>(alloc: Global) -> Result<Command<'a>, AllocError> {
 
 /// Reads the words of the command line, the program's name first. `None` stands for words that
 /// `clap` took and no request has, which it never answers.
-pub fn read_words<'a>(alloc: Global, words: &'a [&'a str]) -> Result<Option<Request>, Error> {
+pub fn read_words<'a>(alloc: Global, words: &'a [&'a str]) -> Result<Option<Request>, Error>
+    ensures apply { AsksApply (map (λ word. word.now) words.now) → MatchResult result
+        (λ request. request ≡ Some Request.Apply)
+        (λ e. kind_of e ≡ OutOfMemory) }
+{
     let command = command(alloc)?;
     let matches = command.try_get_matches_from(words)?;
     let Some((name, _)) = matches.subcommand() else {

@@ -1,0 +1,4 @@
+pub mod Ends
+pub mod Faults
+pub mod Lives
+pub mod Owed

@@ -1,0 +1,21 @@
+//! The life of a session: asked for, open, ended and paid for.
+//!
+//! The types keep the steps in their order. A session that ended is a `Due`, which may not be let
+//! go: what its plan owes is written and the value spent, or the session is put back.
+#![tactic(auto)]
+
+mod due;
+mod fault;
+mod gone;
+mod live;
+mod plan;
+mod slot;
+#[cfg(test)]
+mod tests;
+
+pub use due::Due;
+pub use fault::SessionFault;
+pub use gone::Gone;
+pub use live::{Live, first};
+pub use plan::{NoPlan, Pays};
+pub use slot::Slot;

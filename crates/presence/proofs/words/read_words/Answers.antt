@@ -1,0 +1,32 @@
+use Rattle.std.proofs.Common.{rules, ap, subst, sym, ◌∙◌, ◌≡◌, true, List, map, codes, Result, Ok, Err, MatchResult}
+use Rattle.std.specs.Result.{IsErrAnd}
+use Rattle.clap.specs.Words.{app_of, kind_of}
+use Rattle.clap.specs.Walk.{Text}
+use Rattle.clap.specs.Takes.{takes}
+use Rattle.presence.proofs.Asked.{asked_name, asked_is_taken}
+use Rattle.presence.proofs.words.read_words.Goals.{then-eq, else-eq}
+use Rattle.presence.proofs.words.read_words.Goals as goal
+
+-- what `?` passes up
+passed : {T E : Type 0} (r : Result T E) (e : E) (P : T → Type 0) (Q : E → Type 0) → IsErrAnd r (λ y. y ≡ e) → Q e → MatchResult r P Q
+passed (Ok x) e P Q is q = absurd is
+passed (Err y) e P Q is q = subst Q (sym is) q
+
+pub returns-in_err-matches : goal.returns-in_err-matches
+returns-in_err-matches c = record {
+  apply = λ asks.
+      let words : List Text = map (λ w. w.now) c.args.words.now in
+      let taken : takes (app_of c.in_ok-command.command) words ≡ true = ap (λ a. takes a words) c.in_ok-command.ensures ∙ asked_is_taken words asks in
+      passed c.from_residual-in_err-matches.result c.in_err-matches.field-0.0 _ (λ e. kind_of e ≡ _) c.from_residual-in_err-matches.ensures.1 (c.in_err-matches.ensures.passes taken);
+}
+
+pub returns : goal.returns
+returns c = record {
+  apply = λ asks.
+      let name = asked_name _ _ _ c.in_ok-command.ensures c.in_ok-matches.ensures.matches asks in
+      let said = c.in-Some.ensures.name in
+      elim c.if-eq.branch [
+        | then-eq w ↦ w.result-is
+        | else-eq w ↦ let same : c.in-Some.name.now ≡ codes "apply" = cc in let t : c.eq.result ≡ true = search rules in let f = w.if-eq.false in cc
+      ];
+}
