@@ -1,5 +1,5 @@
 -- The walk over the members that name an update's places.
-use Rattle.std.proofs.Common.{◌≡◌, ℕ, suc, ◌+◌, ◌<◌, ◌≤◌, nat_lt, List, [], ◌∷◌, ◌++◌, length, length-append, append_assoc, append-nil, All, Bool, true, false, true≢false, cond, ◌||◌, Option, Some, None, is_some, Result, Ok, Err, refl, sym, ap, subst, ◌∙◌, arith}
+use Rattle.std.proofs.Common.{◌≡◌, ℕ, suc, ◌<◌, ◌≤◌, nat_lt, List, [], ◌∷◌, ◌++◌, length, length-append, append_assoc, append-nil, All, Bool, true, false, true≢false, cond, ◌||◌, Some, None, is_some, Result, Ok, Err, refl, sym, ap, subst, ◌∙◌, arith}
 use Rattle.std.proofs.lemmas.Bool.{false≢true}
 use Rattle.std.proofs.lemmas.List.Folds.{list_any-append}
 use Rattle.std.proofs.lemmas.List.Elements.{All-nil, All-cons, All-head, All-tail}
@@ -16,7 +16,7 @@ use Rattle.std.specs.Option.{option_or}
 use Rattle.std.specs.BTreeMap.{insert_entry, is_at}
 use Rattle.std.specs.Ordering.{eq_by_cmp, match_ordering}
 use Rattle.std.specs.declared.cmp.Ordering.TheVariants.{Less, Equal, Greater}
-use Rattle.std.specs.FinMap.Entries.{find, put, is_some-find}
+use Rattle.std.specs.FinMap.Entries.{find, put}
 use Rattle.serde_json.specs.Data.{Data, Members, no_members, member}
 use Rattle.pres_tree.specs.declared.fault.TreeFault.{TreeFault}
 use Rattle.pres_tree.specs.Falls.{path_total, path_same}
@@ -99,7 +99,12 @@ module _ (p : Path) (all left : Members) (name : List ℕ) (d : Data) (twice : B
   -- the place is new
   pub read_more : None ≡ lookup (is_at (path_cmp q)) es → Read p all left twice now
   read_more none = record {
-    done = next; is = next-is; fault = next-fault; few = next-few; fit = fit-put p q v es fits r.fit; same_keys = next-keys;
+    done = next;
+    is = next-is;
+    fault = next-fault;
+    few = next-few;
+    fit = fit-put p q v es fits r.fit;
+    same_keys = next-keys;
     meets =
         ap (λ fs. twice || overlap (keys_of fs)) (insert_entry-put path_cmp q v es)
         ∙ ap (λ b. twice || b) (overlap-put path_cmp path_same (λ k. k) q v es missing)
@@ -117,7 +122,12 @@ module _ (p : Path) (all left : Members) (name : List ℕ) (d : Data) (twice : B
   -- the place was there already
   pub read_again : is_some (lookup (is_at (path_cmp q)) es) ≡ true → Read p all left true now
   read_again some = record {
-    done = next; is = next-is; fault = next-fault; few = next-few; fit = fit-put p q v es fits r.fit; same_keys = next-keys;
+    done = next;
+    is = next-is;
+    fault = next-fault;
+    few = next-few;
+    fit = fit-put p q v es fits r.fit;
+    same_keys = next-keys;
     meets = sym (next-overlap ∙ ap (λ b. b || (twice || overlap (keys_of es))) (found-meets q es (ap is_some (sym (lookup-find path_cmp q es)) ∙ some)));
     sorted = λ h. absurd (true≢false h);
   }

@@ -1,5 +1,5 @@
 -- The places of an update under their names, in byte order of these, and read back.
-use Rattle.std.proofs.Common.{◌≡◌, ℕ, suc, ◌+◌, ◌-◌, ◌≤◌, nat_lt, List, [], ◌∷◌, ◌++◌, length, length-append, map, All, Bool, true, false, cond, ◌||◌, Option, Some, None, Ok, Err, refl, sym, ap, subst, ◌∙◌, arith, drop}
+use Rattle.std.proofs.Common.{◌≡◌, ℕ, suc, ◌+◌, ◌-◌, ◌≤◌, nat_lt, List, [], ◌∷◌, ◌++◌, length, length-append, map, All, Bool, true, false, cond, ◌||◌, Some, None, Ok, Err, refl, sym, ap, subst, ◌∙◌, arith, drop}
 use Rattle.std.proofs.lemmas.Bool.{false≢true}
 use Rattle.std.proofs.lemmas.Bool.Decides.{nat_tests}
 use Rattle.std.proofs.lemmas.List.Elements.{All-head, All-tail}
@@ -16,23 +16,22 @@ use Rattle.std.specs.Cmp.{tied_itself}
 use Rattle.std.specs.Cmp.Lexicographic.{nat_list_cmp_total}
 use Rattle.std.specs.FinMap.{nat_cmp-IsAntisymmetric, slice_cmp-IsAntisymmetric}
 use Rattle.std.specs.FinMap.Entries.{find, put, by_order}
-use Rattle.serde_json.specs.Data.{Data, Members, no_members, member}
+use Rattle.serde_json.specs.Data.{Data, member}
 use Rattle.serde_json.specs.View.{view, members_view}
 use Rattle.serde_json.specs.declared.value.Value.{Value}
-use Rattle.pres_tree.specs.declared.fault.TreeFault.{TreeFault}
 use Rattle.pres_tree.specs.declared.fault.TreeFault.TheVariants.{TooDeep}
 use Rattle.pres_tree.specs.Falls.{path_total, path_same}
 use Rattle.pres_tree.specs.Keys.{Key, key_cmp}
-use Rattle.pres_tree.specs.Paths.{Path, IsPath, path_cmp, path_text, path_fault, segments, meet, overlap, sorted_by}
+use Rattle.pres_tree.specs.Paths.{Path, IsPath, path_cmp, path_text, segments, meet, overlap, sorted_by}
 use Rattle.pres_tree.specs.Printing.{json_of, ReadsBack}
-use Rattle.pres_tree.specs.Reading.{rows_of, fault_of}
+use Rattle.pres_tree.specs.Reading.{rows_of}
 use Rattle.pres_tree.specs.Rows.{Rows, height}
 use Rattle.pres_tree.proofs.Texts.{segments-name, path_fault-name, path_rest}
 use Rattle.pres_write.specs.declared.draft.Slot.{Slot}
 use Rattle.pres_write.specs.declared.fault.WriteFault.TheVariants.{Overlap, ManyPaths}
 use Rattle.pres_write.specs.Drafts.{slot_reading, slot_printing}
 use Rattle.pres_write.specs.OpForms.{unless, below_read, place_fault, places_fault, places_read, named, members_from, values_json}
-use Rattle.pres_write.specs.Updates.{Places, PlacesBelow, FitsBelow, most_places}
+use Rattle.pres_write.specs.Updates.{Places, FitsBelow, most_places}
 use Rattle.pres_write.proofs.Depths.{fits_height}
 use Rattle.pres_write.proofs.Ordered.{tied, rising_keys, length-sorted_by, each-sorted_by, any-put, find-sorted_by, sorted_by-rises, sorted_by-same, sorted_by-more, put-swap}
 use Rattle.pres_write.proofs.Overlaps.{meet-itself, overlap-put}
@@ -226,5 +225,5 @@ values_read p places order apart few fit reads =
     let free : overlap (map seg es) ≡ false = ap overlap (sym (keys-places es) ∙ ap keys_of back) ∙ apart in
     let still : overlap (keys_of (places_read (members_from ms))) ≡ false = ap overlap (ap keys_of is ∙ keys-places ms) ∙ apart-sorted_by es free in
     let same : sorted_by path_cmp (places_read (members_from ms)) ≡ places =
-        ap (sorted_by path_cmp) is ∙ sorted-sorted es free ∙ ap (sorted_by path_cmp) back ∙ sorted_by-same path_cmp path_same path_total places (rising_keys path_cmp places order) in
+    ap (sorted_by path_cmp) is ∙ sorted-sorted es free ∙ ap (sorted_by path_cmp) back ∙ sorted_by-same path_cmp path_same path_total places (rising_keys path_cmp places order) in
     λ i. cond (small i) (Err ManyPaths) (unless (sound i) (cond (still i) (Err Overlap) (Ok (record { path = p; places = same i }))))

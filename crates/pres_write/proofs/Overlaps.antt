@@ -7,11 +7,10 @@ use Rattle.std.specs.List.Sorted.{IsStrictlySortedBy}
 use Rattle.std.specs.Ordering.{is_eq, ordering_then, ordering_reverse}
 use Rattle.std.specs.declared.cmp.Ordering.{Ordering}
 use Rattle.std.specs.declared.cmp.Ordering.TheVariants.{Less, Equal, Greater}
-use Rattle.std.specs.Cmp.{IsTotalOrder, tied_itself}
+use Rattle.std.specs.Cmp.{tied_itself}
 use Rattle.std.specs.Cmp.Lexicographic.{nat_list_cmp_total}
 use Rattle.std.specs.FinMap.Entries.{put, find, by_order}
 use Rattle.std.specs.Map.{keys_of}
-use Rattle.pres_tree.specs.Falls.{path_total}
 use Rattle.pres_tree.specs.Keys.{Key, key_cmp, same_key}
 use Rattle.pres_tree.specs.Paths.{Path, path_cmp, below, is_prefix, meet, overlap}
 use Rattle.pres_tree.proofs.Found.{key_same}

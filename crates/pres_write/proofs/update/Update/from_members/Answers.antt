@@ -1,20 +1,18 @@
-use Rattle.std.proofs.Common.{◌≡◌, ◌≤◌, ◌||◌, ◌⊎◌, length, Bool, true, false, Option, Some, None, Ok, Err, is_some, inl, inr, refl, sym, ap, subst, ◌∙◌, arith}
+use Rattle.std.proofs.Common.{◌≡◌, ◌≤◌, ◌||◌, ◌⊎◌, length, true, false, Option, Some, None, Ok, Err, is_some, inl, inr, refl, sym, ap, subst, ◌∙◌, arith}
 use Rattle.std.proofs.lemmas.Bool.{false≢true}
 use Rattle.std.specs.Prelude.{string_bytes}
 use Rattle.std.specs.BTreeMap.{is_at}
 use Rattle.std.specs.Map.{keys_of, lookup}
-use Rattle.serde_json.specs.Data.{Members, member, no_members}
+use Rattle.serde_json.specs.Data.{member, no_members}
 use Rattle.serde_json.specs.View.{view, members_view}
 use Rattle.pres_tree.specs.declared.fault.TreeFault.TheVariants.{Memory}
-use Rattle.pres_tree.specs.Paths.{Path, IsPath, path_cmp, overlap, segments}
+use Rattle.pres_tree.specs.Paths.{IsPath, path_cmp, overlap, segments}
 use Rattle.pres_tree.specs.Reading.{rows_of}
-use Rattle.pres_tree.specs.Rows.{Rows}
-use Rattle.pres_write.specs.declared.draft.Slot.{Slot}
 use Rattle.pres_write.specs.declared.fault.WriteFault.{WriteFault}
 use Rattle.pres_write.specs.declared.fault.WriteFault.TheVariants.{Tree}
 use Rattle.pres_write.specs.Drafts.{slot_reading}
 use Rattle.pres_write.specs.OpForms.{below_read, place_fault, places_read}
-use Rattle.pres_write.specs.Updates.{PlacesBelow, FitsBelow, most_places}
+use Rattle.pres_write.specs.Updates.{PlacesBelow, most_places}
 use Rattle.pres_write.proofs.Members.{Read, read_start, read_more, read_again, length-members, read_many, read_bad, read_overlap, read_all, read_few, refused_as}
 use Rattle.pres_write.proofs.update.Update.from_members.Goals as goal
 use Rattle.pres_write.proofs.update.Update.from_members.Goals.{In-Some, In-None, After-insert, then-is_twice-via-then-is_twice, then-is_twice-via-else-is_twice+then-overlaps}

@@ -2,9 +2,9 @@ use Rattle.std.proofs.Common.{◌≡◌, ◌∷◌, [], ◌++◌, All, append_as
 use Rattle.std.specs.List.{AllByRecursion}
 use Rattle.std.specs.List.Sorted.{IsStrictlySortedBy}
 use Rattle.std.specs.Map.{keys_of}
-use Rattle.serde_json.specs.View.{view, members_view}
+use Rattle.serde_json.specs.View.{members_view}
 use Rattle.pres_tree.specs.Keys.{key_cmp}
-use Rattle.pres_tree.specs.Paths.{Path, path_cmp, overlap, sorted_by}
+use Rattle.pres_tree.specs.Paths.{Path, path_cmp, sorted_by}
 use Rattle.pres_tree.specs.Printing.{ReadsBack}
 use Rattle.pres_tree.specs.Rows.{Rows}
 use Rattle.pres_write.specs.declared.draft.Slot.{Slot}
