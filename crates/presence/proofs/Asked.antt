@@ -8,7 +8,9 @@ use Rattle.clap.specs.Words.{App, HasMatchesOf, subcommand_name_of, subcommand_r
 use Rattle.clap.specs.declared.parser.matches.ArgMatches.{ArgMatches}
 use Rattle.clap.specs.declared.parser.matches.ArgMatches.TheViews.{out-ArgMatches}
 use Rattle.clap.proofs.OnLiterals.{clap_on_literals}
-use Rattle.presence.specs.Words.{AsksApply, program}
+use Rattle.clap.specs.Words.{fault_of, is_simple_and_free}
+use Rattle.clap.specs.declared.error.kind.ErrorKind.TheVariants as kind
+use Rattle.presence.specs.Words.{AreTaken, AsksApply, program}
 
 simple : is_simple program ≡ true
 unfolding clap_on_literals
@@ -44,3 +46,34 @@ names_apply m words rows e = sym (map_of_map (λ p. p.0) _ (out-ArgMatches m).su
 -- what a parse of such words names
 pub asked_name : (app : App) (m : ArgMatches) (words : List Text) → app ≡ program → HasMatchesOf app words m → AsksApply words → subcommand_name_of m ≡ Some (codes "apply")
 asked_name app m words same has e = names_apply m words ((has (ap is_simple same ∙ simple)).1 ∙ ap (λ a. subcommand_of a words) same) e
+
+-- ---- words that are taken
+
+free : is_simple_and_free program ≡ true
+unfolding clap_on_literals
+free = refl
+
+-- a parse that succeeds found no fault
+pub parsed_is_taken : (app : App) (words : List Text) → app ≡ program → (is_simple_and_free app ≡ true → fault_of app words ≡ []) → AreTaken words
+parsed_is_taken app words same none = ap (λ a. fault_of a words) (sym same) ∙ none (ap is_simple_and_free same ∙ free)
+
+-- mistakes, and words that ask for help or the version
+no_word : fault_of program (codes "presence" ∷ []) ≡ kind.MissingSubcommand ∷ []
+unfolding clap_on_literals
+no_word = refl
+
+help_asked : fault_of program (codes "presence" ∷ codes "--help" ∷ []) ≡ kind.DisplayHelp ∷ []
+unfolding clap_on_literals
+help_asked = refl
+
+version_asked : fault_of program (codes "presence" ∷ codes "--version" ∷ []) ≡ kind.DisplayVersion ∷ []
+unfolding clap_on_literals
+version_asked = refl
+
+other_word : fault_of program (codes "presence" ∷ codes "serve" ∷ []) ≡ kind.UnknownArgument ∷ kind.InvalidSubcommand ∷ []
+unfolding clap_on_literals
+other_word = refl
+
+further_word : fault_of program (codes "presence" ∷ codes "apply" ∷ codes "x" ∷ []) ≡ kind.UnknownArgument ∷ []
+unfolding clap_on_literals
+further_word = refl

@@ -4,7 +4,7 @@ ghost use Rattle.std.specs.Prelude.{◌≡◌, ◌⊎◌, ◌≢◌, map};
 ghost use Rattle.clap.specs.Words.{kind_of};
 ghost use Rattle.presence.specs.Lines.{Finished, Stopped};
 ghost use Rattle.presence.specs.Statuses.{IsStatus};
-ghost use Rattle.presence.specs.Words.{AsksApply};
+ghost use Rattle.presence.specs.Words.{AreTaken, AsksApply};
 
 use crate::apply::apply_run;
 use crate::faults::RunFault;
@@ -37,6 +37,7 @@ pub fn presence_run<R: Read, W: Write, F: Write>(
     ensures asked { AsksApply (map (λ word. word.now) words.now) → result ≢ 2 }
     ensures applied { AsksApply (map (λ word. word.now) words.now) → result ≡ 0
         → Finished (R.remaining input.old) (W.contents output.old) (W.contents output.new) }
+    ensures untaken { ¬ AreTaken (map (λ word. word.now) words.now) → input.new ≡ input.old }
     ensures done { result ≡ 0 → Finished (R.remaining input.old)
         (W.contents output.old) (W.contents output.new) ⊎ (input.new ≡ input.old) }
     ensures words { result ≡ 2 → (input.new ≡ input.old) × (output.new ≡ output.old) }

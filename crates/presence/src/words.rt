@@ -3,7 +3,7 @@
 ghost use Rattle.std.specs.Prelude.{◌≡◌, IfOk, MatchResult, Some, map};
 ghost use Rattle.clap.specs.Words.{app_of, kind_of};
 ghost use Rattle.clap.specs.declared.error.kind.ErrorKind.TheVariants.{OutOfMemory};
-ghost use Rattle.presence.specs.Words.{AsksApply, program};
+ghost use Rattle.presence.specs.Words.{AreTaken, AsksApply, program};
 
 use clap::{Command, Error};
 use std::alloc::{AllocError, Global};
@@ -35,6 +35,7 @@ pub fn read_words<'a>(alloc: Global, words: &'a [&'a str]) -> Result<Option<Requ
     ensures apply { AsksApply (map (λ word. word.now) words.now) → MatchResult result
         (λ request. request ≡ Some Request.Apply)
         (λ e. kind_of e ≡ OutOfMemory) }
+    ensures taken { IfOk result (λ _. AreTaken (map (λ word. word.now) words.now)) }
 {
     let command = command(alloc)?;
     let matches = command.try_get_matches_from(words)?;

@@ -3,7 +3,7 @@ use Rattle.std.specs.Result.{IsErrAnd}
 use Rattle.clap.specs.Words.{app_of, kind_of}
 use Rattle.clap.specs.Walk.{Text}
 use Rattle.clap.specs.Takes.{takes}
-use Rattle.presence.proofs.Asked.{asked_name, asked_is_taken}
+use Rattle.presence.proofs.Asked.{asked_name, asked_is_taken, parsed_is_taken}
 use Rattle.presence.proofs.words.read_words.Goals.{then-eq, else-eq}
 use Rattle.presence.proofs.words.read_words.Goals as goal
 
@@ -18,10 +18,12 @@ returns-in_err-matches c = record {
       let words : List Text = map (λ w. w.now) c.args.words.now in
       let taken : takes (app_of c.in_ok-command.command) words ≡ true = ap (λ a. takes a words) c.in_ok-command.ensures ∙ asked_is_taken words asks in
       passed c.from_residual-in_err-matches.result c.in_err-matches.field-0.0 _ (λ e. kind_of e ≡ _) c.from_residual-in_err-matches.ensures.1 (c.in_err-matches.ensures.passes taken);
+  taken = search rules;
 }
 
 pub returns : goal.returns
 returns c = record {
+  taken = parsed_is_taken _ _ c.in_ok-command.ensures c.in_ok-matches.ensures.kinds;
   apply = λ asks.
       let name = asked_name _ _ _ c.in_ok-command.ensures c.in_ok-matches.ensures.matches asks in
       let said = c.in-Some.ensures.name in

@@ -1,0 +1,261 @@
+-- What one entry more keeps and changes of the whole log.
+use Rattle.std.proofs.Common.{refl, sym, ◌∙◌, ap, subst, ◌≡◌, ℕ, ◌+◌, ◌-◌, suc, List, [], ◌∷◌, ◌++◌, length, drop, map, Bool, true, false, not, cond, ◌||◌, ◌&&◌, append-nil, true≢false, arith, IsTrue, length-append, Option, Some, None, T, is_some, Ordering, Less, Equal, Greater, is_eq}
+use Rattle.std.specs.List.{list_any, list_all, filter, last_or}
+use Rattle.std.specs.Option.{option_map}
+use Rattle.std.specs.Cmp.{IsTotalOrder, tied_itself}
+use Rattle.std.specs.Cmp.Lexicographic.{nat_list_cmp_total}
+use Rattle.std.specs.Ordering.{eq_by_cmp}
+use Rattle.std.specs.FinMap.{IsAntisymmetric, slice_cmp-IsAntisymmetric, nat_cmp-IsAntisymmetric}
+use Rattle.std.specs.FinMap.Entries.{find, put, where_key, is_sorted, is_sorted-put, is_sorted-where_key, find-put, find-where_key, length-put, length_without, same_entries}
+use Rattle.std.proofs.lemmas.Bool.{and_parts}
+use Rattle.std.proofs.lemmas.List.Folds.{list_all-append}
+use Rattle.std.proofs.lemmas.List.Elements.{filter_map-append}
+use Rattle.pres_write.specs.declared.basic.Basic.{Basic}
+use Rattle.pres_write.specs.Outcomes.{kept_of}
+use Rattle.pres_wire.specs.declared.id.SessionId.{SessionId}
+use Rattle.pres_wire.specs.declared.id.Why.{Why}
+use Rattle.pres_wire.specs.declared.down.Down.TheVariants.{Welcome, Reply, Gone}
+use Rattle.pres_log.specs.declared.entry.Entry.{Entry}
+use Rattle.pres_log.specs.declared.entry.Entry.TheVariants as entry
+use Rattle.pres_tree.specs.Paths.{sorted_by}
+use Rattle.pres_wire.specs.Ids.{ClientId, client_cmp, same_client, is_earlier, stamp_of}
+use Rattle.pres_server.specs.Sessions.{session_of, opened_by, opened, opens, ends, is_open, sessions_of, open_entries, open_sessions_of, open_sessions, is_newest, last_of}
+use Rattle.pres_server.specs.Streams.{Unnumbered, stream, sent_for, own_answer, numbered_from}
+use Rattle.pres_server.specs.Answers.{added, answers_to}
+use Rattle.pres_server.specs.Fits.{Fits}
+use Rattle.pres_server.specs.Parts.{LivePart, session_with, part_of, live_in, open_step, told, told_row, answer_by, Sound, listed, comes_after}
+use Rattle.pres_server.proofs.Since.{client_same, client_itself, session_same, session_itself, any-append}
+use Rattle.pres_server.proofs.StreamSteps.{stream_step}
+use Rattle.pres_server.proofs.Steps.{is_open-same, filter_alike, filter-filter}
+use Rattle.pres_server.proofs.Parts.{later_still, not_ended, open_of_same, open_of_opened, only_open, ended_own, ended_other, opened_own, opened_other, no_more, no_row, row_there, sent_again}
+
+-- ---- the order of clients
+
+clients_total : IsTotalOrder client_cmp
+clients_total = nat_list_cmp_total
+
+clients_apart : IsAntisymmetric client_cmp
+clients_apart = slice_cmp-IsAntisymmetric nat_cmp-IsAntisymmetric
+
+same_by_cmp : (k l : ClientId) → eq_by_cmp client_cmp k l ≡ same_client k l
+same_by_cmp k l = elim (same_client k l) as (λ b. same_client k l ≡ b → eq_by_cmp client_cmp k l ≡ b) [
+  | true ↦ λ e. ap (λ x. eq_by_cmp client_cmp x l) (client_same k l e) ∙ ap is_eq (tied_itself clients_total l)
+  | false ↦ λ e. elim (eq_by_cmp client_cmp k l) as (λ b. eq_by_cmp client_cmp k l ≡ b → b ≡ false) [
+    | true ↦ λ f. absurd (true≢false (sym (ap (same_client k) (sym (clients_apart k l (tie (client_cmp k l) f))) ∙ client_itself k) ∙ e))
+    | false ↦ λ f. refl
+  ] refl
+] refl where
+  tie : (o : Ordering) → is_eq o ≡ true → o ≡ Equal
+  tie Less h = absurd (true≢false (sym h))
+  tie Equal h = refl
+  tie Greater h = absurd (true≢false (sym h))
+
+find_put : (c k : ClientId) (x : SessionId) (es : List (ClientId × SessionId)) → find client_cmp c (put client_cmp k x es) ≡ cond (same_client c k) (Some x) (find client_cmp c es)
+find_put c k x es = find-put client_cmp clients_total c k x es ∙ ap (λ b. cond b (Some x) (find client_cmp c es)) (same_by_cmp c k)
+
+-- ---- the sessions after an entry
+
+-- at most one open session, whatever the rest of its part
+one_open_from : (c : ClientId) (xs : List SessionId) (es : List Entry) (l : Option LivePart) → xs ≡ listed c l → xs ≡ listed c (live_in xs es)
+one_open_from c xs es None e = subst (λ ys. ys ≡ listed c (live_in ys es)) (sym e) refl
+one_open_from c xs es (Some l) e = subst (λ ys. ys ≡ listed c (live_in ys es)) (sym e) refl
+
+one_open_same : (c : ClientId) (es fs : List Entry) → Sound es → open_sessions_of c fs ≡ open_sessions_of c es → open_sessions_of c fs ≡ listed c (live_in (open_sessions_of c fs) fs)
+one_open_same c es fs sound e = one_open_from c (open_sessions_of c fs) fs (live_in (open_sessions_of c es) es) (e ∙ sound.one_open c)
+
+one_open_after : (es : List Entry) (m : ℕ) (e : Entry) → Sound es → Fits es m e → (c : ClientId) → open_sessions_of c (es ++ e ∷ []) ≡ listed c (live_in (open_sessions_of c (es ++ e ∷ [])) (es ++ e ∷ []))
+one_open_after es m (entry.Open s) sound f c =
+    let e = entry.Open s in
+    let opened_now = open_of_opened c es s (not_ended s es sound f.0) in
+    elim (same_client c s.client) as (λ b. same_client c s.client ≡ b → open_sessions_of c (es ++ e ∷ []) ≡ listed c (live_in (open_sessions_of c (es ++ e ∷ [])) (es ++ e ∷ []))) [
+      | true ↦ λ k.
+          let l : LivePart = record { stamp = (stamp_of s); count = 0; sent = 0 } in
+          let c_is = client_same c s.client k in
+          one_open_from c _ (es ++ e ∷ []) (Some l)
+          (opened_now ∙ (λ i. (ap (λ x. open_sessions_of x es) c_is ∙ f.1) i ++ cond (k i) (s ∷ []) []) ∙ λ i. (session_with (sym c_is i) (stamp_of s)) ∷ [])
+      | false ↦ λ k. one_open_same c es (es ++ e ∷ []) sound (opened_now ∙ ap (λ b. open_sessions_of c es ++ cond b (s ∷ []) []) k ∙ append-nil (open_sessions_of c es))
+    ] refl
+one_open_after es m (entry.Op s q n op outcome) sound f c = one_open_same c es (es ++ entry.Op s q n op outcome ∷ []) sound (open_of_same c es (entry.Op s q n op outcome) refl (λ _. refl) (λ _. refl))
+one_open_after es m (entry.Again s q n) sound f c = one_open_same c es (es ++ entry.Again s q n ∷ []) sound (open_of_same c es (entry.Again s q n) refl (λ _. refl) (λ _. refl))
+one_open_after es m (entry.Ended s q why rows) sound f c =
+    let e = entry.Ended s q why rows in
+    elim (same_client s.client c) as (λ b. same_client s.client c ≡ b → open_sessions_of c (es ++ e ∷ []) ≡ listed c (live_in (open_sessions_of c (es ++ e ∷ [])) (es ++ e ∷ []))) [
+      | true ↦ λ k. one_open_from c _ (es ++ e ∷ []) None (ap (λ x. open_sessions_of x (es ++ e ∷ [])) (sym (client_same s.client c k)) ∙ ended_own es s q why rows sound f.0)
+      | false ↦ λ k. one_open_same c es (es ++ e ∷ []) sound (ended_other c es s q why rows k)
+    ] refl
+
+newest_same : (s : SessionId) (es fs : List Entry) → Sound es → sessions_of s.client fs ≡ sessions_of s.client es → is_newest s fs ≡ comes_after (last_of s.client fs) (stamp_of s)
+newest_same s es fs sound e =
+    ap (list_all (λ t. is_earlier (stamp_of t) (stamp_of s))) e
+    ∙ sound.newest s
+    ∙ ap (λ ss. comes_after (option_map (stamp_of) (last_or None ss)) (stamp_of s)) (sym e)
+
+last_or-append : (o : Option SessionId) (xs : List SessionId) (x : SessionId) → last_or o (xs ++ x ∷ []) ≡ Some x
+last_or-append o [] x = refl
+last_or-append o (y ∷ xs) x = last_or-append (Some y) xs x
+
+newest_after : (es : List Entry) (m : ℕ) (e : Entry) → Sound es → Fits es m e → (s : SessionId) → is_newest s (es ++ e ∷ []) ≡ comes_after (last_of s.client (es ++ e ∷ [])) (stamp_of s)
+newest_after es m (entry.Open h) sound f s =
+    let e = entry.Open h in
+    elim (same_client h.client s.client) as (λ b. same_client h.client s.client ≡ b → is_newest s (es ++ e ∷ []) ≡ comes_after (last_of s.client (es ++ e ∷ [])) (stamp_of s)) [
+      | true ↦ λ k.
+          let c_is = client_same h.client s.client k in
+          let ss : sessions_of s.client (es ++ e ∷ []) ≡ sessions_of s.client es ++ h ∷ [] = subst (λ c. sessions_of c (es ++ e ∷ []) ≡ sessions_of c es ++ h ∷ []) c_is (opened_own es h) in
+          let was : comes_after (last_of s.client es) (stamp_of h) ≡ true = ap (λ c. comes_after (last_of c es) (stamp_of h)) (sym c_is) ∙ sym (sound.newest h) ∙ f.0 in
+          ap (list_all (λ t. is_earlier (stamp_of t) (stamp_of s))) ss
+          ∙ list_all-append (λ t. is_earlier (stamp_of t) (stamp_of s)) (sessions_of s.client es) (h ∷ [])
+          ∙ ap (λ b. b && (is_earlier (stamp_of h) (stamp_of s) && true)) (sound.newest s)
+          ∙ later_still (last_of s.client es) (stamp_of h) (stamp_of s) was
+          ∙ ap (λ o. comes_after (option_map (stamp_of) o) (stamp_of s)) (sym (ap (last_or None) ss ∙ last_or-append None (sessions_of s.client es) h))
+      | false ↦ λ k. newest_same s es (es ++ e ∷ []) sound (opened_other s.client es h k)
+    ] refl
+newest_after es m (entry.Op t q n op outcome) sound f s = newest_same s es (es ++ entry.Op t q n op outcome ∷ []) sound (no_more s.client es (entry.Op t q n op outcome) refl)
+newest_after es m (entry.Again t q n) sound f s = newest_same s es (es ++ entry.Again t q n ∷ []) sound (no_more s.client es (entry.Again t q n) refl)
+newest_after es m (entry.Ended t q why rows) sound f s = newest_same s es (es ++ entry.Ended t q why rows ∷ []) sound (no_more s.client es (entry.Ended t q why rows) refl)
+
+any_then : (a b c d : Bool) → (a ≡ true → c ≡ true) → (b ≡ true → c ≡ true) → (a || (b || false)) ≡ true → (c || (d || false)) ≡ true
+any_then true b c d f g e = ap (λ x. x || (d || false)) (f refl)
+any_then false true c d f g e = ap (λ x. x || (d || false)) (g refl)
+any_then false false c d f g e = absurd (true≢false (sym e))
+
+ended_after : (es : List Entry) (m : ℕ) (e : Entry) → Sound es → Fits es m e → (s : SessionId) → list_any (ends s) (es ++ e ∷ []) ≡ true → list_any (opens s) (es ++ e ∷ []) ≡ true
+ended_after es m e sound f s h =
+    any-append (opens s) es (e ∷ []) ∙ any_then (list_any (ends s) es) (ends s e) (list_any (opens s) es) (opens s e) (sound.ended s) (by e f) (sym (any-append (ends s) es (e ∷ [])) ∙ h) where
+      by : (x : Entry) → Fits es m x → ends s x ≡ true → list_any (opens s) es ≡ true
+      by (entry.Open t) g k = absurd (true≢false (sym k))
+      by (entry.Op t q n op outcome) g k = absurd (true≢false (sym k))
+      by (entry.Again t q n) g k = absurd (true≢false (sym k))
+      by (entry.Ended t q why rows) g k = ap (λ x. list_any (opens x) es) (session_same s t k) ∙ (and_parts (list_any (opens t) es) _ g.0).0
+
+pub sound_start : Sound []
+sound_start = record { one_open = λ c. refl; newest = λ s. refl; ended = λ s h. absurd (true≢false (sym h)) }
+
+pub sound_after : (es : List Entry) (m : ℕ) (e : Entry) → Sound es → Fits es m e → Sound (es ++ e ∷ [])
+sound_after es m e sound f = record { one_open = one_open_after es m e sound f; newest = newest_after es m e sound f; ended = ended_after es m e sound f }
+
+-- the open sessions in order, looked up
+abbrev pub first_of_list : List SessionId → Option SessionId
+first_of_list [] = None
+first_of_list (s ∷ more) = Some s
+
+abbrev pub by_client : SessionId → ClientId × SessionId
+by_client s = (s.client, s)
+
+find_sorted : (c : ClientId) (xs : List SessionId) → find client_cmp c (sorted_by client_cmp (map by_client xs)) ≡ first_of_list (filter (λ s. same_client c s.client) xs)
+find_sorted c [] = refl
+find_sorted c (x ∷ xs) =
+    find_put c x.client x (sorted_by client_cmp (map by_client xs))
+    ∙ ap (cond (same_client c x.client) (Some x)) (find_sorted c xs)
+    ∙ by (same_client c x.client) (filter (λ s. same_client c s.client) xs) where
+      by : (b : Bool) (ys : List SessionId) → cond b (Some x) (first_of_list ys) ≡ first_of_list (cond b (x ∷ ys) ys)
+      by true ys = refl
+      by false ys = refl
+
+and_swap : (a b : Bool) → (a && b) ≡ (b && a)
+and_swap true true = refl
+and_swap true false = refl
+and_swap false true = refl
+and_swap false false = refl
+
+pub find_open : (c : ClientId) (es : List Entry) → find client_cmp c (open_entries es) ≡ first_of_list (open_sessions_of c es)
+find_open c es =
+    find_sorted c (filter (λ s. is_open s es) (opened es))
+    ∙ ap first_of_list (
+    filter-filter (λ s. same_client c s.client) (λ s. is_open s es) (opened es)
+    ∙ filter_alike (λ s. is_open s es && same_client c s.client) (λ s. same_client c s.client && is_open s es) (opened es) (λ s _. and_swap (is_open s es) (same_client c s.client))
+    ∙ sym (filter-filter (λ s. is_open s es) (λ s. same_client c s.client) (opened es)))
+
+pub sorted_is : (xs : List (ClientId × SessionId)) → T (is_sorted client_cmp (sorted_by client_cmp xs))
+sorted_is [] = tt
+sorted_is (x ∷ xs) = is_sorted-put client_cmp clients_total x.0 x.1 (sorted_by client_cmp xs) (sorted_is xs)
+
+pub open_is_sorted : (es : List Entry) → T (is_sorted client_cmp (open_entries es))
+open_is_sorted es = sorted_is (map by_client (filter (λ s. is_open s es) (opened es)))
+
+open_entries_same : (es : List Entry) (e : Entry) → opened (e ∷ []) ≡ [] → ((s : SessionId) → opens s e ≡ false) → ((s : SessionId) → ends s e ≡ false) → open_entries (es ++ e ∷ []) ≡ open_entries es
+open_entries_same es e n o f =
+    ap (λ l. sorted_by client_cmp (map by_client l)) (
+    ap (filter (λ s. is_open s (es ++ e ∷ []))) (filter_map-append opened_by es (e ∷ []) ∙ ap (λ l. opened es ++ l) n ∙ append-nil (opened es))
+    ∙ filter_alike (λ s. is_open s (es ++ e ∷ [])) (λ s. is_open s es) (opened es) (λ s _. is_open-same s es e (o s) (f s)))
+
+open_entries_opened : (es : List Entry) (s : SessionId) → Sound es → IsTrue (is_newest s es) → open_sessions_of s.client es ≡ [] → open_entries (es ++ entry.Open s ∷ []) ≡ put client_cmp s.client s (open_entries es)
+open_entries_opened es s sound new none =
+    same_entries client_cmp clients_total clients_apart _ _ (open_is_sorted (es ++ entry.Open s ∷ [])) (is_sorted-put client_cmp clients_total s.client s (open_entries es) (open_is_sorted es))
+    (λ c.
+    find_open c (es ++ entry.Open s ∷ [])
+    ∙ ap first_of_list (open_of_opened c es s (not_ended s es sound new))
+    ∙ by c (same_client c s.client) refl
+    ∙ ap (cond (same_client c s.client) (Some s)) (sym (find_open c es))
+    ∙ sym (find_put c s.client s (open_entries es))) where
+      by : (c : ClientId) (b : Bool) → same_client c s.client ≡ b → first_of_list (open_sessions_of c es ++ cond b (s ∷ []) []) ≡ cond b (Some s) (first_of_list (open_sessions_of c es))
+      by c true k = ap (λ l. first_of_list (l ++ s ∷ [])) (ap (λ x. open_sessions_of x es) (client_same c s.client k) ∙ none)
+      by c false k = ap first_of_list (append-nil (open_sessions_of c es))
+
+open_entries_ended : (es : List Entry) (s : SessionId) (q : Option ℕ) (why : Why) (rows : List Basic) → Sound es → is_open s es ≡ true →
+    open_entries (es ++ entry.Ended s q why rows ∷ []) ≡ where_key client_cmp (λ x. not (same_client s.client x)) (open_entries es)
+open_entries_ended es s q why rows sound o =
+    same_entries client_cmp clients_total clients_apart _ _ (open_is_sorted (es ++ e ∷ [])) (is_sorted-where_key client_cmp (λ x. not (same_client s.client x)) (open_entries es) (open_is_sorted es))
+    (λ c.
+    find_open c (es ++ e ∷ [])
+    ∙ by c (same_client s.client c) refl
+    ∙ ap (λ x. cond (not (same_client s.client c)) x None) (sym (find_open c es))
+    ∙ sym (find-where_key client_cmp (λ x. not (same_client s.client x)) c (λ x k. ap (λ y. not (same_client s.client y)) (sym (clients_apart c x k))) (open_entries es))) where
+      e : Entry
+      e = entry.Ended s q why rows
+
+      by : (c : ClientId) (b : Bool) → same_client s.client c ≡ b → first_of_list (open_sessions_of c (es ++ e ∷ [])) ≡ cond (not b) (first_of_list (open_sessions_of c es)) None
+      by c true k = ap first_of_list (ap (λ x. open_sessions_of x (es ++ e ∷ [])) (sym (client_same s.client c k)) ∙ ended_own es s q why rows sound o)
+      by c false k = ap first_of_list (ended_other c es s q why rows k)
+
+pub length_open : (es : List Entry) → length (open_sessions es) ≡ length (open_entries es)
+length_open es = by (open_entries es) where
+  by : (xs : List (ClientId × SessionId)) → length (map (λ (x : ClientId × SessionId). x.1) xs) ≡ length xs
+  by [] = refl
+  by (x ∷ xs) = ap suc (by xs)
+
+pub open_after : (es : List Entry) (m : ℕ) (e : Entry) → Sound es → Fits es m e → length (open_sessions (es ++ e ∷ [])) ≡ open_step e (length (open_sessions es))
+open_after es m (entry.Open s) sound f =
+    length_open (es ++ entry.Open s ∷ [])
+    ∙ ap length (open_entries_opened es s sound f.0 f.1)
+    ∙ length-put client_cmp clients_total s.client s (open_entries es) (open_is_sorted es)
+    ∙ ap (λ o. cond (is_some o) (length (open_entries es)) (length (open_entries es) + 1)) (find_open s.client es ∙ ap first_of_list f.1)
+    ∙ ap (λ n. n + 1) (sym (length_open es))
+open_after es m (entry.Op s q n op outcome) sound f = ap (λ l. length (map (λ (x : ClientId × SessionId). x.1) l)) (open_entries_same es (entry.Op s q n op outcome) refl (λ _. refl) (λ _. refl))
+open_after es m (entry.Again s q n) sound f = ap (λ l. length (map (λ (x : ClientId × SessionId). x.1) l)) (open_entries_same es (entry.Again s q n) refl (λ _. refl) (λ _. refl))
+open_after es m (entry.Ended s q why rows) sound f =
+    let found : find client_cmp s.client (open_entries es) ≡ Some s = find_open s.client es ∙ ap first_of_list (only_open s es sound f.0) in
+    let rest : 1 + length (where_key client_cmp (λ x. not (same_client s.client x)) (open_entries es)) ≡ length (open_entries es) =
+    ap (λ o. cond (is_some o) 1 0 + length (where_key client_cmp (λ x. not (same_client s.client x)) (open_entries es))) (sym found)
+    ∙ (λ i. cond (is_some (find client_cmp s.client (open_entries es))) 1 0 + length (where_key client_cmp (λ x. not (sym (same_by_cmp s.client x) i)) (open_entries es)))
+    ∙ length_without client_cmp clients_total s.client (open_entries es) (open_is_sorted es) in
+    let less : length (where_key client_cmp (λ x. not (same_client s.client x)) (open_entries es)) ≡ length (open_entries es) - 1 = omega arith in
+    length_open (es ++ entry.Ended s q why rows ∷ []) ∙ ap length (open_entries_ended es s q why rows sound f.0) ∙ less ∙ ap (λ n. n - 1) (sym (length_open es))
+
+-- the answers
+drop_first : {A : Type 0} (xs ys : List A) → drop (length xs) (xs ++ ys) ≡ ys
+drop_first [] ys = refl
+drop_first (x ∷ xs) ys = drop_first xs ys
+
+added_one : (s : SessionId) (es : List Entry) (e : Entry) (msg : Unnumbered) → Sound es → is_open s es ≡ true → sent_for s (es ++ e ∷ []) e ≡ msg ∷ [] → added s es e ≡ told (live_in (open_sessions_of s.client es) es) msg
+added_one s es e msg sound o one =
+    ap (drop (length (stream s es))) (stream_step s es e o)
+    ∙ drop_first (stream s es) (numbered_from (length (stream s es) + 1) (sent_for s (es ++ e ∷ []) e))
+    ∙ ap (numbered_from (length (stream s es) + 1)) one
+    ∙ ap (λ l. told (live_in l es) msg) (sym (only_open s es sound o))
+
+-- the answers of an entry are those that the part of its client gives
+pub answers_are : (es : List Entry) (m : ℕ) (e : Entry) → Sound es → Fits es m e → answers_to es e ≡ answer_by (length es + 1) e (part_of (session_of e).client es)
+answers_are es m (entry.Open s) sound f = λ i. Welcome s (length-append es (entry.Open s ∷ []) i) (length (no_row s.client es (entry.Open s) refl i)) ∷ []
+answers_are es m (entry.Op s q n op outcome) sound f =
+    let e = entry.Op s q n op outcome in
+    added_one s es e (λ r. Reply s r (length es + 1) q n (length es + 1) (kept_of outcome)) sound f.0.0
+    (ap (λ b. cond b (own_answer (es ++ e ∷ []) e) []) (session_itself s) ∙ λ i. (λ r. Reply s r (length-append es (e ∷ []) i) q n (length-append es (e ∷ []) i) (kept_of outcome)) ∷ [])
+answers_are es m (entry.Again s q n) sound f =
+    let e = entry.Again s q n in
+    let row = row_there es s.client n f.1 f.2 in
+    added_one s es e (λ r. Reply s r (length es + 1) q n row.0.done row.0.kept) sound f.0.0 (sent_again es s q n row.0 row.1)
+    ∙ ap (told_row s (length es + 1) q n (live_in (open_sessions_of s.client es) es)) (sym row.1)
+answers_are es m (entry.Ended s q why rows) sound f =
+    let e = entry.Ended s q why rows in
+    added_one s es e (λ r. Gone s r (length es + 1) why) sound f.0
+    (ap (λ b. cond b (own_answer (es ++ e ∷ []) e) []) (session_itself s) ∙ λ i. (λ r. Gone s r (length-append es (e ∷ []) i) why) ∷ [])

@@ -1,0 +1,223 @@
+-- What a client's part answers is what the log asks for, and what it makes may come.
+use Rattle.std.proofs.Common.{refl, sym, ◌∙◌, ap, subst, ◌≡◌, ◌≢◌, ℕ, ◌+◌, ◌-◌, ◌^◌, ◌≤◌, List, [], ◌∷◌, ◌++◌, length, map, true, false, cond, ◌||◌, ◌&&◌, ◌==◌, nat_lt, nat_le, append_assoc, arith, length-append, Option, Some, None, slice_get, unwrap_or, inl, inr}
+use Rattle.std.specs.List.{list_any, list_all}
+use Rattle.std.proofs.lemmas.Bool.{and_from, eqb-true, eq-eqb}
+use Rattle.std.proofs.lemmas.Bool.Decides.{nat_tests}
+use Rattle.std.proofs.lemmas.Option.{slice_get_past, slice_get_cases}
+use Rattle.pres_write.specs.declared.op.Op.{Op}
+use Rattle.pres_write.specs.Outcomes.{resolved}
+use Rattle.pres_wire.specs.declared.id.Stamp.{Stamp}
+use Rattle.pres_wire.specs.declared.id.SessionId.{SessionId}
+use Rattle.pres_wire.specs.declared.id.Why.{Why}
+use Rattle.pres_wire.specs.declared.id.Why.TheVariants as why
+use Rattle.pres_wire.specs.declared.up.Up.TheVariants as up
+use Rattle.pres_wire.specs.Ids.{ClientId, same_session, is_earlier, stamp_of}
+use Rattle.pres_retry.specs.declared.table.Row.{Row}
+use Rattle.pres_retry.specs.Verdicts.{fresh, verdict, told_row}
+use Rattle.pres_log.specs.declared.entry.Entry.{Entry}
+use Rattle.pres_log.specs.declared.entry.Entry.TheVariants as entry
+use Rattle.pres_log.specs.declared.fault.Fault.TheVariants as fault
+use Rattle.pres_log.specs.Logs.{tree}
+use Rattle.pres_server.specs.declared.input.Input.{Input}
+use Rattle.pres_server.specs.declared.input.Input.TheVariants as input
+use Rattle.pres_server.specs.Sessions.{is_open, is_newest, count, open_sessions_of, open_sessions, last_of}
+use Rattle.pres_server.specs.Outcomes.{rows_for, ops}
+use Rattle.pres_server.specs.Streams.{stream}
+use Rattle.pres_server.specs.LegalLog.{MayCome, MayComeTogether, IsPlain, Supersedes, LeavesRoom, IsEndNumber}
+use Rattle.pres_server.specs.Messages.{Decision, refused, quiet, makes, op_by, in_order, if_open, ends_if_open, ends_first, hello, limited}
+use Rattle.pres_server.specs.Turns.{wanted, CountsWrites}
+use Rattle.pres_server.specs.Fits.{Fits}
+use Rattle.pres_server.specs.Parts.{LivePart, part_of, live_in, open_step, Sound, listed, session_with}
+use Rattle.pres_server.specs.Decide.{same_stamp, is_live, said_by, op_by_count, hello_by, client_in, ends_live, wanted_by, open_steps, limited_by}
+use Rattle.pres_server.proofs.Since.{client_itself, session_itself}
+use Rattle.pres_server.proofs.Steps.{In, or_false, open_listed, in_open}
+use Rattle.pres_server.proofs.Parts.{only_open, ended_own, no_more}
+use Rattle.pres_server.proofs.AfterEntry.{sound_after, open_after}
+
+stamp_itself : (s : Stamp) → same_stamp s s ≡ true
+stamp_itself s = and_from _ _ (eq-eqb s.incarnation s.incarnation refl) (eq-eqb s.attempt s.attempt refl)
+
+-- a session is open where it is the one that its client's part has
+pub live_is : (s : SessionId) (es : List Entry) → Sound es → is_open s es ≡ is_live (part_of s.client es).live (stamp_of s)
+live_is s es sound =
+    sym (open_listed s es)
+    ∙ ap (list_any (same_session s)) (sound.one_open s.client)
+    ∙ by (live_in (open_sessions_of s.client es) es) where
+      by : (l : Option LivePart) → list_any (same_session s) (listed s.client l) ≡ is_live l (stamp_of s)
+      by None = refl
+      by (Some l) = or_false (same_session s (session_with s.client l.stamp)) ∙ ap (λ b. b && s.incarnation == l.stamp.incarnation && s.attempt == l.stamp.attempt) (client_itself s.client)
+
+said_is : (s : SessionId) (q : ℕ) (d : Decision) (es : List Entry) → Sound es → if_open es s (in_order es s q d) ≡ said_by (part_of s.client es).live s q d
+said_is s q d es sound = elim (is_open s es) as (λ b. is_open s es ≡ b → cond b (in_order es s q d) (refused fault.Session) ≡ said_by (part_of s.client es).live s q d) [
+  | true ↦ λ o.
+      let l : LivePart = record { stamp = (stamp_of s); count = count s es; sent = length (stream s es) } in
+      let same : same_stamp (stamp_of s) (stamp_of s) ≡ true = stamp_itself (stamp_of s) in
+      ap (λ b. cond b (in_order es s q d) (refused fault.Session)) (sym same) ∙ ap (λ xs. said_by (live_in xs es) s q d) (sym (only_open s es sound o))
+  | false ↦ λ o. by (part_of s.client es).live (sym (live_is s es sound) ∙ o)
+] refl where
+  by : (l : Option LivePart) → is_live l (stamp_of s) ≡ false → refused fault.Session ≡ said_by l s q d
+  by None e = refl
+  by (Some l) e = ap (λ b. cond b (cond (nat_le q l.count) quiet (cond (q == l.count + 1) d (refused fault.Order))) (refused fault.Session)) (sym e)
+
+op_is : (rows : List Row) (es : List Entry) (m : ℕ) (s : SessionId) (q n : ℕ) (op : Op) → 1 ≤ n → op_by (verdict n rows) es m s q n op ≡ op_by_count (length rows) (tree es) m s q n op
+op_is rows es m s q n op low = elim (n == length rows + 1) as (λ b. op_by (cond b fresh (told_row (slice_get rows (n - 1)))) es m s q n op
+    ≡ cond b (makes (entry.Op s q n op (resolved (tree es) m op) ∷ [])) (cond (nat_lt (length rows) n) (refused fault.Order) (makes (entry.Again s q n ∷ [])))) [
+      | true ↦ refl
+      | false ↦ elim (nat_lt (length rows) n) as (λ b. nat_lt (length rows) n ≡ b → op_by (told_row (slice_get rows (n - 1))) es m s q n op ≡ cond b (refused fault.Order) (makes (entry.Again s q n ∷ []))) [
+        | true ↦ λ h. ap (λ o. op_by (told_row o) es m s q n op) (slice_get_past rows (n - 1) (past (length rows) n h))
+        | false ↦ λ h. elim (slice_get_cases rows (n - 1)).1 [
+          | inl here ↦ ap (λ o. op_by (told_row o) es m s q n op) here.2
+          | inr end ↦ absurd (within (length rows) n h low end.0)
+        ]
+      ] refl
+    ] where
+      past : (k n : ℕ) → nat_lt k n ≡ true → k ≤ n - 1
+      past k n h = grind (arith, nat_tests)
+
+      within : (k n : ℕ) → nat_lt k n ≡ false → 1 ≤ n → k ≤ n - 1 → ⊥
+      within k n h low end = grind (arith, nat_tests)
+
+hello_is : (s : SessionId) (es : List Entry) → Sound es → hello es s ≡ hello_by (part_of s.client es) s
+hello_is s es sound = λ i. cond (sound.newest s i) (makes (map (λ t. entry.Ended t None why.Superseded []) (sound.one_open s.client i) ++ entry.Open s ∷ [])) (refused (fault.Old (unwrap_or (last_of s.client es) (stamp_of s))))
+
+ends_is : (es : List Entry) (w : Why) (s : SessionId) → Sound es → ends_if_open es w s ≡ ends_live (part_of s.client es).live w s
+ends_is es w s sound = ap (λ b. cond b (makes (entry.Ended s None w [] ∷ [])) quiet) (live_is s es sound)
+
+pub wanted_is : (es : List Entry) (m : ℕ) (i : Input) → Sound es → CountsWrites i → wanted es m i ≡ wanted_by (part_of (client_in i) es) (tree es) m i
+wanted_is es m (input.Up (up.Hello s)) sound low = hello_is s es sound
+wanted_is es m (input.Up (up.Op s q n op)) sound low = ap (λ d. if_open es s (in_order es s q d)) (op_is (rows_for s.client es) es m s q n op low) ∙ said_is s q _ es sound
+wanted_is es m (input.Up (up.Bye s q)) sound low = said_is s q _ es sound
+wanted_is es m (input.Lost s) sound low = ends_is es why.Lost s sound
+wanted_is es m (input.Slow s) sound low = ends_is es why.Slow s sound
+wanted_is es m (input.Restart c) sound low = ap (ends_first why.Restart) (sound.one_open c)
+
+-- entries that may come together, but for the limit on open sessions
+abbrev pub Together : List Entry → ℕ → List Entry → Type 0
+Together es m (e ∷ []) = IsPlain e × Fits es m e
+Together es m (e ∷ f ∷ []) = Supersedes e f × Fits es m e × Fits (es ++ e ∷ []) m f
+Together es m _ = ⊥
+
+abbrev pub Allowed : List Entry → ℕ → Decision → Type 0
+Allowed es m (makes xs) = Together es m xs
+Allowed es m other = Unit {0}
+
+hello_allowed : (es : List Entry) (m : ℕ) (s : SessionId) → Sound es → Allowed es m (hello es s)
+hello_allowed es m s sound = elim (is_newest s es) as (λ b. is_newest s es ≡ b → Allowed es m (cond b (makes (map (λ t. entry.Ended t None why.Superseded []) (open_sessions_of s.client es) ++ entry.Open s ∷ [])) (refused (fault.Old (unwrap_or (last_of s.client es) (stamp_of s)))))) [
+  | true ↦ λ new. by new (live_in (open_sessions_of s.client es) es) (sound.one_open s.client)
+  | false ↦ λ _. tt
+] refl where
+  by : is_newest s es ≡ true → (l : Option LivePart) → open_sessions_of s.client es ≡ listed s.client l → Together es m (map (λ t. entry.Ended t None why.Superseded []) (open_sessions_of s.client es) ++ entry.Open s ∷ [])
+  by new None e = subst (λ xs. Together es m (map (λ t. entry.Ended t None why.Superseded []) xs ++ entry.Open s ∷ [])) (sym e) (tt, (new, e))
+  by new (Some l) e =
+      let t : SessionId = session_with s.client l.stamp in
+      let here : In t (open_sessions_of s.client es) = ap (list_any (same_session t)) e ∙ ap (λ b. b || false) (session_itself t) in
+      let o : is_open t es ≡ true = (in_open t s.client es here).1 in
+      let ss = no_more s.client es (entry.Ended t None why.Superseded []) refl in
+      subst (λ xs. Together es m (map (λ t. entry.Ended t None why.Superseded []) xs ++ entry.Open s ∷ [])) (sym e)
+      ((refl, refl), (o, refl, refl), (newest_still s t new, ended_own es t None why.Superseded [] sound o)) where
+        newest_still : (s t : SessionId) → is_newest s es ≡ true → is_newest s (es ++ entry.Ended t None why.Superseded [] ∷ []) ≡ true
+        newest_still s t new = ap (list_all (λ x. is_earlier (stamp_of x) (stamp_of s))) (no_more s.client es (entry.Ended t None why.Superseded []) refl) ∙ new
+
+said_allowed : (es : List Entry) (m : ℕ) (s : SessionId) (q : ℕ) (d : Decision) → (is_open s es ≡ true → q ≡ count s es + 1 → Allowed es m d) → Allowed es m (if_open es s (in_order es s q d))
+said_allowed es m s q d h = elim (is_open s es) as (λ b. is_open s es ≡ b → Allowed es m (cond b (in_order es s q d) (refused fault.Session))) [
+  | true ↦ λ o. elim (nat_le q (count s es)) as (λ b. Allowed es m (cond b quiet (cond (q == count s es + 1) d (refused fault.Order)))) [
+    | true ↦ tt
+    | false ↦ elim (q == count s es + 1) as (λ b. (q == count s es + 1) ≡ b → Allowed es m (cond b d (refused fault.Order))) [
+      | true ↦ λ e. h o (eqb-true q (count s es + 1) e)
+      | false ↦ λ _. tt
+    ] refl
+  ]
+  | false ↦ λ _. tt
+] refl
+
+op_allowed : (es : List Entry) (m : ℕ) (s : SessionId) (q n : ℕ) (op : Op) → 1 ≤ n → is_open s es ≡ true → q ≡ count s es + 1 → Allowed es m (op_by_count (ops s.client es) (tree es) m s q n op)
+op_allowed es m s q n op low o k = elim (n == ops s.client es + 1) as (λ b. (n == ops s.client es + 1) ≡ b → Allowed es m (cond b (makes (entry.Op s q n op (resolved (tree es) m op) ∷ [])) (cond (nat_lt (ops s.client es) n) (refused fault.Order) (makes (entry.Again s q n ∷ []))))) [
+  | true ↦ λ e. (tt, ((o, k), eqb-true n (ops s.client es + 1) e, refl))
+  | false ↦ λ _. elim (nat_lt (ops s.client es) n) as (λ b. nat_lt (ops s.client es) n ≡ b → Allowed es m (cond b (refused fault.Order) (makes (entry.Again s q n ∷ [])))) [
+    | true ↦ λ _. tt
+    | false ↦ λ e. (tt, ((o, k), low, high n (ops s.client es) e))
+  ] refl
+] refl where
+  high : (a b : ℕ) → nat_lt b a ≡ false → a ≤ b
+  high a b e = grind (arith, nat_tests)
+
+ends_allowed : (es : List Entry) (m : ℕ) (w : Why) (s : SessionId) → w ≢ why.Superseded → IsEndNumber s None w es → Allowed es m (ends_if_open es w s)
+ends_allowed es m w s plain none = elim (is_open s es) as (λ b. is_open s es ≡ b → Allowed es m (cond b (makes (entry.Ended s None w [] ∷ [])) quiet)) [
+  | true ↦ λ o. (plain, (o, none, refl))
+  | false ↦ λ _. tt
+] refl
+
+restart_allowed : (es : List Entry) (m : ℕ) (c : ClientId) → Sound es → Allowed es m (ends_first why.Restart (open_sessions_of c es))
+restart_allowed es m c sound = by (live_in (open_sessions_of c es) es) (sound.one_open c) where
+  by : (l : Option LivePart) → open_sessions_of c es ≡ listed c l → Allowed es m (ends_first why.Restart (open_sessions_of c es))
+  by None e = subst (λ xs. Allowed es m (ends_first why.Restart xs)) (sym e) tt
+  by (Some l) e =
+      let t : SessionId = session_with c l.stamp in
+      let here : In t (open_sessions_of c es) = ap (list_any (same_session t)) e ∙ ap (λ b. b || false) (session_itself t) in
+      subst (λ xs. Allowed es m (ends_first why.Restart xs)) (sym e) ((λ e. absurd (cc)), ((in_open t c es here).1, refl, refl))
+
+pub wanted_allowed : (es : List Entry) (m : ℕ) (i : Input) → Sound es → CountsWrites i → Allowed es m (wanted es m i)
+wanted_allowed es m (input.Up (up.Hello s)) sound low = hello_allowed es m s sound
+wanted_allowed es m (input.Up (up.Op s q n op)) sound low =
+    said_allowed es m s q (op_by (verdict n (rows_for s.client es)) es m s q n op) (λ o k. subst (Allowed es m) (sym (op_is (rows_for s.client es) es m s q n op low)) (op_allowed es m s q n op low o k))
+wanted_allowed es m (input.Up (up.Bye s q)) sound low = said_allowed es m s q (makes (entry.Ended s (Some q) why.Bye [] ∷ [])) (λ o k. ((λ e. absurd (cc)), (o, ap Some k, refl)))
+wanted_allowed es m (input.Lost s) sound low = ends_allowed es m why.Lost s (λ e. absurd (cc)) refl
+wanted_allowed es m (input.Slow s) sound low = ends_allowed es m why.Slow s (λ e. absurd (cc)) refl
+wanted_allowed es m (input.Restart c) sound low = restart_allowed es m c sound
+
+-- the open sessions after several entries
+pub opens_are : (es : List Entry) (m : ℕ) (xs : List Entry) → Sound es → Together es m xs → length (open_sessions (es ++ xs)) ≡ open_steps xs (length (open_sessions es))
+opens_are es m [] sound t = absurd t
+opens_are es m (e ∷ []) sound t = open_after es m e sound t.1
+opens_are es m (e ∷ f ∷ []) sound t =
+    ap (λ l. length (open_sessions l)) (sym (append_assoc es (e ∷ []) (f ∷ [])))
+    ∙ open_after (es ++ e ∷ []) m f (sound_after es m e sound t.1) t.2
+    ∙ ap (open_step f) (open_after es m e sound t.1)
+opens_are es m (e ∷ f ∷ g ∷ more) sound t = absurd t
+
+pub limited_is : (es : List Entry) (m : ℕ) (d : Decision) → Sound es → Allowed es m d → limited es d ≡ limited_by (length es) (length (open_sessions es)) d
+limited_is es m (makes xs) sound t =
+    λ i. cond (nat_lt (2 ^ 52 - 1) (length-append es xs i + opens_are es m xs sound t i)) (refused fault.Spent) (cond (nat_lt 1024 (opens_are es m xs sound t i)) (refused fault.Full) (makes xs))
+limited_is es m quiet sound t = refl
+limited_is es m (refused c) sound t = refl
+
+pub together : (es : List Entry) (m : ℕ) (xs : List Entry) → Together es m xs → length (open_sessions (es ++ xs)) ≤ 1024 → MayComeTogether es m xs
+together es m [] t h = absurd t
+together es m (e ∷ []) t h = (t.0, full es e t.1 h) where
+  full : (bs : List Entry) (x : Entry) → Fits bs m x → length (open_sessions (bs ++ x ∷ [])) ≤ 1024 → MayCome bs m x
+  full bs (entry.Open s) g k = (g.0, g.1, k)
+  full bs (entry.Op s q n op outcome) g k = g
+  full bs (entry.Again s q n) g k = g
+  full bs (entry.Ended s q w rows) g k = g
+together es m (e ∷ f ∷ []) t h = (t.0, first_of e f t.0 t.1, full (es ++ e ∷ []) f t.2 (subst (λ l. length (open_sessions l) ≤ 1024) (sym (append_assoc es (e ∷ []) (f ∷ []))) h)) where
+  full : (bs : List Entry) (x : Entry) → Fits bs m x → length (open_sessions (bs ++ x ∷ [])) ≤ 1024 → MayCome bs m x
+  full bs (entry.Open s) g k = (g.0, g.1, k)
+  full bs (entry.Op s q n op outcome) g k = g
+  full bs (entry.Again s q n) g k = g
+  full bs (entry.Ended s q w rows) g k = g
+
+  first_of : (x y : Entry) → Supersedes x y → Fits es m x → MayCome es m x
+  first_of (entry.Open s) y p g = absurd p
+  first_of (entry.Op s q n op outcome) y p g = g
+  first_of (entry.Again s q n) y p g = g
+  first_of (entry.Ended s q w rows) y p g = g
+together es m (e ∷ f ∷ g ∷ more) t h = absurd t
+
+-- what a turn makes may come, and leaves room
+abbrev pub AllowedFully : List Entry → ℕ → Decision → Type 0
+AllowedFully es m (makes xs) = MayComeTogether es m xs × LeavesRoom (es ++ xs) × Together es m xs
+AllowedFully es m other = Unit {0}
+
+pub limited_allowed : (es : List Entry) (m : ℕ) (d : Decision) → Allowed es m d → AllowedFully es m (limited es d)
+limited_allowed es m quiet t = tt
+limited_allowed es m (refused c) t = tt
+limited_allowed es m (makes xs) t =
+    elim (nat_lt (2 ^ 52 - 1) (length (es ++ xs) + length (open_sessions (es ++ xs)))) as (λ b. nat_lt (2 ^ 52 - 1) (length (es ++ xs) + length (open_sessions (es ++ xs))) ≡ b → AllowedFully es m (cond b (refused fault.Spent) (cond (nat_lt 1024 (length (open_sessions (es ++ xs)))) (refused fault.Full) (makes xs)))) [
+      | true ↦ λ _. tt
+      | false ↦ λ room. elim (nat_lt 1024 (length (open_sessions (es ++ xs)))) as (λ b. nat_lt 1024 (length (open_sessions (es ++ xs))) ≡ b → AllowedFully es m (cond b (refused fault.Full) (makes xs))) [
+        | true ↦ λ _. tt
+        | false ↦ λ few. (together es m xs t (at_most 1024 (length (open_sessions (es ++ xs))) few), at_most (2 ^ 52 - 1) (length (es ++ xs) + length (open_sessions (es ++ xs))) room, t)
+      ] refl
+    ] refl where
+      at_most : (a b : ℕ) → nat_lt a b ≡ false → b ≤ a
+      at_most a b e = grind (arith, nat_tests)

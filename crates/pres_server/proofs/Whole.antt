@@ -1,0 +1,175 @@
+-- The log as a whole.
+use Rattle.std.proofs.Common.{sym, subst, refl, ◌≡◌, ℕ, ◌+◌, ◌≤◌, suc, List, [], ◌∷◌, ◌++◌, length, map, Bool, true, false, cond, append_assoc, append-nil, arith, length-append, length-drop, Option, Some, None, is_some}
+use Rattle.std.specs.List.{filter, before_first, position_or_len}
+use Rattle.std.specs.FinMap.Entries.{length-put, find}
+use Rattle.std.specs.Cmp.Lexicographic.{nat_list_cmp_total}
+use Rattle.std.proofs.lemmas.List.{length-map}
+use Rattle.pres_tree.specs.Paths.{sorted_by}
+use Rattle.pres_write.specs.Moments as moments
+use Rattle.pres_wire.specs.declared.id.SessionId.{SessionId}
+use Rattle.pres_wire.specs.Ids.{ClientId, client_cmp, same_session}
+use Rattle.pres_retry.specs.declared.table.Row.{Row}
+use Rattle.pres_log.specs.declared.entry.Batch.{Batch}
+use Rattle.pres_log.specs.declared.entry.Entry.{Entry}
+use Rattle.pres_log.specs.declared.entry.Entry.TheVariants as entry
+use Rattle.pres_log.specs.Logs.{Log, entries, last_moment}
+use Rattle.pres_log.proofs.Entries.{entries-push, last_moment-push}
+use Rattle.pres_server.specs.declared.input.Input.{Input}
+use Rattle.pres_server.specs.Sessions.{session_of, opened, opens, ends, since_open, is_open, count, open_sessions}
+use Rattle.pres_server.specs.Streams.{stream, sent_for, sent_from, own_answer, repeated_reply}
+use Rattle.pres_server.specs.LegalLog.{IsLegal, IsLegalAfter, MayFollow, MayComeTogether, LeavesRoom}
+use Rattle.pres_server.specs.Messages.{Decision, makes, quiet, refused, moment_of}
+use Rattle.pres_server.specs.Turns.{wanted, turn, batch_of, log_after, CountsWrites}
+use Rattle.pres_server.specs.Claims.{TurnIsLegal, LegalIsSound}
+use Rattle.pres_server.specs.Fits.{Fits, AllFit}
+use Rattle.pres_server.specs.Parts.{Sound}
+use Rattle.pres_server.proofs.StreamSteps.{length-numbered_from}
+use Rattle.pres_server.proofs.Parts.{fits}
+use Rattle.pres_server.proofs.AfterEntry.{sound_start, sound_after, length_open, by_client, sorted_is}
+use Rattle.pres_server.proofs.Decide.{Together, AllowedFully, wanted_allowed, limited_allowed}
+
+-- ---- bounds
+
+filter_small : {A : Type 0} (p : A → Bool) (xs : List A) → length (filter p xs) ≤ length xs
+filter_small p [] = omega arith
+filter_small p (x ∷ xs) = by (p x) (filter_small p xs) where
+  by : (b : Bool) → length (filter p xs) ≤ length xs → length (cond b (x ∷ filter p xs) (filter p xs)) ≤ suc (length xs)
+  by true h = omega arith
+  by false h = omega arith
+
+pub count_small : (s : SessionId) (es : List Entry) → count s es ≤ length es
+count_small s es =
+    let a = filter_small (λ e. same_session s (session_of e)) (since_open s es) in
+    let b = length-drop (position_or_len (opens s) es + 1) es in
+    omega arith
+
+sent_small : (s : SessionId) (now : List Entry) (e : Entry) → length (sent_for s now e) ≤ 1
+sent_small s now e = by (same_session s (session_of e)) where
+  one : (x : Entry) → length (own_answer now x) ≤ 1
+  one (entry.Open t) = omega arith
+  one (entry.Op t q n op outcome) = omega arith
+  one (entry.Again t q n) = row _ where
+    row : (o : Option Row) → length (repeated_reply t (length now) q n o) ≤ 1
+    row None = omega arith
+    row (Some r) = omega arith
+  one (entry.Ended t q why rows) = omega arith
+
+  by : (b : Bool) → length (cond b (own_answer now e) []) ≤ 1
+  by true = one e
+  by false = omega arith
+
+sent_from_small : (s : SessionId) (before later : List Entry) → length (sent_from s before later) ≤ length later
+sent_from_small s before [] = omega arith
+sent_from_small s before (e ∷ later) =
+    let first = sent_small s (before ++ e ∷ []) e in
+    let rest = by (ends s e) (sent_from_small s (before ++ e ∷ []) later) in
+    let both = length-append (sent_for s (before ++ e ∷ []) e) (cond (ends s e) [] (sent_from s (before ++ e ∷ []) later)) in
+    omega arith where
+      by : (b : Bool) → length (sent_from s (before ++ e ∷ []) later) ≤ length later → length (cond b [] (sent_from s (before ++ e ∷ []) later)) ≤ length later
+      by true h = omega arith
+      by false h = h
+
+pub stream_small : (s : SessionId) (es : List Entry) → length (stream s es) ≤ length es
+stream_small s es =
+    let a = sent_from_small s (before_first (opens s) es ++ entry.Open s ∷ []) (since_open s es) in
+    let b = length-drop (position_or_len (opens s) es + 1) es in
+    let d = length-numbered_from 1 (sent_from s (before_first (opens s) es ++ entry.Open s ∷ []) (since_open s es)) in
+    omega arith
+
+sorted_small : (xs : List (ClientId × SessionId)) → length (sorted_by client_cmp xs) ≤ length xs
+sorted_small [] = omega arith
+sorted_small (x ∷ xs) =
+    let a = length-put client_cmp nat_list_cmp_total x.0 x.1 (sorted_by client_cmp xs) (sorted_is xs) in
+    let b = at_most (is_some (find client_cmp x.0 (sorted_by client_cmp xs))) (length (sorted_by client_cmp xs)) in
+    let r = sorted_small xs in
+    omega arith where
+      at_most : (b : Bool) (n : ℕ) → cond b n (n + 1) ≤ n + 1
+      at_most true n = omega arith
+      at_most false n = omega arith
+
+opened_small : (es : List Entry) → length (opened es) ≤ length es
+opened_small [] = omega arith
+opened_small (entry.Open s ∷ es) = let r = opened_small es in omega arith
+opened_small (entry.Op s q n op outcome ∷ es) = let r = opened_small es in omega arith
+opened_small (entry.Again s q n ∷ es) = let r = opened_small es in omega arith
+opened_small (entry.Ended s q why rows ∷ es) = let r = opened_small es in omega arith
+
+pub open_small : (es : List Entry) → length (open_sessions es) ≤ length es
+open_small es =
+    let a = length_open es in
+    let b = sorted_small (map by_client (filter (λ s. is_open s es) (opened es))) in
+    let d = length-map (filter (λ s. is_open s es) (opened es)) by_client in
+    let f = filter_small (λ s. is_open s es) (opened es) in
+    let g = opened_small es in
+    omega arith
+
+-- ---- entries that fit
+
+pub all_fit : (es : List Entry) (m : ℕ) (xs : List Entry) → Together es m xs → AllFit es m xs
+all_fit es m [] t = absurd t
+all_fit es m (e ∷ []) t = (t.1, tt)
+all_fit es m (e ∷ f ∷ []) t = (t.1, (t.2, tt))
+all_fit es m (e ∷ f ∷ g ∷ more) t = absurd t
+
+-- of a batch that may follow, the entries fit one after another
+pub follows_fit : (es : List Entry) (m : ℕ) (xs : List Entry) → MayComeTogether es m xs → AllFit es m xs
+follows_fit es m [] t = absurd t
+follows_fit es m (e ∷ []) t = (fits es m e t.1, tt)
+follows_fit es m (e ∷ f ∷ []) t = (fits es m e t.1, (fits (es ++ e ∷ []) m f t.2, tt))
+follows_fit es m (e ∷ f ∷ g ∷ more) t = absurd t
+
+-- the first of several entries and the rest
+pub first_fits : (es : List Entry) (m : ℕ) (xs : List Entry) (e : Entry) (more : List Entry) → xs ≡ e ∷ more → AllFit es m xs → Fits es m e × AllFit (es ++ e ∷ []) m more
+first_fits es m xs e more k h = subst (AllFit es m) k h
+
+pub sound_further : (es : List Entry) (m : ℕ) (xs : List Entry) → Sound es → AllFit es m xs → Sound (es ++ xs)
+sound_further es m [] sound f = subst Sound (sym (append-nil es)) sound
+sound_further es m (e ∷ xs) sound f = subst Sound (append_assoc es (e ∷ []) xs) (sound_further (es ++ e ∷ []) m xs (sound_after es m e sound f.0) f.1)
+
+-- ---- one batch more
+
+legal-append : (before log : Log) (b : Batch) → IsLegalAfter before log → MayFollow (before ++ log) b → IsLegalAfter before (log ++ b ∷ [])
+legal-append before [] b h f = (subst (λ l. MayFollow l b) (append-nil before) f, tt)
+legal-append before (a ∷ log) b h f = (h.0, legal-append (before ++ a ∷ []) log b h.1 (subst (λ l. MayFollow l b) (sym (append_assoc before (a ∷ []) log)) f))
+
+pub legal_after : (log : Log) (b : Batch) → IsLegal log → MayFollow log b → IsLegal (log ++ b ∷ [])
+legal_after log b h f = legal-append [] log b h f
+
+-- what holds of the first log and of each batch more holds of a legal log
+along : (P : Log → Type 0) → ((log : Log) (b : Batch) → P log → MayFollow log b → P (log ++ b ∷ [])) → (before log : Log) → P before → IsLegalAfter before log → P (before ++ log)
+along P step before [] start legal = subst P (sym (append-nil before)) start
+along P step before (b ∷ log) start legal = subst P (append_assoc before (b ∷ []) log) (along P step (before ++ b ∷ []) log (step before b start legal.0) legal.1)
+
+pub of_legal : (P : Log → Type 0) → P [] → ((log : Log) (b : Batch) → P log → MayFollow log b → P (log ++ b ∷ [])) → (log : Log) → IsLegal log → P log
+of_legal P start step log legal = along P step [] log start legal
+
+pub legal_is_sound : (log : Log) → LegalIsSound log
+legal_is_sound = of_legal (λ log. Sound (entries log)) sound_start
+    (λ log b sound f. subst Sound (sym (entries-push log b)) (sound_further (entries log) b.moment b.entries sound (follows_fit (entries log) b.moment b.entries f.allowed)))
+
+-- its moments are in range, and each open session has a number left for its end
+pub legal_in_range : (log : Log) → IsLegal log → last_moment log ≤ moments.last_moment
+legal_in_range = of_legal (λ log. last_moment log ≤ moments.last_moment) (omega arith)
+    (λ log b low f. let last = last_moment-push log b in let range = f.in_range in omega arith)
+
+pub legal_leaves_room : (log : Log) → IsLegal log → LeavesRoom (entries log)
+legal_leaves_room = of_legal (λ log. LeavesRoom (entries log)) (let none : length (open_sessions []) ≡ 0 = refl in omega arith)
+    (λ log b room f. subst LeavesRoom (sym (entries-push log b)) f.room)
+
+-- ---- turns
+
+-- what a turn makes may follow
+pub may_follow : (log : Log) (i : Input) (now : ℕ) (xs : List Entry) → IsLegal log → CountsWrites i → turn log i now ≡ makes xs → MayFollow log (batch_of log (moment_of log now) xs)
+may_follow log i now xs legal low e =
+    let es = entries log in
+    let m = moment_of log now in
+    let full : AllowedFully es m (makes xs) = subst (AllowedFully es m) e (limited_allowed es m (wanted es m i) (wanted_allowed es m i (legal_is_sound log legal) low)) in
+    let range = legal_in_range log legal in
+    record { first = refl; not_earlier = omega arith; in_range = omega arith; allowed = full.0; room = full.1 }
+
+pub turn_is_legal : (log : Log) (i : Input) (now : ℕ) → TurnIsLegal log i now
+turn_is_legal log i now legal low = by (turn log i now) refl where
+  by : (d : Decision) → turn log i now ≡ d → IsLegal (log_after log (moment_of log now) d)
+  by (makes xs) e = legal_after log (batch_of log (moment_of log now) xs) legal (may_follow log i now xs legal low e)
+  by quiet e = legal
+  by (refused c) e = legal

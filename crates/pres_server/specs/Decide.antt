@@ -1,0 +1,79 @@
+-- What an input asks for, by what the log says of its client.
+use Rattle.std.specs.Prelude.{ℕ, ◌+◌, ◌-◌, ◌^◌, Bool, false, ◌&&◌, List, [], ◌∷◌, ◌++◌, map, length, Option, Some, None, if◌then◌else◌, nat_lt, nat_le, ◌==◌, unwrap_or}
+use Rattle.pres_tree.specs.declared.scalar.Scalar.{Scalar}
+use Rattle.pres_tree.specs.Rows.{Rows}
+use Rattle.pres_write.specs.declared.op.Op.{Op}
+use Rattle.pres_write.specs.Outcomes.{resolved}
+use Rattle.pres_wire.specs.declared.id.Stamp.{Stamp}
+use Rattle.pres_wire.specs.declared.id.SessionId.{SessionId}
+use Rattle.pres_wire.specs.declared.id.Why.{Why}
+use Rattle.pres_wire.specs.declared.id.Why.TheVariants as why
+use Rattle.pres_wire.specs.declared.up.Up.{Up}
+use Rattle.pres_wire.specs.declared.up.Up.TheVariants as up
+use Rattle.pres_wire.specs.Ids.{ClientId, stamp_of}
+use Rattle.pres_wire.specs.Messages.{session_in}
+use Rattle.pres_log.specs.declared.entry.Entry.{Entry}
+use Rattle.pres_log.specs.declared.entry.Entry.TheVariants as entry
+use Rattle.pres_log.specs.declared.fault.Fault.TheVariants as fault
+use Rattle.pres_server.specs.declared.input.Input.{Input}
+use Rattle.pres_server.specs.declared.input.Input.TheVariants as input
+use Rattle.pres_server.specs.Messages.{Decision, refused, quiet, makes, ends_first}
+use Rattle.pres_server.specs.Parts.{Part, LivePart, open_step, comes_after, listed}
+
+abbrev pub same_stamp : Stamp → Stamp → Bool
+same_stamp s t = s.incarnation == t.incarnation && s.attempt == t.attempt
+
+-- the open session has the stamp
+abbrev pub is_live : Option LivePart → Stamp → Bool
+is_live None t = false
+is_live (Some l) t = same_stamp t l.stamp
+
+abbrev pub said_by : Option LivePart → SessionId → ℕ → Decision → Decision
+said_by None s q accepted = refused fault.Session
+said_by (Some l) s q accepted =
+    if same_stamp (stamp_of s) l.stamp
+    then (if nat_le q l.count then quiet else (if q == l.count + 1 then accepted else refused fault.Order))
+    else refused fault.Session
+
+-- write n, counted from 1, of a client that has made so many
+abbrev pub op_by_count : ℕ → Rows Scalar → ℕ → SessionId → ℕ → ℕ → Op → Decision
+op_by_count ops tree moment s q n op =
+    if n == ops + 1
+    then makes (entry.Op s q n op (resolved tree moment op) ∷ [])
+    else (if nat_lt ops n then refused fault.Order else makes (entry.Again s q n ∷ []))
+
+abbrev pub hello_by : Part → SessionId → Decision
+hello_by p s =
+    if comes_after p.last (stamp_of s)
+    then makes (map (λ t. entry.Ended t None why.Superseded []) (listed s.client p.live) ++ entry.Open s ∷ [])
+    else refused (fault.Old (unwrap_or p.last (stamp_of s)))
+
+abbrev pub message_by : Part → Rows Scalar → ℕ → Up → Decision
+message_by p tree moment (up.Hello s) = hello_by p s
+message_by p tree moment (up.Op s q n op) = said_by p.live s q (op_by_count (length p.rows) tree moment s q n op)
+message_by p tree moment (up.Bye s q) = said_by p.live s q (makes (entry.Ended s (Some q) why.Bye [] ∷ []))
+
+-- the client of an input
+abbrev pub client_in : Input → ClientId
+client_in (input.Up m) = (session_in m).client
+client_in (input.Lost s) = s.client
+client_in (input.Slow s) = s.client
+client_in (input.Restart c) = c
+
+abbrev pub ends_live : Option LivePart → Why → SessionId → Decision
+ends_live live why s = if is_live live (stamp_of s) then makes (entry.Ended s None why [] ∷ []) else quiet
+
+abbrev pub wanted_by : Part → Rows Scalar → ℕ → Input → Decision
+wanted_by p tree moment (input.Up m) = message_by p tree moment m
+wanted_by p tree moment (input.Lost s) = ends_live p.live why.Lost s
+wanted_by p tree moment (input.Slow s) = ends_live p.live why.Slow s
+wanted_by p tree moment (input.Restart c) = ends_first why.Restart (listed c p.live)
+
+abbrev pub open_steps : List Entry → ℕ → ℕ
+open_steps [] n = n
+open_steps (e ∷ es) n = open_steps es (open_step e n)
+
+abbrev pub limited_by : ℕ → ℕ → Decision → Decision
+limited_by number count (makes es) =
+    if nat_lt (2 ^ 52 - 1) (number + length es + open_steps es count) then refused fault.Spent else (if nat_lt 1024 (open_steps es count) then refused fault.Full else makes es)
+limited_by number count other = other

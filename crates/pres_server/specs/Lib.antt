@@ -1,0 +1,11 @@
+pub mod Sessions
+pub mod Outcomes
+pub mod Streams
+pub mod Answers
+pub mod LegalLog
+pub mod Messages
+pub mod Turns
+pub mod Parts
+pub mod Fits
+pub mod Decide
+pub mod Claims

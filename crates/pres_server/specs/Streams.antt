@@ -1,0 +1,51 @@
+-- What a session is sent: the stream of its messages, read off the log. The numbers of messages are ours.
+use Rattle.std.specs.Prelude.{ℕ, ◌+◌, ◌-◌, List, [], ◌∷◌, ◌++◌, length, Option, Some, None, if◌then◌else◌, slice_get}
+use Rattle.std.specs.List.{before_first}
+use Rattle.pres_write.specs.Outcomes.{kept_of}
+use Rattle.pres_wire.specs.declared.id.SessionId.{SessionId}
+use Rattle.pres_wire.specs.declared.down.Down.{Down}
+use Rattle.pres_wire.specs.declared.down.Down.TheVariants.{Welcome, Reply, Gone}
+use Rattle.pres_wire.specs.Ids.{same_session}
+use Rattle.pres_retry.specs.declared.table.Row.{Row}
+use Rattle.pres_log.specs.declared.entry.Entry.{Entry}
+use Rattle.pres_log.specs.declared.entry.Entry.TheVariants as entry
+use Rattle.pres_server.specs.Sessions.{session_of, opens, ends, since_open}
+use Rattle.pres_server.specs.Outcomes.{ops, rows_for}
+
+-- a message still without its r
+abbrev pub Unnumbered : Type 0
+Unnumbered = ℕ → Down
+
+abbrev pub repeated_reply : SessionId → ℕ → ℕ → ℕ → Option Row → List Unnumbered
+repeated_reply s z q n None = []
+repeated_reply s z q n (Some row) = (λ r. Reply s r z q n row.done row.kept) ∷ []
+
+-- the answer to an entry's own session, given the entries up to this one
+abbrev pub own_answer : List Entry → Entry → List Unnumbered
+own_answer now (entry.Open s) = []
+own_answer now (entry.Op s q n op outcome) = let z = length now in (λ r. Reply s r z q n z (kept_of outcome)) ∷ []
+own_answer now (entry.Again s q n) = repeated_reply s (length now) q n (slice_get (rows_for s.client now) (n - 1))
+own_answer now (entry.Ended s q why rows) = (λ r. Gone s r (length now) why) ∷ []
+
+-- what one entry, the last of these, adds to the stream of s
+abbrev pub sent_for : SessionId → List Entry → Entry → List Unnumbered
+sent_for s now e = if same_session s (session_of e) then own_answer now e else []
+
+-- what the later entries add, up to the end of s
+abbrev pub sent_from : SessionId → List Entry → List Entry → List Unnumbered
+sent_from s before [] = []
+sent_from s before (e ∷ later) =
+    let now = before ++ e ∷ [] in
+    sent_for s now e ++ (if ends s e then [] else sent_from s now later)
+
+abbrev pub numbered_from : ℕ → List Unnumbered → List Down
+numbered_from r [] = []
+numbered_from r (m ∷ ms) = m r ∷ numbered_from (r + 1) ms
+
+-- the messages of s after its Welcome, the k-th with r = k
+abbrev pub stream : SessionId → List Entry → List Down
+stream s entries = numbered_from 1 (sent_from s (before_first (opens s) entries ++ entry.Open s ∷ []) (since_open s entries))
+
+-- the Welcome of the session that the last of these entries opens
+abbrev pub welcome : SessionId → List Entry → Down
+welcome s now = Welcome s (length now) (ops s.client now)

@@ -1,0 +1,16 @@
+//! What comes to a server.
+
+use pres_wire::{ClientId, SessionId, Up};
+
+/// What comes to a server.
+#[derive(Drop)]
+pub enum Input {
+    /// A message of a client.
+    Up(Up),
+    /// The connection of the session was lost.
+    Lost(SessionId),
+    /// The session didn't take its messages in time.
+    Slow(SessionId),
+    /// The server was started again: the client's open session is to end.
+    Restart(ClientId),
+}
