@@ -1,15 +1,9 @@
 -- Clients, and the sessions of a client.
 use Rattle.std.specs.Prelude.{ℕ, List, Bool, ◌&&◌, ◌||◌, ◌==◌, nat_lt, nat_le, length}
 use Rattle.std.specs.List.{list_all}
-<<<<<<< HEAD
 use Rattle.std.specs.Ordering.{nat_cmp}
 use Rattle.std.specs.declared.cmp.Ordering.{Ordering}
 use Rattle.std.specs.Cmp.Lexicographic.{slice_cmp, pointwise}
-=======
-use Rattle.std.specs.Ordering.{nat_cmp, eq_by_cmp}
-use Rattle.std.specs.declared.cmp.Ordering.{Ordering}
-use Rattle.std.specs.Cmp.Lexicographic.{slice_cmp}
->>>>>>> 1cd75ae7cea072b85f25216c96c718bcbca5b55b
 use Rattle.pres_wire.specs.declared.id.Stamp.{Stamp}
 use Rattle.pres_wire.specs.declared.id.SessionId.{SessionId}
 
@@ -22,11 +16,7 @@ abbrev pub client_cmp : ClientId → ClientId → Ordering
 client_cmp = slice_cmp nat_cmp
 
 abbrev pub same_client : ClientId → ClientId → Bool
-<<<<<<< HEAD
 same_client = pointwise ◌==◌
-=======
-same_client = eq_by_cmp client_cmp
->>>>>>> 1cd75ae7cea072b85f25216c96c718bcbca5b55b
 
 -- A-Z, a-z, 0-9, _ and -
 abbrev pub is_id_byte : ℕ → Bool
