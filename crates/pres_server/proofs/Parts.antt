@@ -10,7 +10,7 @@ use Rattle.pres_wire.specs.declared.id.SessionId.{SessionId}
 use Rattle.pres_wire.specs.declared.id.Why.{Why}
 use Rattle.pres_write.specs.declared.basic.Basic.{Basic}
 use Rattle.pres_write.specs.declared.op.Op.{Op}
-use Rattle.pres_write.specs.declared.op.Outcome.{Outcome}
+use Rattle.pres_write.specs.declared.outcome.Outcome.{Outcome}
 use Rattle.pres_write.specs.Outcomes.{kept_of}
 use Rattle.pres_retry.specs.declared.table.Row.{Row}
 use Rattle.pres_log.specs.declared.entry.Entry.{Entry}

@@ -5,9 +5,9 @@ use Rattle.pres_tree.specs.Paths.{Path}
 use Rattle.pres_write.specs.declared.draft.Slot.TheVariants.{Fixed}
 use Rattle.pres_write.specs.declared.op.Op.{Op}
 use Rattle.pres_write.specs.declared.op.Op.TheVariants.{Set}
-use Rattle.pres_write.specs.declared.op.Outcome.{Outcome}
-use Rattle.pres_write.specs.declared.op.Outcome.TheVariants.{Wrote}
-use Rattle.pres_write.specs.declared.op.Kept.TheVariants as kept
+use Rattle.pres_write.specs.declared.outcome.Outcome.{Outcome}
+use Rattle.pres_write.specs.declared.outcome.Outcome.TheVariants.{Wrote}
+use Rattle.pres_write.specs.declared.outcome.Kept.TheVariants as kept
 use Rattle.pres_write.specs.Basics.{basic}
 use Rattle.pres_wire.specs.declared.id.SessionId.{SessionId}
 use Rattle.pres_wire.specs.declared.id.Why.TheVariants as why

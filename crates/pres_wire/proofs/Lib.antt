@@ -1,4 +1,5 @@
 pub mod Nesting
+pub mod OpNesting
 pub mod Replies
 pub mod Sessions
 pub mod Whole

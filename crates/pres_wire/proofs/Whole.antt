@@ -1,5 +1,9 @@
 -- The JSON of messages has no floats, so that its text is stated.
-use Rattle.std.proofs.Common.{◌≡◌, pos, negsuc, Bool, true, false, [], ◌∷◌, refl, ap, ◌∙◌, ◌||◌}
+use Rattle.std.proofs.Common.{◌≡◌, ℕ, pos, negsuc, Bool, true, false, List, drop, Option, Some, None, [], ◌∷◌, refl, ap, ◌∙◌, ◌||◌}
+use Rattle.std.specs.Ordering.{nat_cmp}
+use Rattle.std.specs.declared.cmp.Ordering.TheVariants.{Less, Equal, Greater}
+use Rattle.std.specs.Cmp.Lexicographic.{slice_cmp}
+use Rattle.std.specs.FinMap.Entries.{put, by_order}
 use Rattle.std.specs.Prelude.{IfOk, Result, Ok, Err, String, string_bytes}
 use Rattle.std.specs.declared.alloc.AllocError.{AllocError}
 use Rattle.std.specs.declared.alloc.Global.{Global}
@@ -8,19 +12,28 @@ use Rattle.serde_json.specs.Written.{has_float, members_have_float, compact_text
 use Rattle.pres_tree.specs.declared.scalar.Scalar.{Scalar}
 use Rattle.pres_tree.specs.declared.scalar.Scalar.TheVariants.{Bool as BoolOf, Int, Text}
 use Rattle.pres_tree.specs.Keys.{Key, same_key}
-use Rattle.pres_tree.specs.Paths.{Path}
-use Rattle.pres_tree.specs.Rows.{Rows, is_null}
+use Rattle.pres_tree.specs.Paths.{Path, path_text, sorted_by}
+use Rattle.pres_tree.specs.Rows.{Rows, is_null, rows_in}
 use Rattle.pres_tree.specs.Printing.{json_of, with_row, with_first, members_in}
 use Rattle.pres_tree.specs.Scalars.{scalar_printing}
 use Rattle.pres_write.specs.declared.draft.Slot.{Slot}
 use Rattle.pres_write.specs.declared.draft.Slot.TheVariants.{Fixed, Timestamp}
 use Rattle.pres_write.specs.declared.op.Op.{Op}
-use Rattle.pres_write.specs.declared.op.Op.TheVariants.{Set}
+use Rattle.pres_write.specs.declared.op.Op.TheVariants.{Set, Update, Tx}
 use Rattle.pres_write.specs.Drafts.{slot_printing}
-use Rattle.pres_write.specs.OpForms.{op_json, set_json}
+use Rattle.pres_write.specs.OpForms.{op_json, set_json, named, members_from, values_json}
+use Rattle.pres_write.specs.Updates.{Places}
 use Rattle.pres_wire.specs.declared.up.Up.{Up}
 use Rattle.pres_wire.specs.declared.up.Up.TheVariants as up
 use Rattle.pres_wire.specs.UpForms.{up_json}
+use Rattle.pres_write.specs.declared.outcome.Kept.{Kept}
+use Rattle.pres_write.specs.declared.outcome.Kept.TheVariants as kept
+use Rattle.pres_wire.specs.declared.id.SessionId.{SessionId}
+use Rattle.pres_wire.specs.declared.down.Code.{Code}
+use Rattle.pres_wire.specs.declared.down.Code.TheVariants as code
+use Rattle.pres_wire.specs.declared.down.Down.{Down}
+use Rattle.pres_wire.specs.declared.down.Down.TheVariants as down
+use Rattle.pres_wire.specs.DownForms.{out_json, session_or_null, down_json}
 
 either_part : (a b : Bool) → (a || b) ≡ false → (a ≡ false) × (b ≡ false)
 either_part false b h = (refl, h)
@@ -79,8 +92,26 @@ whole_set : (t : Bool) (p : Path) (v : Rows Slot) → is_null v ≡ t → has_fl
 whole_set true p v e = rw e refl
 whole_set false p v e = rw e (neither (has_float (json_of slot_printing v)) false (whole_rows slot_printing v whole_slot) refl)
 
+whole_puts : (k : List ℕ) (d : Data) (es : List (List ℕ × Data)) → has_float d ≡ false → members_have_float (members_from es) ≡ false → members_have_float (members_from (put (slice_cmp nat_cmp) k d es)) ≡ false
+whole_puts k d [] h g = neither (has_float d) false h refl
+whole_puts k d (e ∷ es) h g =
+    let parts = either_part (has_float e.1) (members_have_float (members_from es)) g in
+    elim (slice_cmp nat_cmp k e.0) as (λ o. members_have_float (members_from (by_order o ((k, d) ∷ e ∷ es) ((e.0, d) ∷ es) (e ∷ put (slice_cmp nat_cmp) k d es))) ≡ false) [
+      | Less ↦ neither (has_float d) _ h g
+      | Equal ↦ neither (has_float d) _ h parts.1
+      | Greater ↦ neither (has_float e.1) _ parts.0 (whole_puts k d es h parts.1)
+    ]
+
+whole_values : (places : Places) → members_have_float (values_json places) ≡ false
+whole_values [] = refl
+whole_values (e ∷ es) = whole_puts (drop 1 (path_text e.0)) (json_of slot_printing e.1) (sorted_by (slice_cmp nat_cmp) (named es)) (whole_rows slot_printing e.1 whole_slot) (whole_values es)
+
 whole_op : (op : Op) → has_float (op_json op) ≡ false
 whole_op (Set p) = whole_set (is_null p.1) p.0 p.1 refl
+whole_op (Update u) = neither (members_have_float (values_json u.places)) false (whole_values u.places) refl
+whole_op (Tx t) =
+    neither (has_float (json_of scalar_printing t.expect)) _ (whole_rows scalar_printing t.expect whole_scalar)
+    (neither (has_float (json_of slot_printing t.new)) false (whole_rows slot_printing t.new whole_slot) refl)
 
 pub whole_up : (m : Up) → has_float (up_json m) ≡ false
 whole_up (up.Hello s) = refl
@@ -91,3 +122,27 @@ whole_up (up.Bye s q) = refl
 pub whole_text : (r : Result (String Global) AllocError) (made d : Data) → made ≡ d → has_float d ≡ false → IfOk r (λ t. has_float made ≡ false → string_bytes t ≡ compact_text made) → IfOk r (λ t. string_bytes t ≡ compact_text d)
 whole_text (Ok t) made d is whole h = h (ap has_float is ∙ whole) ∙ ap compact_text is
 whole_text (Err e) made d is whole h = tt
+
+whole_out : (out : Kept) → has_float (out_json out) ≡ false
+whole_out kept.Wrote = refl
+whole_out (kept.Stale held) = neither (has_float (json_of scalar_printing (rows_in held))) false (whole_rows scalar_printing (rows_in held) whole_scalar) refl
+
+whole_session : (s : Option SessionId) → has_float (session_or_null s) ≡ false
+whole_session None = refl
+whole_session (Some s) = refl
+
+whole_fault : (s : Option SessionId) (c : Code) → has_float (down_json (down.Fault s c)) ≡ false
+whole_fault s code.Bad = neither (has_float (session_or_null s)) false (whole_session s) refl
+whole_fault s (code.Old last) = neither (has_float (session_or_null s)) false (whole_session s) refl
+whole_fault s code.Session = neither (has_float (session_or_null s)) false (whole_session s) refl
+whole_fault s code.Order = neither (has_float (session_or_null s)) false (whole_session s) refl
+whole_fault s code.Full = neither (has_float (session_or_null s)) false (whole_session s) refl
+whole_fault s code.Busy = neither (has_float (session_or_null s)) false (whole_session s) refl
+whole_fault s code.Spent = neither (has_float (session_or_null s)) false (whole_session s) refl
+whole_fault s code.Down = neither (has_float (session_or_null s)) false (whole_session s) refl
+
+pub whole_down : (m : Down) → has_float (down_json m) ≡ false
+whole_down (down.Welcome s z ops) = refl
+whole_down (down.Reply s r z q n done out) = neither (has_float (out_json out)) false (whole_out out) refl
+whole_down (down.Gone s r z why) = refl
+whole_down (down.Fault s c) = whole_fault s c

@@ -1,8 +1,11 @@
 -- Messages to a client as JSON.
 use Rattle.std.specs.Prelude.{ℕ, List, [], ◌∷◌, codes, Option, Some, None}
-use Rattle.serde_json.specs.Data.{Data, null, string}
+use Rattle.serde_json.specs.Data.{Data, null, string, object, no_members, member}
+use Rattle.pres_tree.specs.Rows.{rows_in}
+use Rattle.pres_tree.specs.Printing.{json_of}
+use Rattle.pres_tree.specs.Scalars.{scalar_printing}
 use Rattle.pres_write.specs.declared.outcome.Kept.{Kept}
-use Rattle.pres_write.specs.declared.outcome.Kept.TheVariants.{Wrote}
+use Rattle.pres_write.specs.declared.outcome.Kept.TheVariants.{Wrote, Stale}
 use Rattle.pres_wire.specs.declared.id.SessionId.{SessionId}
 use Rattle.pres_wire.specs.declared.id.Why.{Why}
 use Rattle.pres_wire.specs.declared.id.Why.TheVariants as why
@@ -41,9 +44,10 @@ last_field code.Busy = []
 last_field code.Spent = []
 last_field code.Down = []
 
--- what a write came to
+-- what a write came to; a value that was held is null for none
 abbrev pub out_json : Kept → Data
 out_json Wrote = string (codes "wrote")
+out_json (Stale held) = object (member (codes "stale") (json_of scalar_printing (rows_in held)) no_members)
 
 abbrev pub session_or_null : Option SessionId → Data
 session_or_null None = null

@@ -1,9 +1,12 @@
 -- The message to a client that a JSON value is the form of: so no JSON is two messages' form.
 use Rattle.std.specs.Prelude.{◌≡◌, ◌==◌, ℕ, List, if◌then◌else◌, codes, Option, Some, None, option_and_then, option_map, ⊤}
 use Rattle.serde_json.specs.Data.{Data, Items, no_items, item}
-use Rattle.serde_json.specs.Find.{as_null, as_str, as_array}
+use Rattle.serde_json.specs.Find.{get, as_null, as_str, as_array}
+use Rattle.pres_tree.specs.Rows.{rows_in, option_of}
+use Rattle.pres_tree.specs.Reading.{rows_of}
+use Rattle.pres_tree.specs.Scalars.{scalar_reading}
 use Rattle.pres_write.specs.declared.outcome.Kept.{Kept}
-use Rattle.pres_write.specs.declared.outcome.Kept.TheVariants.{Wrote}
+use Rattle.pres_write.specs.declared.outcome.Kept.TheVariants.{Wrote, Stale}
 use Rattle.pres_wire.specs.declared.id.SessionId.{SessionId}
 use Rattle.pres_wire.specs.declared.id.Stamp.{Stamp}
 use Rattle.pres_wire.specs.declared.id.Why.{Why}
@@ -31,8 +34,16 @@ why_of word =
 abbrev pub out_in : List ℕ → Option Kept
 out_in word = if is_word word (codes "wrote") then Some Wrote else None
 
+abbrev pub stale_in : Data → Option Kept
+stale_in d = option_map (λ v. Stale (option_of (rows_of scalar_reading v))) (get (codes "stale") d)
+
+abbrev pub out_by : Option (List ℕ) → Data → Option Kept
+out_by (Some word) d = out_in word
+out_by None d = stale_in d
+
+-- a text or an object
 abbrev pub out_of : Data → Option Kept
-out_of d = option_and_then out_in (as_str d)
+out_of d = out_by (as_str d) d
 
 -- two items: an incarnation, an attempt
 abbrev pub stamp_of_items : Items → Option Stamp
@@ -103,6 +114,17 @@ by_word d word =
 abbrev pub down_of : Data → Option Down
 down_of d = given (field_of as_str (codes "m") d) (λ word. by_word d word)
 
+-- null held is `None`
+abbrev pub one_null : Kept → Kept
+one_null Wrote = Wrote
+one_null (Stale held) = Stale (option_of (rows_in held))
+
+abbrev pub with_one_null : Down → Down
+with_one_null (down.Welcome s z ops) = down.Welcome s z ops
+with_one_null (down.Reply s r z q n done out) = down.Reply s r z q n done (one_null out)
+with_one_null (down.Gone s r z reason) = down.Gone s r z reason
+with_one_null (down.Fault s c) = down.Fault s c
+
 -- its JSON is the form of no other message
 abbrev pub HasForm : Down → Type 0
-HasForm m = down_of (down_json m) ≡ Some m
+HasForm m = down_of (down_json m) ≡ Some (with_one_null m)

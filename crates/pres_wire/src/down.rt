@@ -3,13 +3,18 @@
 ghost use Rattle.std.specs.Prelude.{◌≡◌, IfOk, Some, option_map, string_bytes};
 ghost use Rattle.serde_json.specs.View.{view};
 ghost use Rattle.serde_json.specs.Written.{compact_text};
+ghost use Rattle.pres_tree.specs.Rows.{rows_in};
+ghost use Rattle.pres_tree.specs.Printing.{json_of};
+ghost use Rattle.pres_tree.specs.Reading.{rows_of};
+ghost use Rattle.pres_tree.specs.Scalars.{scalar_reading, scalar_printing};
 ghost use Rattle.pres_wire.specs.Messages.{session_for, number_in};
 ghost use Rattle.pres_wire.specs.DownForms.{why_word, code_number, out_json, session_or_null, down_json};
-ghost use Rattle.pres_wire.specs.DownReads.{session_or_none, why_of, out_of, HasForm};
+ghost use Rattle.pres_wire.specs.DownReads.{session_or_none, why_of, one_null, out_of, HasForm};
 
 use crate::field::{session_value, stamp_value};
 use crate::id::{SessionId, Stamp, Why};
 use crate::number::{Count, Number};
+use pres_tree::Tree;
 use pres_write::Kept;
 use serde_json::{Value, json};
 use std::alloc::{AllocError, Global};
@@ -137,7 +142,7 @@ impl Down {
                 q: *q,
                 n: *n,
                 done: *done,
-                out: copied_out(out),
+                out: out.copy(alloc)?,
             }),
             Down::Gone { session, r, z, why } => Ok(Down::Gone {
                 session: session.copy(alloc)?,
@@ -231,14 +236,6 @@ fn copied_session(
     }
 }
 
-fn copied_out(out: &Kept) -> Kept
-    ensures { result ≡ out.now }
-{
-    match out {
-        Kept::Wrote => Kept::Wrote,
-    }
-}
-
 // The word for why a session ended.
 fn word_of(why: Why) -> &'static str
     ensures word { result.now ≡ why_word why }
@@ -254,13 +251,28 @@ fn word_of(why: Why) -> &'static str
     }
 }
 
+// The JSON value of a value that a place held.
+fn held_value(alloc: Global, held: &Option<Tree>) -> Result<Value, AllocError>
+    ensures json { IfOk result (λ made. view made ≡ json_of scalar_printing (rows_in held.now)) }
+    ensures reads_back { IfOk result (λ _. rows_of scalar_reading (json_of scalar_printing (rows_in held.now)) ≡ rows_in held.now) }
+{
+    match held {
+        Some(value) => value.to_value(alloc),
+        None => Ok(Value::Null),
+    }
+}
+
 // The JSON value of what a write came to.
 fn out_value(alloc: Global, out: &Kept) -> Result<Value, AllocError>
     ensures json { IfOk result (λ made. view made ≡ out_json out.now) }
-    ensures form { IfOk result (λ _. out_of (out_json out.now) ≡ Some out.now) }
+    ensures form { IfOk result (λ _. out_of (out_json out.now) ≡ Some (one_null out.now)) }
 {
     match out {
         Kept::Wrote => json!(in alloc; "wrote"),
+        Kept::Stale(held) => {
+            let held = held_value(alloc, held)?;
+            json!(in alloc; {"stale": held})
+        }
     }
 }
 

@@ -4,7 +4,7 @@ ghost use Rattle.std.specs.Prelude.{◌≡◌, ◌≤◌, ◌⊎◌, IfOk, Match
 ghost use Rattle.serde_json.specs.Data.{depth};
 ghost use Rattle.serde_json.specs.View.{view};
 ghost use Rattle.serde_json.specs.Written.{compact_text};
-ghost use Rattle.pres_write.specs.OpForms.{op_json, op_read, set_json};
+ghost use Rattle.pres_write.specs.OpForms.{op_json, op_read};
 ghost use Rattle.pres_wire.specs.Messages.{session_in, q_in};
 ghost use Rattle.pres_wire.specs.UpForms.{up_json, up_read, hello_read, op_message_read, bye_read, decoded, longest_text};
 ghost use Rattle.pres_wire.specs.declared.fault.WireFault.TheVariants.{Memory};
@@ -13,7 +13,7 @@ use crate::fault::{Field, WireFault};
 use crate::field::{number_field, op_field, session_field, session_value};
 use crate::id::SessionId;
 use crate::number::Number;
-use pres_write::{Op, Placement};
+use pres_write::Op;
 use serde_json::{Value, json};
 use std::alloc::{AllocError, Global};
 
@@ -192,29 +192,11 @@ fn read_bye(alloc: Global, message: &Value) -> Result<Up, WireFault>
     Ok(Up::Bye { session, q })
 }
 
-// No set's JSON nests deep, since no tree does.
-fn set_nests_little(placement: &Placement)
-    ensures { depth (set_json placement.now.0 placement.now.1) ≤ 64 }
-{
-    // it ensures that the draft fits below the path
-    let _ = placement.path();
-}
-
-// No operation's JSON nests deep.
-fn nests_little(op: &Op)
-    ensures { depth (op_json op.now) ≤ 64 }
-{
-    match op {
-        Op::Set(placement) => set_nests_little(placement),
-    }
-}
-
-// The JSON value of an operation, which is read as the operation.
+// The JSON value of an operation, which is read as the operation, and nests few levels.
 fn op_value(alloc: Global, op: &Op) -> Result<Value, AllocError>
     ensures json { IfOk result (λ made. view made ≡ op_json op.now) }
     ensures reads_back { IfOk result (λ _. op_read (op_json op.now) ≡ Ok op.now) }
     ensures low { IfOk result (λ _. depth (op_json op.now) ≤ 64) }
 {
-    nests_little(op);
     op.to_value(alloc)
 }
