@@ -35,8 +35,8 @@ both_of false b h = absurd cc
 row_decides : (r s : Path × Scalar) → Decides (pointwise (pointwise ◌==◌) r.0 s.0 && same_scalar r.1 s.1) (r ≡ s)
 row_decides r s = (
   λ e.
-    let each = both_of (pointwise (pointwise ◌==◌) r.0 s.0) (same_scalar r.1 s.1) e in
-    λ i. ((paths_decide r.0 s.0).0 each.0 i, (scalars_decide r.1 s.1).0 each.1 i),
+      let each = both_of (pointwise (pointwise ◌==◌) r.0 s.0) (same_scalar r.1 s.1) e in
+      λ i. ((paths_decide r.0 s.0).0 each.0 i, (scalars_decide r.1 s.1).0 each.1 i),
   λ e i. (paths_decide r.0 s.0).1 (ap (λ t. t.0) e) i && (scalars_decide r.1 s.1).1 (ap (λ t. t.1) e) i,
 )
 

@@ -103,7 +103,11 @@ impl<L: Drop> Nested<L> {
 
 // The value, with so many levels left for its leaves.
 #[cycle(read)]
-fn read_at<L: Drop, F: Form<L>>(alloc: Global, value: &Value, left: usize) -> Result<Nested<L>, TreeFault>
+fn read_at<L: Drop, F: Form<L>>(
+    alloc: Global,
+    value: &Value,
+    left: usize,
+) -> Result<Nested<L>, TreeFault>
     requires { left ≤ 33 }
     ensures read { MatchResult result
         (λ t. (fault_of F.reading left (view value.now) ≡ None) × (t ≡ rows_of F.reading (view value.now)))

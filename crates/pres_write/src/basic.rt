@@ -110,11 +110,7 @@ pub fn apply_all(alloc: Global, tree: &mut Tree, writes: Items<Basic>) -> Result
 
 // The writes from the last to the first. A put is taken back where a later one is refused, and
 // what is to be removed is removed once all puts stand, so that no memory is needed to undo.
-fn put_last_first(
-    alloc: Global,
-    tree: &mut Tree,
-    writes: &mut Vec<Basic>,
-) -> Result<(), WriteFault>
+fn put_last_first(alloc: Global, tree: &mut Tree, writes: &mut Vec<Basic>) -> Result<(), WriteFault>
     requires fits { All FitsThere writes.old.items }
     requires apart { Apart writes.old.items }
     ensures ok { IfOk result (λ _. tree.new ≡ applied tree.old writes.old.items) }

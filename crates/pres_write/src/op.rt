@@ -56,12 +56,7 @@ fn update_form(alloc: Global, path: String, values: Value) -> Result<Value, Allo
 }
 
 // The JSON value of a transaction at the path of the text.
-fn tx_form(
-    alloc: Global,
-    path: String,
-    expect: Value,
-    value: Value,
-) -> Result<Value, AllocError>
+fn tx_form(alloc: Global, path: String, expect: Value, value: Value) -> Result<Value, AllocError>
     ensures { IfOk result (λ made. view made ≡ tx_form (string_bytes path) (view expect) (view value)) }
 {
     json!(in alloc; {"expect": expect, "op": "tx", "path": path, "value": value})
@@ -142,12 +137,7 @@ fn read_set(alloc: Global, text: &str, value: &Value) -> Result<Op, WriteFault>
 }
 
 // The transaction of a path's text and two JSON values.
-fn read_tx(
-    alloc: Global,
-    text: &str,
-    expect: &Value,
-    value: &Value,
-) -> Result<Op, WriteFault>
+fn read_tx(alloc: Global, text: &str, expect: &Value, value: &Value) -> Result<Op, WriteFault>
     ensures { MatchResult result
         (λ op. tx_read text.now (view expect.now) (view value.now) ≡ Ok op)
         (λ e. (e ≡ TreeRefused Memory) ⊎ (tx_read text.now (view expect.now) (view value.now) ≡ Err e)) }
@@ -159,12 +149,7 @@ fn read_tx(
 }
 
 // The operation of the form that the word names, at a path's text.
-fn read_form(
-    alloc: Global,
-    value: &Value,
-    word: &str,
-    text: &str,
-) -> Result<Op, WriteFault>
+fn read_form(alloc: Global, value: &Value, word: &str, text: &str) -> Result<Op, WriteFault>
     ensures { MatchResult result
         (λ op. form_read (view value.now) word.now text.now ≡ Ok op)
         (λ e. (e ≡ TreeRefused Memory) ⊎ (form_read (view value.now) word.now text.now ≡ Err e)) }

@@ -264,9 +264,7 @@ fn transactions_compare_whole_values(rt: HostRuntime) -> Result<(), Fail> {
         ("null", Some(r#"{"0":1,"2":{"a":"x"}}"#)),
         (r#"[1,null,{"a":"y"}]"#, Some(r#"{"0":1,"2":{"a":"x"}}"#)),
     ] {
-        let text = format!(in alloc;
-            r#"{{"expect":{expect},"op":"tx","path":"/n","value":1}}"#
-        )?;
+        let text = format!(in alloc; r#"{{"expect":{expect},"op":"tx","path":"/n","value":1}}"#)?;
         let op = Op::from_value(alloc, &Value::from_str(alloc, text.as_str())?)?;
         let held = match op.resolve_owned(alloc, &tree, Moment::at(5))? {
             Outcome::Wrote(_) => None,

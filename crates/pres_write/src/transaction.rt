@@ -98,12 +98,7 @@ impl Transaction {
     }
 
     /// What it comes to on the tree at the moment.
-    pub fn compare(
-        &self,
-        alloc: Global,
-        tree: &Tree,
-        moment: Moment,
-    ) -> Result<Outcome, AllocError>
+    pub fn compare(&self, alloc: Global, tree: &Tree, moment: Moment) -> Result<Outcome, AllocError>
         ensures outcome { IfOk result (λ outcome. outcome ≡ compared tree.now moment self.now) }
         ensures fits { IfOk result (λ outcome. All FitsThere (writes_in outcome)) }
         ensures apart { IfOk result (λ outcome. Apart (writes_in outcome)) }

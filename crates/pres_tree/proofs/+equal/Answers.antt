@@ -42,8 +42,8 @@ nested::Nested::equal-returns-in-Object-node g t c =
     let fs = c.in-Object-node.others.entries in (
       λ h. sym at.is ∙ ap (λ gs. sorted_by path_cmp (child_rows gs)) (c.equal_children.ensures.0 h) ∙ other.is,
       λ e. c.equal_children.ensures.1 (btree_map_from_get nat_list_cmp_total c.in-Object.children c.in-Object-node.others at.ordered other.ordered
-      (same_lookup c.args.self.now es fs at.has (subst (λ v. HasChildren v fs) (sym e) other.has) at.children other.children)
-      (slice_cmp-IsAntisymmetric nat_cmp-IsAntisymmetric)),
+          (same_lookup c.args.self.now es fs at.has (subst (λ v. HasChildren v fs) (sym e) other.has) at.children other.children)
+          (slice_cmp-IsAntisymmetric nat_cmp-IsAntisymmetric)),
     )
 
 pub nested::Nested::equal-returns-in_default-node :

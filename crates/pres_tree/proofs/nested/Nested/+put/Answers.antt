@@ -133,8 +133,8 @@ pub returns : goal.returns
 returns g t c =
     let over = write_over c.in-Some.key.now c.in-Some.rest.now c.args.value c.args.self.now c.requires.some (at_other c.self.inside.node _ c.self.view_is c.in_default-node.not-Object) in
     let is = c.in_ok-branch.ensures
-        ∙ ap (λ q. set_at q c.args.value []) c.in-Some.ensures.cases.0 ∙ over
-        ∙ ap (λ q. set_at q c.args.value c.args.self.now) (sym c.in-Some.ensures.cases.0) in
+    ∙ ap (λ q. set_at q c.args.value []) c.in-Some.ensures.cases.0 ∙ over
+    ∙ ap (λ q. set_at q c.args.value c.args.self.now) (sym c.in-Some.ensures.cases.0) in
     record {
       ok = c.replace.ensures.after ∙ is;
       depth = omega arith;

@@ -18,9 +18,9 @@ pub returns-in_default-get_mut : goal.returns-in_default-get_mut
 returns-in_default-get_mut g t c =
     let at = at_object {n = c.self.inside.node} c.in-Object.children c.self.invariant c.self.view_is c.in-Object.is in
     absurd (true≢false (
-      sym (ap is_null (ap (λ q. value_at q c.args.self.now) c.in-Some.ensures.cases.0
-      ∙ value_at_absent c.in-Some.key.now c.in-Some.rest.now c.args.self.now c.in-Object.children.entries at.has (sym c.in_default-get_mut.ensures.value) at.order))
-      ∙ c.requires.stands))
+    sym (ap is_null (ap (λ q. value_at q c.args.self.now) c.in-Some.ensures.cases.0
+    ∙ value_at_absent c.in-Some.key.now c.in-Some.rest.now c.args.self.now c.in-Object.children.entries at.has (sym c.in_default-get_mut.ensures.value) at.order))
+    ∙ c.requires.stands))
 
 pub put_over-requires : goal.put_over-requires
 put_over-requires g t c κs within =
@@ -30,9 +30,9 @@ put_over-requires g t c κs within =
     let child = c.in-Some-get_mut.child.now in
     let order : InOrder child = (Children-at k child c.in-Object.children.entries at.children (sym c.in-Some-get_mut.ensures.value)).1 in
     let stands : is_null (value_at rest child) ≡ false =
-        sym (ap is_null (ap (λ q. value_at q c.args.self.now) c.in-Some.ensures.cases.0
-        ∙ value_at_child k rest c.args.self.now child (value_at rest child) c.in-Object.children.entries at.has (sym c.in-Some-get_mut.ensures.value) at.order (in_order-value_at rest child order) refl))
-        ∙ c.requires.stands in
+    sym (ap is_null (ap (λ q. value_at q c.args.self.now) c.in-Some.ensures.cases.0
+    ∙ value_at_child k rest c.args.self.now child (value_at rest child) c.in-Object.children.entries at.has (sym c.in-Some-get_mut.ensures.value) at.order (in_order-value_at rest child order) refl))
+    ∙ c.requires.stands in
     (omega (arith, c.decreases, ap length c.in-Some.ensures.cases.0), (within, (c.requires.some, (c.requires.value, (search rules, stands)))))
 
 pub invariant_of-self-2 : goal.invariant_of-self-2

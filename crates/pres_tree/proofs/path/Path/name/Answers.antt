@@ -10,7 +10,7 @@ returns-clause-reads_back c =
     let path : IsPath p = subst IsPath c.self.view_is c.self.invariant in
     let keys = sym c.in-Some.ensures.cases.0 ∙ c.deref.ensures.value ∙ c.self.view_is in
     let is : string_bytes c.push_keys.new.text ≡ drop 1 (path_text p) =
-        c.in_ok-push_keys.ensures
-        ∙ ap (λ bs. bs ++ keys_text c.in-Some.rest.now) (c.in_ok-name.ensures.ok ∙ c.text.ensures.text)
-        ∙ ap (λ q. drop 1 (path_text q)) keys in
+    c.in_ok-push_keys.ensures
+    ∙ ap (λ bs. bs ++ keys_text c.in-Some.rest.now) (c.in_ok-name.ensures.ok ∙ c.text.ensures.text)
+    ∙ ap (λ q. drop 1 (path_text q)) keys in
     (ap segments is ∙ segments-name p path, ap path_fault is ∙ path_fault-name p path)

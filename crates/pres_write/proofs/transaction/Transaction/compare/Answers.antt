@@ -12,7 +12,7 @@ returns-then-not-is_expected-clause-outcome c =
     let t = c.args.self.now in
     let v = value_at t.path c.args.tree.now in
     let held : option_copied c.at-held.result ≡ option_of v =
-        held_is (λ r. r.now) c.at-held.result (value_at c.self.inside.path c.args.tree.now) c.at-held.ensures ∙ ap (λ s. option_of (value_at s.path c.args.tree.now)) c.self.view_is in
+    held_is (λ r. r.now) c.at-held.result (value_at c.self.inside.path c.args.tree.now) c.at-held.ensures ∙ ap (λ s. option_of (value_at s.path c.args.tree.now)) c.self.view_is in
     let rows : rows_in (option_copied c.at-held.result) ≡ v = ap rows_in held ∙ rows_of_option v in
     let test : IsTrue c.is_expected.result ↔ (v ≡ t.expect) = (λ h. sym rows ∙ c.is_expected.ensures.0 h, λ e. c.is_expected.ensures.1 (rows ∙ e)) in
     let no : c.is_expected.result ≡ false = search rules in
@@ -24,7 +24,7 @@ returns-clause-outcome c =
     let t = c.args.self.now in
     let v = value_at t.path c.args.tree.now in
     let held : option_copied c.at-held.result ≡ option_of v =
-        held_is (λ r. r.now) c.at-held.result (value_at c.self.inside.path c.args.tree.now) c.at-held.ensures ∙ ap (λ s. option_of (value_at s.path c.args.tree.now)) c.self.view_is in
+    held_is (λ r. r.now) c.at-held.result (value_at c.self.inside.path c.args.tree.now) c.at-held.ensures ∙ ap (λ s. option_of (value_at s.path c.args.tree.now)) c.self.view_is in
     let rows : rows_in (option_copied c.at-held.result) ≡ v = ap rows_in held ∙ rows_of_option v in
     let test : IsTrue c.is_expected.result ↔ (v ≡ t.expect) = (λ h. sym rows ∙ c.is_expected.ensures.0 h, λ e. c.is_expected.ensures.1 (rows ∙ e)) in
     let yes : c.is_expected.result ≡ true = search rules in
