@@ -1,5 +1,5 @@
 -- Values are equal where their children are.
-use Rattle.std.proofs.Common.{◌≡◌, List, [], ◌∷◌, Bool, true, false, true≢false, Option, Some, None, is_some, refl, sym, ap, subst, ◌∙◌}
+use Rattle.std.proofs.Common.{◌≡◌, List, [], false, true≢false, Option, Some, None, is_some, refl, sym, ap, ◌∙◌}
 use Rattle.std.specs.Option.{unwrap_or}
 use Rattle.std.specs.Map.{lookup}
 use Rattle.std.specs.BTreeMap.{is_at}

@@ -1,5 +1,5 @@
 -- The test of rows is true exactly where they are equal.
-use Rattle.std.proofs.Common.{◌≡◌, Bool, true, false, refl, ap, sym, ◌∙◌, ◌==◌, ◌&&◌, List, ℕ}
+use Rattle.std.proofs.Common.{◌≡◌, Bool, true, false, refl, ap, ◌==◌, ◌&&◌, List, ℕ}
 use Rattle.std.specs.Prelude.{◌↔◌, IsTrue}
 use Rattle.std.specs.Bool.{Decides, one_answer}
 use Rattle.std.specs.Cmp.{booleans_Decides, signed_Decides, unsigned_Decides}

@@ -1,10 +1,9 @@
 -- Two writes of which no path is at or above the other leave the same in either order.
 use Rattle.std.proofs.Common.{◌≡◌, [], ◌∷◌, Bool, true, false, true≢false, cond, not, ◌&&◌, ◌||◌, Option, Some, None, is_some, inl, inr, refl, sym, ap, ◌∙◌}
-use Rattle.pres_tree.specs.Keys.{Key}
 use Rattle.pres_tree.specs.Paths.{Path, below, is_prefix, meet}
 use Rattle.pres_tree.specs.Rows.{Rows, is_null, leaf_at}
 use Rattle.pres_tree.specs.Writes.{write}
-use Rattle.pres_tree.proofs.Found.{put_at, held_after, set_at, leaf_at-set_at, same_rows, in_order-after}
+use Rattle.pres_tree.proofs.Found.{put_at, set_at, leaf_at-set_at, same_rows, in_order-after}
 use Rattle.pres_tree.proofs.Values.{above_one, cons_prefix, under}
 
 prefix_trans : (p x q : Path) → is_prefix p x ≡ true → is_prefix x q ≡ true → is_prefix p q ≡ true

@@ -1,14 +1,13 @@
 -- What takes a write back.
-use Rattle.std.proofs.Common.{◌≡◌, ℕ, List, [], ◌∷◌, ◌++◌, Bool, true, false, cond, not, ◌&&◌, ◌+◌, take, is_some, Option, Some, None, refl, sym, ap, subst, ◌∙◌}
+use Rattle.std.proofs.Common.{◌≡◌, List, [], ◌∷◌, ◌++◌, Bool, true, false, cond, not, ◌&&◌, is_some, Option, Some, None, refl, sym, ap, ◌∙◌}
 use Rattle.std.specs.Option.{unwrap_or}
-use Rattle.std.specs.Map.{lookup, keys_of}
+use Rattle.std.specs.Map.{lookup}
 use Rattle.std.specs.BTreeMap.{is_at}
 use Rattle.std.specs.Cmp.{eq_by_cmp_equiv}
 use Rattle.std.specs.Cmp.Lexicographic.{nat_list_cmp_total}
-use Rattle.std.specs.List.Sorted.{IsStrictlySortedBy}
 use Rattle.pres_tree.specs.Keys.{Key, key_cmp, same_key}
-use Rattle.pres_tree.specs.Paths.{Path, IsPath, path_cmp, below, is_prefix}
-use Rattle.pres_tree.specs.Rows.{Rows, IsValue, Fits, Holds, InOrder, is_null, leaf_at, value_at}
+use Rattle.pres_tree.specs.Paths.{Path, below, is_prefix}
+use Rattle.pres_tree.specs.Rows.{Rows, IsValue, Fits, InOrder, is_null, leaf_at, value_at}
 use Rattle.pres_tree.specs.Writes.{Undoes}
 use Rattle.pres_tree.proofs.Found.{HasChildren, SetsChild, key_same, leaf_at-set_at, node_write, put_at, rows_at, set_at, write_root}
 use Rattle.pres_tree.proofs.Nodes.{in_order-value_at, value_at_child, value_at_root}

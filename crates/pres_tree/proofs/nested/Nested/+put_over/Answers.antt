@@ -1,7 +1,4 @@
 use Rattle.std.proofs.Common.{◌≡◌, length, Some, ap, sym, refl, subst, ◌∙◌, arith, [], ◌∷◌, rules, true≢false, false, IsSome}
-use Rattle.std.specs.BTreeMap.{is_at}
-use Rattle.std.specs.Map.{set_value}
-use Rattle.pres_tree.specs.Keys.{key_cmp}
 use Rattle.pres_tree.specs.Rows.{IsValue, InOrder, is_null, value_at}
 use Rattle.pres_tree.specs.Writes.{write}
 use Rattle.pres_tree.specs.Layer.{Children}

@@ -1,5 +1,5 @@
-use Rattle.std.proofs.Common.{◌≡◌, ◌++◌, Some, sym, ap, ◌∙◌, subst}
-use Rattle.pres_tree.specs.Paths.{Path, IsPath, below}
+use Rattle.std.proofs.Common.{◌≡◌, ◌++◌, sym, subst}
+use Rattle.pres_tree.specs.Paths.{IsPath}
 use Rattle.pres_tree.proofs.Found.{IsRest, rest_is}
 use Rattle.pres_tree.proofs.Texts.{path_rest}
 use Rattle.pres_tree.proofs.path.Path.below.Goals as goal
