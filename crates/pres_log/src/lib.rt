@@ -3,6 +3,7 @@
 
 mod entry;
 mod fault;
+pub mod laws;
 mod log;
 mod plain;
 
