@@ -1,14 +1,12 @@
 -- No operation's JSON nests deep.
-use Rattle.std.proofs.Common.{◌≡◌, ℕ, ◌+◌, ◌-◌, ◌≤◌, Bool, true, false, cond, List, [], ◌∷◌, length, map, drop, Option, Some, None, Result, Ok, Err, refl, ap, sym, ◌∙◌, arith, ◌&&◌, ◌^◌, codes, pos}
+use Rattle.std.proofs.Common.{◌≡◌, ℕ, ◌+◌, ◌-◌, ◌≤◌, Bool, true, false, cond, List, [], ◌∷◌, length, Option, Some, None, Result, Ok, Err, refl, ap, sym, ◌∙◌, arith, ◌&&◌, ◌^◌, codes, pos}
 use Rattle.std.specs.Prelude.{nat_lt, IfOk}
 use Rattle.std.specs.declared.alloc.AllocError.{AllocError}
 use Rattle.serde_json.specs.View.{view}
 use Rattle.serde_json.specs.declared.value.Value.{Value}
 use Rattle.std.specs.Option.{option_or}
 use Rattle.std.specs.Ordering.{nat_cmp, match_ordering}
-use Rattle.std.specs.declared.cmp.Ordering.{Ordering}
 use Rattle.std.specs.declared.cmp.Ordering.TheVariants.{Less, Equal, Greater}
-use Rattle.std.specs.Map.{keys_of}
 use Rattle.std.specs.Cmp.Lexicographic.{slice_cmp}
 use Rattle.std.specs.FinMap.Entries.{put, by_order}
 use Rattle.serde_json.specs.Data.{Num, unsigned, negative, float, Data, null, boolean, number, string, array, object, Members, no_members, member, depth, members_depth}
@@ -17,7 +15,7 @@ use Rattle.pres_tree.specs.declared.fault.TreeFault.{TreeFault}
 use Rattle.pres_tree.specs.declared.fault.TreeFault.TheVariants.{TooDeep, Range, Placeholder}
 use Rattle.pres_tree.specs.declared.scalar.Scalar.{Scalar}
 use Rattle.pres_tree.specs.declared.scalar.Scalar.TheVariants.{Bool as BoolOf, Int, Text}
-use Rattle.pres_tree.specs.Paths.{Path, path_text, path_fault, path_cmp, segments, sorted_by, overlap}
+use Rattle.pres_tree.specs.Paths.{Path, path_text, path_fault, segments, sorted_by}
 use Rattle.pres_tree.specs.Rows.{Rows, is_null}
 use Rattle.pres_tree.specs.Reading.{Reading, branch, leaf, bad, is_leaf, fault_of}
 use Rattle.pres_tree.specs.Printing.{json_of}
@@ -25,7 +23,7 @@ use Rattle.pres_tree.specs.Scalars.{scalar_printing, number_reading}
 use Rattle.pres_write.specs.declared.draft.Slot.{Slot}
 use Rattle.pres_write.specs.declared.draft.Slot.TheVariants.{Fixed, Timestamp}
 use Rattle.pres_write.specs.declared.fault.WriteFault.{WriteFault}
-use Rattle.pres_write.specs.declared.fault.WriteFault.TheVariants.{Tree, Overlap, ManyPaths}
+use Rattle.pres_write.specs.declared.fault.WriteFault.TheVariants.{ManyPaths}
 use Rattle.pres_write.specs.declared.op.Op.{Op}
 use Rattle.pres_write.specs.declared.op.Op.TheVariants.{Set, Update, Tx}
 use Rattle.pres_write.specs.Drafts.{fixed, is_timestamp, is_one, placeholder, slot_reading, unless_placeholder, fixed_reading, slot_printing}

@@ -1,7 +1,7 @@
 //! Messages as JSON texts: what is read and printed, and why texts are refused.
 
 use crate::{ClientId, Code, Count, Down, Field, Number, SessionId, Stamp, Up, Why, WireFault};
-use pres_tree::TreeFault;
+use pres_tree::{Scalar, Tree, TreeFault};
 use pres_write::{Kept, WriteFault};
 use std::alloc::Global;
 use std::test::Fail;
@@ -29,6 +29,14 @@ fn messages_are_read_and_printed(rt: HostRuntime) -> Result<(), Fail> {
         (
             r#"{"m":"op","n":1,"op":{"op":"set","path":"/a","value":1},"q":1,"s":["alice",1,1]}"#,
             r#"{"m":"op","n":1,"op":{"op":"set","path":"/a","value":1},"q":1,"s":["alice",1,1]}"#,
+        ),
+        (
+            r#"{"m":"op","n":1,"op":{"op":"update","path":"/","values":{"last":{".sv":"timestamp"},"online":null}},"q":1,"s":["alice",1,1]}"#,
+            r#"{"m":"op","n":1,"op":{"op":"update","path":"/","values":{"last":{".sv":"timestamp"},"online":null}},"q":1,"s":["alice",1,1]}"#,
+        ),
+        (
+            r#"{"m":"op","n":1,"op":{"expect":0,"op":"tx","path":"/n","value":1},"q":2,"s":["alice",1,1]}"#,
+            r#"{"m":"op","n":1,"op":{"expect":0,"op":"tx","path":"/n","value":1},"q":2,"s":["alice",1,1]}"#,
         ),
         (
             r#" {"s":["a",9007199254740991,2],"q":9007199254740991,"m":"bye","more":{"q":0}} "#,
@@ -63,6 +71,18 @@ fn downs(alloc: Global) -> Result<Vec<(Down, &'static str)>, Fail> {
             out: Kept::Wrote,
         },
         r#"{"done":5,"m":"reply","n":1,"out":"wrote","q":2,"r":2,"s":["alice",1,1],"z":5}"#,
+    ))?;
+    downs.push((
+        Down::Reply {
+            session: session(alloc, "bob")?,
+            r: number(3)?,
+            z: number(7)?,
+            q: number(2)?,
+            n: number(1)?,
+            done: number(7)?,
+            out: Kept::Stale(Some(Tree::scalar(Scalar::Int(1)))),
+        },
+        r#"{"done":7,"m":"reply","n":1,"out":{"stale":1},"q":2,"r":3,"s":["bob",1,1],"z":7}"#,
     ))?;
     downs.push((
         Down::Gone {
@@ -136,6 +156,11 @@ fn texts_are_refused(rt: HostRuntime) -> Result<(), Fail> {
         (
             r#"{"m":"op","n":1,"op":{"op":"set","path":"/a.b","value":1},"q":1,"s":["a",1,1]}"#,
             WireFault::Write(WriteFault::Tree(TreeFault::BadKey)),
+            6,
+        ),
+        (
+            r#"{"m":"op","n":1,"op":{"op":"update","path":"/","values":{"a":2,"a/b":1}},"q":1,"s":["a",1,1]}"#,
+            WireFault::Write(WriteFault::Overlap),
             6,
         ),
     ] {
