@@ -1,6 +1,9 @@
 //! Operations as JSON texts: what they leave in a tree, and why they are refused.
 
-use crate::{Items, Moment, Op, Outcome, WriteFault, apply, apply_all, apply_owned};
+ghost use Rattle.std.specs.Prelude.{◌≡◌, IfOk};
+ghost use Rattle.pres_write.specs.Outcomes.{writes_in};
+
+use crate::{Basic, Items, Moment, Op, Outcome, WriteFault, apply, apply_all, apply_owned};
 use pres_tree::Tree;
 use serde_json::Value;
 use std::alloc::Global;
@@ -10,13 +13,20 @@ fn printed(alloc: Global, tree: &Tree) -> Result<String, Fail> {
     Ok(tree.to_value(alloc)?.to_string(alloc)?)
 }
 
+fn writes_of(outcome: Outcome) -> Result<Items<Basic>, Fail>
+    ensures { IfOk result (λ writes. writes ≡ writes_in outcome) }
+{
+    match outcome {
+        Outcome::Wrote(writes) => Ok(writes),
+        Outcome::Stale(_) => Err("stale")?,
+    }
+}
+
 // The empty tree after the operation at the moment 5.
 fn carried_out(alloc: Global, op: &Op) -> Result<String, Fail> {
     let mut tree = Tree::empty();
     let outcome = op.resolve(alloc, &tree, Moment::at(5))?;
-    let Outcome::Wrote(writes) = outcome.copy(alloc)? else {
-        return Err("stale")?;
-    };
+    let writes = writes_of(outcome.copy(alloc)?)?;
     apply(alloc, &mut tree, writes.as_slice())?;
     let text = printed(alloc, &tree)?;
     let mut together = Tree::empty();
@@ -24,9 +34,7 @@ fn carried_out(alloc: Global, op: &Op) -> Result<String, Fail> {
     if text != printed(alloc, &together)? {
         return Err("the writes together left another tree")?;
     }
-    let Outcome::Wrote(writes) = outcome else {
-        return Err("stale")?;
-    };
+    let writes = writes_of(outcome)?;
     let mut moved = Tree::empty();
     apply_owned(alloc, &mut moved, Items::of(writes.into_vec()))?;
     if text != printed(alloc, &moved)? {
