@@ -7,6 +7,14 @@ use serde_json::Value;
 use std::alloc::Global;
 use std::test::Fail;
 
+// The number of an operation that wrote.
+fn wrote(log: &mut Plain, op: &Op, now: Moment) -> Option<u64> {
+    match log.apply(op, now) {
+        Ok((number, Kept::Wrote)) => Some(number),
+        _ => None,
+    }
+}
+
 #[test]
 fn moments_never_fall(rt: HostRuntime) -> Result<(), Fail> {
     let alloc = rt.alloc();
@@ -16,9 +24,7 @@ fn moments_never_fall(rt: HostRuntime) -> Result<(), Fail> {
             r#"{{"op":"set","path":"/{name}","value":{{".sv":"timestamp"}}}}"#
         )?;
         let op = Op::from_value(alloc, &Value::from_str(alloc, text.as_str())?)?;
-        let (answered, kept) = log.apply(&op, Moment::at(now))?;
-        assert_eq!(rt; answered, number);
-        assert!(rt; matches!(kept, Kept::Wrote));
+        assert_eq!(rt; wrote(&mut log, &op, Moment::at(now)), Some(number));
         assert_eq!(rt; log.number(), number);
     }
     let tree = log.tree().to_value(alloc)?.to_string(alloc)?;
@@ -34,57 +40,69 @@ fn session(alloc: Global, attempt: u64) -> Result<SessionId, Fail> {
     Ok(SessionId::of(ClientId::parse(alloc, "alice")?, stamp))
 }
 
-// The first session is opened, and then superseded by the second.
-fn superseded(alloc: Global) -> Result<(Batch, Batch), Fail> {
-    let opened = Entry::Open {
-        session: session(alloc, 1)?,
-    };
-    let ended = Entry::Ended {
-        session: session(alloc, 1)?,
+fn opened(alloc: Global, attempt: u64) -> Result<Entry, Fail> {
+    Ok(Entry::Open {
+        session: session(alloc, attempt)?,
+    })
+}
+
+fn ended(alloc: Global, attempt: u64) -> Result<Entry, Fail> {
+    Ok(Entry::Ended {
+        session: session(alloc, attempt)?,
         q: None,
         why: Why::Superseded,
         rows: Items::of(Vec::new(alloc)),
-    };
-    let opened_next = Entry::Open {
-        session: session(alloc, 2)?,
-    };
-    let first = Batch {
+    })
+}
+
+// The entries of a session that is superseded by the next one.
+fn superseded(alloc: Global) -> Result<Items<Entry>, Fail> {
+    let mut entries = Vec::new(alloc);
+    entries.push(ended(alloc, 1)?)?;
+    entries.push(opened(alloc, 2)?)?;
+    Ok(Items::of(entries))
+}
+
+// A log of both sessions.
+fn log_of_two(alloc: Global) -> Result<Log, Fail> {
+    let mut log = Log::new(alloc);
+    log.push(Batch {
         first: Number::first(),
         moment: Moment::at(1000),
-        entries: Items::one(alloc, opened)?,
+        entries: Items::one(alloc, opened(alloc, 1)?)?,
+    })?;
+    let Some(first) = Number::new(log.len() + 1) else {
+        return Err("no number")?;
     };
-    let second = Batch {
-        first: Number::new(2).ok_or("no number")?,
+    let batch = Batch {
+        first,
         moment: Moment::at(2000),
-        entries: Items::of(vec![in alloc; ended, opened_next]?),
+        entries: superseded(alloc)?,
     };
-    Ok((first, second))
+    log.push(batch.copy(alloc)?)?;
+    Ok(log)
+}
+
+// The attempt of the session that the entry with the number opens or ends.
+fn attempt_at(log: &Log, number: u64) -> Option<u64> {
+    match log.entry(number)? {
+        Entry::Open { session } => Some(session.attempt.get()),
+        Entry::Ended { session, .. } => Some(session.attempt.get() + 100),
+        _ => None,
+    }
 }
 
 #[test]
 fn entries_are_numbered(rt: HostRuntime) -> Result<(), Fail> {
     let alloc = rt.alloc();
-    let (first, second) = superseded(alloc)?;
-    let copied = second.copy(alloc)?;
-    let mut log = Log::new(alloc);
-    assert!(rt; log.is_empty());
-    assert_eq!(rt; first.first.get(), 1);
-    log.push(first)?;
-    assert_eq!(rt; log.len(), 1);
-    assert_eq!(rt; copied.first.get(), 2);
-    log.push(copied)?;
+    assert!(rt; Log::new(alloc).is_empty());
+    let log = log_of_two(alloc)?;
     assert_eq!(rt; log.len(), 3);
     assert_eq!(rt; log.batches().len(), 2);
-    assert!(rt; log.entry(0).is_none());
-    let Some(Entry::Ended { session: ended, .. }) = log.entry(2) else {
-        return Err("entry 2 is no end")?;
-    };
-    assert!(rt; *ended == session(alloc, 1)?);
-    let Some(Entry::Open { session: opened }) = log.entry(3) else {
-        return Err("entry 3 opens nothing")?;
-    };
-    assert!(rt; *opened == session(alloc, 2)?);
-    assert!(rt; log.entry(4).is_none());
+    let wanted = [None, Some(1), Some(101), Some(2), None];
+    for (number, attempt) in (0..5).zip(wanted) {
+        assert_eq!(rt; attempt_at(&log, number), attempt, "at {number}");
+    }
     Ok(())
 }
 
