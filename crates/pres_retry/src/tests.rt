@@ -53,21 +53,32 @@ fn a_resent_write_gets_the_row_that_it_had(rt: HostRuntime) -> Result<(), Fail> 
     Ok(())
 }
 
+// The writes of two clients, whose answers come in turns.
+fn interleaved(rt: &HostRuntime) -> Result<RetryTable, Fail> {
+    let mut table = RetryTable::new(rt.alloc());
+    for (name, done) in [
+        ("alice", 3),
+        ("alice", 6),
+        ("bob", 7),
+        ("alice", 9),
+        ("bob", 8),
+    ] {
+        keep(&mut table, &ClientId::parse(rt.alloc(), name)?, done, rt)?;
+    }
+    Ok(table)
+}
+
 #[test]
 fn clients_are_counted_apart(rt: HostRuntime) -> Result<(), Fail> {
-    let mut table = RetryTable::new(rt.alloc());
-    let alice = ClientId::parse(rt.alloc(), "alice")?;
-    let bob = ClientId::parse(rt.alloc(), "bob")?;
-    keep(&mut table, &alice, 3, &rt)?;
-    keep(&mut table, &alice, 6, &rt)?;
-    keep(&mut table, &bob, 7, &rt)?;
-    keep(&mut table, &alice, 9, &rt)?;
-    keep(&mut table, &bob, 8, &rt)?;
-    assert_eq!(rt; table.last(&alice).get(), 3);
-    assert_eq!(rt; table.last(&bob).get(), 2);
-    assert_eq!(rt; done(&table, &alice, 2)?, 6);
-    assert_eq!(rt; done(&table, &alice, 3)?, 9);
-    assert_eq!(rt; done(&table, &bob, 1)?, 7);
-    assert_eq!(rt; done(&table, &bob, 2)?, 8);
+    let table = interleaved(&rt)?;
+    for (name, n, wanted) in [
+        ("alice", 2, 6),
+        ("alice", 3, 9),
+        ("bob", 1, 7),
+        ("bob", 2, 8),
+    ] {
+        let client = ClientId::parse(rt.alloc(), name)?;
+        assert_eq!(rt; done(&table, &client, n)?, wanted, "at {name} {n}");
+    }
     Ok(())
 }
