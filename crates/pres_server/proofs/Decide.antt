@@ -1,9 +1,11 @@
 -- What a client's part answers is what the log asks for, and what it makes may come.
-use Rattle.std.proofs.Common.{refl, sym, ◌∙◌, ap, subst, ◌≡◌, ◌≢◌, ℕ, ◌+◌, ◌-◌, ◌^◌, ◌≤◌, List, [], ◌∷◌, ◌++◌, length, map, true, false, cond, ◌||◌, ◌&&◌, ◌==◌, nat_lt, nat_le, append_assoc, arith, length-append, Option, Some, None, slice_get, unwrap_or, inl, inr}
+use Rattle.std.proofs.Common.{refl, sym, ◌∙◌, ap, subst, ◌≡◌, ◌≢◌, ℕ, ◌+◌, ◌-◌, ◌^◌, ◌≤◌, List, [], ◌∷◌, ◌++◌, length, map, Bool, true, false, cond, ◌||◌, ◌&&◌, ◌==◌, nat_lt, nat_le, append_assoc, arith, length-append, Option, Some, None, slice_get, unwrap_or, inl, inr}
 use Rattle.std.specs.List.{list_any, list_all}
 use Rattle.std.proofs.lemmas.Bool.{and_from, eqb-true, eq-eqb}
 use Rattle.std.proofs.lemmas.Bool.Decides.{nat_tests}
 use Rattle.std.proofs.lemmas.Option.{slice_get_past, slice_get_cases}
+use Rattle.pres_tree.specs.declared.scalar.Scalar.{Scalar}
+use Rattle.pres_tree.specs.Rows.{Rows}
 use Rattle.pres_write.specs.declared.op.Op.{Op}
 use Rattle.pres_write.specs.Outcomes.{resolved}
 use Rattle.pres_wire.specs.declared.id.Stamp.{Stamp}
@@ -28,7 +30,7 @@ use Rattle.pres_server.specs.Messages.{Decision, refused, quiet, makes, op_by, i
 use Rattle.pres_server.specs.Turns.{wanted, CountsWrites}
 use Rattle.pres_server.specs.Fits.{Fits}
 use Rattle.pres_server.specs.Parts.{LivePart, part_of, live_in, open_step, Sound, listed, session_with}
-use Rattle.pres_server.specs.Decide.{same_stamp, is_live, said_by, op_by_count, hello_by, client_in, ends_live, wanted_by, open_steps, limited_by}
+use Rattle.pres_server.specs.Decide.{same_stamp, is_live, said_by, hello_by, client_in, ends_live, wanted_by, open_steps, limited_by}
 use Rattle.pres_server.proofs.Since.{client_itself, session_itself}
 use Rattle.pres_server.proofs.Steps.{In, or_false, open_listed, in_open}
 use Rattle.pres_server.proofs.Parts.{only_open, ended_own, no_more}
@@ -59,14 +61,19 @@ said_is s q d es sound = elim (is_open s es) as (λ b. is_open s es ≡ b → co
   by None e = refl
   by (Some l) e = ap (λ b. cond b (cond (nat_le q l.count) quiet (cond (q == l.count + 1) d (refused fault.Order))) (refused fault.Session)) (sym e)
 
-op_is : (rows : List Row) (es : List Entry) (m : ℕ) (s : SessionId) (q n : ℕ) (op : Op) → 1 ≤ n → op_by (verdict n rows) es m s q n op ≡ op_by_count (length rows) (tree es) m s q n op
-op_is rows es m s q n op low = elim (n == length rows + 1) as (λ b. op_by (cond b fresh (told_row (slice_get rows (n - 1)))) es m s q n op
-    ≡ cond b (makes (entry.Op s q n op (resolved (tree es) m op) ∷ [])) (cond (nat_lt (length rows) n) (refused fault.Order) (makes (entry.Again s q n ∷ [])))) [
+-- write n, counted from 1, of a client that has made so many
+abbrev op_by_count : ℕ → Rows Scalar → ℕ → SessionId → ℕ → ℕ → Op → Decision
+op_by_count ops tree m s q n op =
+    cond (n == ops + 1) (makes (entry.Op s q n op (resolved tree m op) ∷ [])) (cond (nat_lt ops n) (refused fault.Order) (makes (entry.Again s q n ∷ [])))
+
+op_is : (rows : List Row) (t : Rows Scalar) (m : ℕ) (s : SessionId) (q n : ℕ) (op : Op) → 1 ≤ n → op_by (verdict n rows) t m s q n op ≡ op_by_count (length rows) t m s q n op
+op_is rows t m s q n op low = elim (n == length rows + 1) as (λ b. op_by (cond b fresh (told_row (slice_get rows (n - 1)))) t m s q n op
+    ≡ cond b (makes (entry.Op s q n op (resolved t m op) ∷ [])) (cond (nat_lt (length rows) n) (refused fault.Order) (makes (entry.Again s q n ∷ [])))) [
       | true ↦ refl
-      | false ↦ elim (nat_lt (length rows) n) as (λ b. nat_lt (length rows) n ≡ b → op_by (told_row (slice_get rows (n - 1))) es m s q n op ≡ cond b (refused fault.Order) (makes (entry.Again s q n ∷ []))) [
-        | true ↦ λ h. ap (λ o. op_by (told_row o) es m s q n op) (slice_get_past rows (n - 1) (past (length rows) n h))
+      | false ↦ elim (nat_lt (length rows) n) as (λ b. nat_lt (length rows) n ≡ b → op_by (told_row (slice_get rows (n - 1))) t m s q n op ≡ cond b (refused fault.Order) (makes (entry.Again s q n ∷ []))) [
+        | true ↦ λ h. ap (λ o. op_by (told_row o) t m s q n op) (slice_get_past rows (n - 1) (past (length rows) n h))
         | false ↦ λ h. elim (slice_get_cases rows (n - 1)).1 [
-          | inl here ↦ ap (λ o. op_by (told_row o) es m s q n op) here.2
+          | inl here ↦ ap (λ o. op_by (told_row o) t m s q n op) here.2
           | inr end ↦ absurd (within (length rows) n h low end.0)
         ]
       ] refl
@@ -83,13 +90,13 @@ hello_is s es sound = λ i. cond (sound.newest s i) (makes (map (λ t. entry.End
 ends_is : (es : List Entry) (w : Why) (s : SessionId) → Sound es → ends_if_open es w s ≡ ends_live (part_of s.client es).live w s
 ends_is es w s sound = ap (λ b. cond b (makes (entry.Ended s None w [] ∷ [])) quiet) (live_is s es sound)
 
-pub wanted_is : (es : List Entry) (m : ℕ) (i : Input) → Sound es → CountsWrites i → wanted es m i ≡ wanted_by (part_of (client_in i) es) (tree es) m i
-wanted_is es m (input.Up (up.Hello s)) sound low = hello_is s es sound
-wanted_is es m (input.Up (up.Op s q n op)) sound low = ap (λ d. if_open es s (in_order es s q d)) (op_is (rows_for s.client es) es m s q n op low) ∙ said_is s q _ es sound
-wanted_is es m (input.Up (up.Bye s q)) sound low = said_is s q _ es sound
-wanted_is es m (input.Lost s) sound low = ends_is es why.Lost s sound
-wanted_is es m (input.Slow s) sound low = ends_is es why.Slow s sound
-wanted_is es m (input.Restart c) sound low = ap (ends_first why.Restart) (sound.one_open c)
+pub wanted_is : (es : List Entry) (m : ℕ) (i : Input) → Sound es → wanted es m i ≡ wanted_by (part_of (client_in i) es) (tree es) m i
+wanted_is es m (input.Up (up.Hello s)) sound = hello_is s es sound
+wanted_is es m (input.Up (up.Op s q n op)) sound = said_is s q _ es sound
+wanted_is es m (input.Up (up.Bye s q)) sound = said_is s q _ es sound
+wanted_is es m (input.Lost s) sound = ends_is es why.Lost s sound
+wanted_is es m (input.Slow s) sound = ends_is es why.Slow s sound
+wanted_is es m (input.Restart c) sound = ap (ends_first why.Restart) (sound.one_open c)
 
 -- entries that may come together, but for the limit on open sessions
 abbrev pub Together : List Entry → ℕ → List Entry → Type 0
@@ -159,7 +166,7 @@ restart_allowed es m c sound = by (live_in (open_sessions_of c es) es) (sound.on
 pub wanted_allowed : (es : List Entry) (m : ℕ) (i : Input) → Sound es → CountsWrites i → Allowed es m (wanted es m i)
 wanted_allowed es m (input.Up (up.Hello s)) sound low = hello_allowed es m s sound
 wanted_allowed es m (input.Up (up.Op s q n op)) sound low =
-    said_allowed es m s q (op_by (verdict n (rows_for s.client es)) es m s q n op) (λ o k. subst (Allowed es m) (sym (op_is (rows_for s.client es) es m s q n op low)) (op_allowed es m s q n op low o k))
+    said_allowed es m s q (op_by (verdict n (rows_for s.client es)) (tree es) m s q n op) (λ o k. subst (Allowed es m) (sym (op_is (rows_for s.client es) (tree es) m s q n op low)) (op_allowed es m s q n op low o k))
 wanted_allowed es m (input.Up (up.Bye s q)) sound low = said_allowed es m s q (makes (entry.Ended s (Some q) why.Bye [] ∷ [])) (λ o k. ((λ e. absurd (cc)), (o, ap Some k, refl)))
 wanted_allowed es m (input.Lost s) sound low = ends_allowed es m why.Lost s (λ e. absurd (cc)) refl
 wanted_allowed es m (input.Slow s) sound low = ends_allowed es m why.Slow s (λ e. absurd (cc)) refl

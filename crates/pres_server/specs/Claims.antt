@@ -37,4 +37,4 @@ PartAnswers es moment e = Sound es → Fits es moment e → answers_to es e ≡ 
 
 -- What an input asks for is given by what the log says of its client, and by the tree.
 abbrev pub PartDecides : List Entry → ℕ → Input → Type 0
-PartDecides es moment input = Sound es → CountsWrites input → wanted es moment input ≡ wanted_by (part_of (client_in input) es) (tree es) moment input
+PartDecides es moment input = Sound es → wanted es moment input ≡ wanted_by (part_of (client_in input) es) (tree es) moment input

@@ -4,7 +4,12 @@ pub mod Streams
 pub mod Answers
 pub mod LegalLog
 pub mod Messages
+pub mod Heard
 pub mod Turns
+pub mod Calls
+pub mod Slots
+pub mod Index
+pub mod Kept
 pub mod Parts
 pub mod Fits
 pub mod Decide

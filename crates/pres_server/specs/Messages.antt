@@ -1,5 +1,7 @@
 -- What a message asks for, given the entries before it and the moment: entries, nothing, or a refusal.
 use Rattle.std.specs.Prelude.{ℕ, ◌+◌, ◌-◌, ◌^◌, min, max, List, [], ◌∷◌, ◌++◌, map, length, Some, None, if◌then◌else◌, nat_lt, nat_le, ◌==◌, unwrap_or}
+use Rattle.pres_tree.specs.declared.scalar.Scalar.{Scalar}
+use Rattle.pres_tree.specs.Rows.{Rows}
 use Rattle.pres_write.specs.declared.op.Op.{Op}
 use Rattle.pres_write.specs.Moments as moments
 use Rattle.pres_write.specs.Outcomes.{resolved}
@@ -37,10 +39,11 @@ abbrev pub ends_first : Why → List SessionId → Decision
 ends_first why [] = quiet
 ends_first why (s ∷ more) = makes (entry.Ended s None why [] ∷ [])
 
-abbrev pub op_by : Told → List Entry → ℕ → SessionId → ℕ → ℕ → Op → Decision
-op_by fresh before moment s q n op = makes (entry.Op s q n op (resolved (tree before) moment op) ∷ [])
-op_by (again row) before moment s q n op = makes (entry.Again s q n ∷ [])
-op_by gap before moment s q n op = refused fault.Order
+-- what write n of a client makes, by what it is
+abbrev pub op_by : Told → Rows Scalar → ℕ → SessionId → ℕ → ℕ → Op → Decision
+op_by fresh tree moment s q n op = makes (entry.Op s q n op (resolved tree moment op) ∷ [])
+op_by (again row) tree moment s q n op = makes (entry.Again s q n ∷ [])
+op_by gap tree moment s q n op = refused fault.Order
 
 -- a repeated message is passed over, and a gap refused
 abbrev pub in_order : List Entry → SessionId → ℕ → Decision → Decision
@@ -60,7 +63,7 @@ hello before s =
 
 abbrev pub message : List Entry → ℕ → Up → Decision
 message before moment (up.Hello s) = hello before s
-message before moment (up.Op s q n op) = if_open before s (in_order before s q (op_by (verdict n (rows_for s.client before)) before moment s q n op))
+message before moment (up.Op s q n op) = if_open before s (in_order before s q (op_by (verdict n (rows_for s.client before)) (tree before) moment s q n op))
 message before moment (up.Bye s q) = if_open before s (in_order before s q (makes (entry.Ended s (Some q) why.Bye [] ∷ [])))
 
 -- refused where no number would be left for the ends, or where there would be more than 1,024 sessions

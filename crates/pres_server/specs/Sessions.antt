@@ -63,6 +63,10 @@ open_sessions entries = map (λ e. e.1) (open_entries entries)
 abbrev pub open_sessions_of : ClientId → List Entry → List SessionId
 open_sessions_of client entries = filter (λ s. is_open s entries) (sessions_of client entries)
 
+-- whether a session of the client is open
+abbrev pub has_open : ClientId → List Entry → Bool
+has_open client entries = list_any (λ s. is_open s entries) (sessions_of client entries)
+
 -- s comes after each session of its client
 abbrev pub is_newest : SessionId → List Entry → Bool
 is_newest s entries = list_all (λ t. is_earlier (stamp_of t) (stamp_of s)) (sessions_of s.client entries)

@@ -9,6 +9,7 @@ use Rattle.pres_log.specs.Logs.{Log, entries, number}
 use Rattle.pres_server.specs.declared.input.Input.{Input}
 use Rattle.pres_server.specs.declared.input.Input.TheVariants as input
 use Rattle.pres_server.specs.Sessions.{open_sessions_of}
+use Rattle.pres_server.specs.Heard.{Heard, heard_from, heard_of, heard_after_all}
 use Rattle.pres_server.specs.Messages.{Decision, makes, moment_of, ends_if_open, ends_first, message, limited}
 
 -- what an input asks for
@@ -33,3 +34,26 @@ batch_of log moment es = record { first = number log + 1; moment = moment; entri
 abbrev pub log_after : Log → ℕ → Decision → Log
 log_after log moment (makes es) = log ++ batch_of log moment es ∷ []
 log_after log moment other = log
+
+-- what a server is: its log, and when each client was heard of last
+pub record State : Type 0 where
+  pub log : Log
+  pub heard : Heard
+
+-- a server without a history
+abbrev pub blank : State
+blank = record { log = []; heard = [] }
+
+-- a turn that waits for the commit of its batch
+pub record Pending : Type 0 where
+  pub state : State
+  pub moment : ℕ
+  pub made : List Entry
+
+-- the server after a turn that makes nothing
+abbrev pub state_heard : State → ℕ → Input → State
+state_heard state moment input = record { log = state.log; heard = heard_of moment (heard_from input) state.heard }
+
+-- the server after the commit
+abbrev pub state_after : State → ℕ → List Entry → State
+state_after state moment es = record { log = state.log ++ batch_of state.log moment es ∷ []; heard = heard_after_all moment es state.heard }

@@ -1,0 +1,249 @@
+//! What the log says of each client and of the tree, kept as the log grows.
+
+ghost use Rattle.std.specs.Prelude.{◌≡◌, ◌+◌, ◌<◌, ◌++◌, ◌∷◌, [], ◌^◌, ℕ, All, List, Option, length, IfOk, option_map};
+ghost use Rattle.pres_tree.specs.Rows.{Rows};
+ghost use Rattle.pres_write.specs.Basics.{FitsThere, applied};
+ghost use Rattle.pres_write.specs.Outcomes.{kept_of, writes_in};
+ghost use Rattle.pres_write.specs.declared.op.Op.{Op};
+ghost use Rattle.pres_retry.specs.Tables.{row, rows_of, recorded};
+ghost use Rattle.pres_wire.specs.Ids.{ClientId};
+ghost use Rattle.pres_log.specs.declared.entry.Entry.TheVariants as entry;
+ghost use Rattle.pres_server.specs.Answers.{answers};
+ghost use Rattle.pres_server.specs.Heard.{Heard, heard_after_all};
+ghost use Rattle.pres_server.specs.Index.{Indexed, Steps, Takes, Tells, Fitting, part_at};
+ghost use Rattle.pres_server.specs.Parts.{answer_by};
+ghost use Rattle.pres_server.specs.Sessions.{session_of};
+
+use crate::places;
+use crate::reopen::Reopen;
+use pres_log::Entry;
+use pres_retry::{RetryTable, Verdict};
+use pres_session::{NoPlan, Slot};
+use pres_tree::Tree;
+use pres_wire::{ClientId, Down, Number, SessionId, Why};
+use pres_write::{Basic, Moment, Outcome, apply};
+use std::alloc::Global;
+use std::collections::BTreeMap;
+
+/// What the log says.
+#[derive(Drop)]
+pub(crate) struct Index {
+    /// Where each client stands that had a session.
+    pub(crate) places: BTreeMap<ClientId, Slot<NoPlan>>,
+    /// The answers to the writes of each client.
+    pub(crate) retry: RetryTable,
+    /// How many sessions are open.
+    pub(crate) open_count: u64,
+    /// The tree after all writes.
+    pub(crate) tree: Tree,
+}
+
+/// Where in the log an entry is made: its number, and the moment of its batch.
+#[derive(Clone, Copy)]
+pub(crate) struct Made {
+    pub(crate) number: Number,
+    pub(crate) moment: Moment,
+}
+
+// The writes of an outcome.
+fn writes(outcome: &Outcome) -> &[Basic]
+    ensures { result.now ≡ writes_in outcome.now }
+{
+    match outcome {
+        Outcome::Wrote(writes) => writes.as_slice(),
+        Outcome::Stale(_) => &[],
+    }
+}
+
+impl Index {
+    /// The index of the log without batches.
+    pub(crate) fn new(alloc: Global) -> Index
+        ensures { Indexed [] result }
+    {
+        Index {
+            places: BTreeMap::new(alloc),
+            retry: RetryTable::new(alloc),
+            open_count: 0,
+            tree: Tree::empty(),
+        }
+    }
+
+    // Takes in that the session was opened, and answers it.
+    fn open(&mut self, alloc: Global, session: &SessionId, made: Made) -> Result<Down, Reopen>
+        requires { Takes self.old (entry.Open session.now) }
+        ensures steps { IfOk result (λ _. Steps made.number made.moment self.old self.new (entry.Open session.now)) }
+        ensures answer { IfOk result (λ answer. answer_by made.number (entry.Open session.now) (part_at self.old session.now.client) ≡ answer ∷ []) }
+    {
+        places::open(&mut self.places, alloc, session, made.moment)?;
+        self.open_count += 1;
+        Ok(Down::Welcome {
+            session: session.copy(alloc)?,
+            z: made.number,
+            ops: self.retry.last(&session.client),
+        })
+    }
+
+    // Carries out the writes.
+    fn put(&mut self, alloc: Global, writes: &[Basic]) -> Result<(), Reopen>
+        requires { All FitsThere writes.now }
+        ensures { IfOk result (λ _. self.new ≡ record self.old { tree = applied self.old.tree writes.now }) }
+    {
+        let Ok(()) = apply(alloc, &mut self.tree, writes) else {
+            return Err(Reopen);
+        };
+        Ok(())
+    }
+
+    // Keeps the answer to the client's next write.
+    fn keep(
+        &mut self,
+        alloc: Global,
+        client: &ClientId,
+        n: Number,
+        done: Number,
+        outcome: &Outcome,
+    ) -> Result<(), Reopen>
+        requires { n ≡ length (rows_of client.now self.old.retry) + 1 }
+        ensures { IfOk result (λ _. self.new ≡ record self.old { retry = recorded client.now n (row done (kept_of outcome.now)) self.old.retry }) }
+    {
+        let client = client.copy(alloc)?;
+        let kept = outcome.kept(alloc)?;
+        let Ok(()) = self.retry.record(client, n, done, kept) else {
+            return Err(Reopen);
+        };
+        Ok(())
+    }
+
+    // Takes in that write `n` of the client came to the outcome, and answers it.
+    fn write(
+        &mut self,
+        alloc: Global,
+        session: &SessionId,
+        q: Number,
+        n: Number,
+        outcome: &Outcome,
+        made: Made,
+    ) -> Result<Down, Reopen>
+        requires { (op : Op) × Takes self.old (entry.Op session.now q n op outcome.now) }
+        ensures steps { (op : Op) → IfOk result (λ _. Steps made.number made.moment self.old self.new (entry.Op session.now q n op outcome.now)) }
+        ensures answer { (op : Op) → IfOk result (λ answer. answer_by made.number (entry.Op session.now q n op outcome.now) (part_at self.old session.now.client) ≡ answer ∷ []) }
+    {
+        let r = places::answer(&mut self.places, &session.client, made.moment);
+        self.keep(alloc, &session.client, n, made.number, outcome)?;
+        self.put(alloc, writes(outcome))?;
+        Ok(Down::Reply {
+            session: session.copy(alloc)?,
+            r,
+            z: made.number,
+            q,
+            n,
+            done: made.number,
+            out: outcome.kept(alloc)?,
+        })
+    }
+
+    // Takes in that write `n` of the client came again, and answers it as it was answered.
+    fn write_again(
+        &mut self,
+        alloc: Global,
+        session: &SessionId,
+        q: Number,
+        n: Number,
+        made: Made,
+    ) -> Result<Down, Reopen>
+        requires { Takes self.old (entry.Again session.now q n) }
+        ensures steps { IfOk result (λ _. Steps made.number made.moment self.old self.new (entry.Again session.now q n)) }
+        ensures answer { IfOk result (λ answer. answer_by made.number (entry.Again session.now q n) (part_at self.old session.now.client) ≡ answer ∷ []) }
+    {
+        let r = places::answer(&mut self.places, &session.client, made.moment);
+        let Verdict::Again(row) = self.retry.find(&session.client, n) else {
+            unreachable!()
+        };
+        Ok(Down::Reply {
+            session: session.copy(alloc)?,
+            r,
+            z: made.number,
+            q,
+            n,
+            done: row.done,
+            out: row.kept.copy(alloc)?,
+        })
+    }
+
+    // Takes in that the session ended, and answers it.
+    fn end(
+        &mut self,
+        alloc: Global,
+        session: &SessionId,
+        why: Why,
+        rows: &[Basic],
+        made: Made,
+    ) -> Result<Down, Reopen>
+        requires { (q : Option ℕ) × Takes self.old (entry.Ended session.now q why rows.now) }
+        ensures steps { (q : Option ℕ) → IfOk result (λ _. Steps made.number made.moment self.old self.new (entry.Ended session.now q why rows.now)) }
+        ensures answer { (q : Option ℕ) → IfOk result (λ answer. answer_by made.number (entry.Ended session.now q why rows.now) (part_at self.old session.now.client) ≡ answer ∷ []) }
+    {
+        let r = places::end(&mut self.places, &session.client, why, rows);
+        self.open_count = self.open_count.saturating_sub(1);
+        self.put(alloc, rows)?;
+        Ok(Down::Gone {
+            session: session.copy(alloc)?,
+            r,
+            z: made.number,
+            why,
+        })
+    }
+
+    /// Takes in the next entry of the log, and answers it. After an `Err` the index is of no use.
+    pub(crate) fn take(&mut self, alloc: Global, entry: &Entry, made: Made) -> Result<Down, Reopen>
+        requires { Takes self.old entry.now }
+        ensures steps { IfOk result (λ _. Steps made.number made.moment self.old self.new entry.now) }
+        ensures answer { IfOk result (λ answer. answer_by made.number entry.now (part_at self.old (session_of entry.now).client) ≡ answer ∷ []) }
+    {
+        match entry {
+            Entry::Open { session } => self.open(alloc, session, made),
+            Entry::Op {
+                session,
+                q,
+                n,
+                outcome,
+                ..
+            } => self.write(alloc, session, *q, *n, outcome, made),
+            Entry::Again { session, q, n } => self.write_again(alloc, session, *q, *n, made),
+            Entry::Ended {
+                session, why, rows, ..
+            } => self.end(alloc, session, *why, rows.as_slice(), made),
+        }
+    }
+}
+
+/// Takes in the entries of a batch, of which the first is made there, and adds their answers.
+/// After an `Err` the index is of no use.
+pub(crate) fn take_all(
+    index: &mut Index,
+    alloc: Global,
+    entries: &[Entry],
+    made: Made,
+    outs: &mut Vec<Down>,
+) -> Result<(), Reopen>
+    requires { (es : List Entry) × Fitting es made.number made.moment entries.now index.old }
+    ensures indexed { (es : List Entry) → Fitting es made.number made.moment entries.now index.old → IfOk result (λ _. Indexed (es ++ entries.now) index.new) }
+    ensures heard { (heard : Heard) → Tells heard index.old → IfOk result (λ _. Tells (heard_after_all made.moment entries.now heard) index.new) }
+    ensures answers { (es : List Entry) → Fitting es made.number made.moment entries.now index.old → IfOk result (λ _. outs.new.items ≡ outs.old.items ++ answers es entries.now) }
+{
+    let Some((first, rest)) = entries.split_first() else {
+        return Ok(());
+    };
+    outs.push(index.take(alloc, first, made)?)?;
+    if rest.is_empty() {
+        return Ok(());
+    }
+    let Some(number) = made.number.next() else {
+        unreachable!()
+    };
+    let next = Made {
+        number,
+        moment: made.moment,
+    };
+    take_all(index, alloc, rest, next, outs)
+}

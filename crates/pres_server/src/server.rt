@@ -1,0 +1,234 @@
+//! The server.
+
+ghost use Rattle.std.specs.Prelude.{◌≡◌, [], IfOk, IfErr, MatchOption, Some, None, is_some, if◌then◌else◌};
+ghost use Rattle.pres_tree.specs.Rows.{value_at};
+ghost use Rattle.pres_log.specs.Logs.{number, entries, tree};
+ghost use Rattle.pres_log.specs.declared.fault.Fault.TheVariants.{Busy as OutOfMemory};
+ghost use Rattle.pres_server.specs.Sessions.{is_open, count, has_open};
+ghost use Rattle.pres_server.specs.Heard.{heard_last};
+ghost use Rattle.pres_server.specs.Outcomes.{rows_for};
+ghost use Rattle.pres_server.specs.LegalLog.{IsLegal};
+ghost use Rattle.pres_server.specs.Turns.{blank, turn, batch_of, state_after};
+ghost use Rattle.pres_server.specs.Answers.{answers};
+ghost use Rattle.pres_server.specs.Calls.{IsTurn, IsRefusal};
+
+use crate::index::{Index, Made, take_all};
+use crate::input::Input;
+use crate::places;
+use crate::reopen::Reopen;
+use crate::turn::{Now, Step};
+use pres_log::{Batch, Fault, Log};
+use pres_retry::Row;
+use pres_tree::{Path, Tree};
+use pres_wire::{ClientId, Count, Down, Number, SessionId};
+use pres_write::{Items, Moment};
+use std::alloc::Global;
+use std::marker::Model;
+
+/// A server of one thread: many clients share its tree by sessions and numbered writes. All that
+/// it says is what its log says. Contracts see it as that log, and when the client of each open
+/// session was heard of last.
+#[derive(Drop)]
+pub struct Server {
+    alloc: Global,
+    log: Log,
+    moment: Moment,
+    index: Index,
+}
+
+impl Model for Server {
+    ghost use Rattle.pres_server.specs.Turns.{State};
+
+    ghost Value = { State };
+
+    ghost use Rattle.pres_server.specs.Index.{heard_in};
+    ghost use Rattle.pres_server.specs.Kept.{Kept};
+
+    ghost view = { λ s. record { log = s.log; heard = heard_in s.index } };
+
+    ghost invariant = { λ s. Kept s.log s.moment s.index };
+}
+
+/// A turn whose batch waits for its commit. It may not be let go: `done` takes it once the batch is
+/// committed, `abandon` where the commit was refused. Contracts see the server as it was before the
+/// turn, and the moment and the entries of the batch.
+pub struct Busy {
+    server: Server,
+    batch: Batch,
+}
+
+impl Model for Busy {
+    ghost use Rattle.pres_server.specs.Turns.{Pending};
+
+    ghost Value = { Pending };
+
+    ghost use Rattle.pres_server.specs.Kept.{Waits};
+
+    ghost view = { λ b. record { state = b.server; moment = b.batch.moment; made = b.batch.entries } };
+
+    ghost invariant = { λ b. Waits b.server.log b.batch };
+}
+
+/// What an input did.
+pub enum Turn {
+    /// It changed nothing but when a client was heard of last. There is nothing to commit, and no
+    /// answer.
+    Quiet(Server, Items<Down>),
+    /// It makes a batch.
+    Busy(Busy),
+}
+
+impl Server {
+    /// A server without a history. It keeps the allocator and takes no memory.
+    pub fn new(alloc: Global) -> Server
+        ensures { result ≡ blank }
+    {
+        Server {
+            alloc,
+            log: Log::new(alloc),
+            moment: Moment::at(0),
+            index: Index::new(alloc),
+        }
+    }
+
+    /// How many entries the log has: the number of the last one.
+    pub fn number(&self) -> u64
+        ensures number { result ≡ number self.now.log }
+        ensures legal { IsLegal self.now.log }
+    {
+        self.log.len()
+    }
+
+    /// The value at the path, where something stands there.
+    pub fn value_at(&self, path: &Path) -> Option<&Tree>
+        ensures { MatchOption result
+            (value_at path.now (tree (entries self.now.log)) ≡ [])
+            (λ value. value_at path.now (tree (entries self.now.log)) ≡ value.now) }
+    {
+        self.index.tree.at(path)
+    }
+
+    /// The log.
+    pub fn log(&self) -> &Log
+        ensures { result.now ≡ self.now.log }
+    {
+        &self.log
+    }
+
+    /// Whether the session is open.
+    pub fn is_open(&self, session: &SessionId) -> bool
+        ensures { result ≡ is_open session.now (entries self.now.log) }
+    {
+        self.index.is_live(session)
+    }
+
+    /// How many messages of the session were accepted, none where it isn't open.
+    pub fn count(&self, session: &SessionId) -> Option<Count>
+        ensures { result ≡ (if is_open session.now (entries self.now.log) then Some (count session.now (entries self.now.log)) else None) }
+    {
+        if !self.index.is_live(session) {
+            return None;
+        }
+        Some(places::session(&self.index.places, &session.client)?.count())
+    }
+
+    /// When the client was heard of last, none where no session of it is open.
+    pub fn heard(&self, client: &ClientId) -> Option<Moment>
+        ensures heard { result ≡ heard_last self.now.heard client.now }
+        ensures open { is_some result ≡ has_open client.now (entries self.now.log) }
+    {
+        Some(places::session(&self.index.places, client)?.heard())
+    }
+
+    /// What the input does, at the later of the given moment and the log's greatest one. Nothing is
+    /// changed before `done` but, by a message that was accepted before, when its client was heard
+    /// of last. Refused, in this order, with the server as it was: Old, Session, Order, Spent, Full,
+    /// Busy.
+    pub fn prepare(mut self, input: Input, now: Moment) -> Result<Turn, (Fault, Server)>
+        ensures turn { IfOk result (IsTurn self input now) }
+        ensures refused { IfErr result (λ e. IsRefusal (turn self.log input now) e.0) }
+        ensures unchanged { IfErr result (λ e. e.1 ≡ self) }
+    {
+        let moment = self.moment.max(now);
+        let number = self.log.len();
+        match self.index.turn(self.alloc, input, Now { number, moment }) {
+            Ok(Step::Makes(entries)) => {
+                let Some(first) = Number::new(number + 1) else {
+                    unreachable!()
+                };
+                let batch = Batch {
+                    first,
+                    moment,
+                    entries,
+                };
+                Ok(Turn::Busy(Busy {
+                    server: self,
+                    batch,
+                }))
+            }
+            Ok(Step::Quiet(heard)) => {
+                if let Some(session) = heard {
+                    places::hear(&mut self.index.places, &session.client, moment);
+                }
+                let answers = Items::of(Vec::new(self.alloc));
+                Ok(Turn::Quiet(self, answers))
+            }
+            Err(fault) => Err((fault, self)),
+        }
+    }
+}
+
+impl Busy {
+    /// The batch that is to be committed.
+    pub fn batch(&self) -> &Batch
+        ensures { result.now ≡ batch_of self.now.state.log self.now.moment self.now.made }
+    {
+        &self.batch
+    }
+
+    /// The server before the turn. It takes no memory.
+    pub fn abandon(self) -> Server
+        ensures { result ≡ self.state }
+    {
+        let Busy { server, batch } = self;
+        drop(batch);
+        server
+    }
+
+    /// The server after the commit, and the answers of the batch in their order.
+    pub fn done(self) -> Result<(Server, Items<Down>), Reopen>
+        ensures server { IfOk result (λ done. done.0 ≡ state_after self.state self.moment self.made) }
+        ensures answers { IfOk result (λ done. done.1 ≡ answers (entries self.state.log) self.made) }
+    {
+        let Busy { server, batch } = self;
+        let Server {
+            alloc,
+            mut log,
+            mut index,
+            ..
+        } = server;
+        let moment = batch.moment;
+        let made = Made {
+            number: batch.first,
+            moment,
+        };
+        let mut answers = Vec::new(alloc);
+        take_all(
+            &mut index,
+            alloc,
+            batch.entries.as_slice(),
+            made,
+            &mut answers,
+        )?;
+        let Ok(()) = log.push(batch) else {
+            return Err(Reopen);
+        };
+        let server = Server {
+            alloc,
+            log,
+            moment,
+            index,
+        };
+        Ok((server, Items::of(answers)))
+    }
+}
