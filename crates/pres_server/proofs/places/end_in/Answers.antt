@@ -1,3 +1,4 @@
+use Rattle.std.proofs.Common.{[]}
 use Rattle.pres_server.proofs.places.end_in.Goals as goal
 
 pub spend-requires : goal.spend-requires
