@@ -82,3 +82,16 @@ fn clients_are_counted_apart(rt: HostRuntime) -> Result<(), Fail> {
     }
     Ok(())
 }
+
+#[test]
+fn rows_are_those_of_the_client_in_order(rt: HostRuntime) -> Result<(), Fail> {
+    let table = interleaved(&rt)?;
+    let alice = ClientId::parse(rt.alloc(), "alice")?;
+    let rows = table.rows(rt.alloc(), &alice)?;
+    let wanted = [3, 6, 9];
+    assert_eq!(rt; rows.len(), wanted.len());
+    for (row, done) in rows.iter().zip(&wanted) {
+        assert_eq!(rt; row.done.get(), *done);
+    }
+    Ok(())
+}
