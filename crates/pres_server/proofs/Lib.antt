@@ -6,3 +6,5 @@ pub mod AfterEntry
 pub mod Decide
 pub mod Whole
 pub mod Samples
+pub mod Taken
+pub mod Heard

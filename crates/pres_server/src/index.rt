@@ -235,9 +235,6 @@ pub(crate) fn take_all(
         return Ok(());
     };
     outs.push(index.take(alloc, first, made)?)?;
-    if rest.is_empty() {
-        return Ok(());
-    }
     let Some(number) = made.number.next() else {
         unreachable!()
     };
