@@ -8,3 +8,4 @@ pub mod Whole
 pub mod Samples
 pub mod Taken
 pub mod Heard
+pub mod Readers
