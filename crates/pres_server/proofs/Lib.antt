@@ -4,5 +4,6 @@ pub mod Steps
 pub mod Parts
 pub mod AfterEntry
 pub mod Decide
+pub mod Checks
 pub mod Whole
 pub mod Samples
