@@ -118,7 +118,15 @@ impl Index {
     {
         limits(number + 1, self.open_count.saturating_sub(1))?;
         let rows = Items::of(Vec::new(alloc));
-        Ok(Items::one(alloc, Entry::Ended { session, q, why, rows })?)
+        Ok(Items::one(
+            alloc,
+            Entry::Ended {
+                session,
+                q,
+                why,
+                rows,
+            },
+        )?)
     }
 
     // The opening of a session, after the end of the client's open one, which has the stamp.
@@ -188,7 +196,16 @@ impl Index {
         let Ok(outcome) = op.resolve(alloc, &self.tree, now.moment) else {
             return Err(Fault::Busy);
         };
-        Ok(Items::one(alloc, Entry::Op { session, q, n, op, outcome })?)
+        Ok(Items::one(
+            alloc,
+            Entry::Op {
+                session,
+                q,
+                n,
+                op,
+                outcome,
+            },
+        )?)
     }
 
     // What an operation asks for.
@@ -212,7 +229,13 @@ impl Index {
     }
 
     // What a Bye asks for.
-    fn bye_message(&self, alloc: Global, session: SessionId, q: Number, number: u64) -> Result<Step, Fault>
+    fn bye_message(
+        &self,
+        alloc: Global,
+        session: SessionId,
+        q: Number,
+        number: u64,
+    ) -> Result<Step, Fault>
         requires number { number < 2 ^ 53 }
         requires open_count { self.now.open_count < 2 ^ 53 }
         ensures { Decides (Some session) (limited_by number self.now.open_count (said_by (part_at self.now session.client).live session q (makes (entry.Ended session (Some q) why.Bye [] ∷ [])))) result }

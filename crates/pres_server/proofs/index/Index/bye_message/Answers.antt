@@ -1,4 +1,4 @@
-use Rattle.std.proofs.Common.{◌≡◌, ◌∙◌, ap, inl, Some, None, [], ◌∷◌, true, cond, rules}
+use Rattle.std.proofs.Common.{◌≡◌, ◌∙◌, ap, inl, Some, [], ◌∷◌, true, cond, rules}
 use Rattle.pres_wire.specs.declared.id.Why.TheVariants as why
 use Rattle.pres_log.specs.declared.entry.Entry.TheVariants as entry
 use Rattle.pres_server.specs.Messages.{Decision, makes, quiet}

@@ -1,4 +1,4 @@
-use Rattle.std.proofs.Common.{◌≡◌, ℕ, subst, sym, Some, Ok, Result}
+use Rattle.std.proofs.Common.{ℕ, subst, sym, Some, Ok, Result}
 use Rattle.pres_wire.specs.declared.up.Up.{Up}
 use Rattle.pres_wire.specs.Messages.{session_in}
 use Rattle.pres_log.specs.declared.fault.Fault.{Fault}
