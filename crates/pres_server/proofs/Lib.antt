@@ -4,6 +4,7 @@ pub mod Steps
 pub mod Parts
 pub mod AfterEntry
 pub mod Decide
+pub mod Checks
 pub mod Whole
 pub mod Samples
 pub mod Taken
