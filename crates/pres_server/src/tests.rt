@@ -55,7 +55,7 @@ fn texts(alloc: Global, answers: &[Down]) -> Result<String, AllocError> {
 // The code of a fault, and the stamp that comes with it.
 fn fault_text(alloc: Global, fault: Fault) -> Result<String, AllocError> {
     let code = fault.code();
-    match fault {
+    match &fault {
         Fault::Old(last) => {
             format!(in alloc;
                 "fault {code} [{},{}]",
