@@ -1,6 +1,6 @@
 -- The records of one client among all.
 use Rattle.std.proofs.Common.{◌≡◌, ◌≢◌, ℕ, ◌+◌, ◌-◌, ◌<◌, ◌≤◌, Bool, true, false, cond, List, [], ◌∷◌, ◌++◌, length, map, take, get_or, refl, sym, ◌∙◌, ap, subst, arith}
-use Rattle.std.specs.Prelude.{slice_get, Option, Some, None, IfSome}
+use Rattle.std.specs.Prelude.{slice_get, Option, Some, None, IfSome, if◌then◌else◌}
 use Rattle.std.specs.Cmp.Lexicographic.{bytes_decides}
 use Rattle.std.proofs.lemmas.List.Elements.{filter-append}
 use Rattle.std.proofs.lemmas.List.{map-append, length-map, append-nil, length-append}
@@ -9,7 +9,8 @@ use Rattle.std.proofs.Math.Seq.{take_all}
 use Rattle.std.specs.Option.{option_map}
 use Rattle.pres_wire.specs.Ids.{ClientId, same_client}
 use Rattle.pres_retry.specs.declared.table.Record.{Record}
-use Rattle.pres_retry.specs.Tables.{records_of, rows_of, AreNumbered}
+use Rattle.pres_retry.specs.declared.table.Row.{Row}
+use Rattle.pres_retry.specs.Tables.{recorded, records_of, rows_of, AreNumbered}
 use Rattle.pres_retry.proofs.Places.{place, one_more, each_more}
 
 -- a record of the client has the number after its records before it
@@ -78,6 +79,19 @@ pub others_rows : (table new : List Record) (r : Record) → new ≡ table ++ r 
     → (other : ClientId) → other ≢ r.client → rows_of other new ≡ rows_of other table
 others_rows table new r more other differs =
     ap (rows_of other) more ∙ ap (map (λ x. x.row)) (others_records table r other differs)
+
+map_one : (b : Bool) (r : Record) → map (λ x. x.row) (cond b (r ∷ []) []) ≡ (if b then r.row ∷ [] else [])
+map_one true r = refl
+map_one false r = refl
+
+-- one more record adds its row to those of its own client
+pub rows_of_recorded : (c client : ClientId) (n : ℕ) (row : Row) (table : List Record)
+    → rows_of c (recorded client n row table) ≡ rows_of c table ++ (if same_client client c then row ∷ [] else [])
+rows_of_recorded c client n row table =
+    let r : Record = record { client = client; number = n; row = row }
+    in ap (map (λ x. x.row)) (records_after table c r)
+    ∙ map-append (λ x. x.row) (records_of c table) (cond (same_client client c) (r ∷ []) [])
+    ∙ ap (λ rows. rows_of c table ++ rows) (map_one (same_client client c) r)
 
 -- the numbers stay in turn, with or without one more record of the client
 with_or_without : (table : List Record) (client : ClientId) (r : Record) (k : ℕ) (b : Bool) → AreNumbered table

@@ -3,7 +3,7 @@
 ghost use Rattle.std.specs.Prelude.{◌≡◌};
 ghost use Rattle.pres_retry.specs.Faults.{number_of};
 
-use std::alloc::AllocFailed;
+use std::alloc::{AllocError, AllocFailed};
 use thiserror::Error;
 
 /// Why an answer isn't kept.
@@ -22,6 +22,17 @@ impl RetryFault {
         match self {
             RetryFault::Memory => 1,
         }
+    }
+}
+
+impl From<AllocError> for RetryFault {
+    ghost use Rattle.std.specs.Prelude.{◌≡◌};
+    ghost use Rattle.pres_retry.specs.declared.fault.RetryFault.TheVariants.{Memory};
+
+    ghost from_gives = { λ _ e. e ≡ Memory };
+
+    fn from(_refused: AllocError) -> RetryFault {
+        RetryFault::Memory
     }
 }
 

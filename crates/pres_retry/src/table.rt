@@ -1,6 +1,6 @@
 //! The table of kept answers.
 
-ghost use Rattle.std.specs.Prelude.{◌≡◌, ◌≢◌, ◌+◌, ◌-◌, ◌++◌, ◌∷◌, [], length, slice_get, IfErr, OnOk};
+ghost use Rattle.std.specs.Prelude.{◌≡◌, ◌≢◌, ◌+◌, ◌-◌, ◌++◌, ◌∷◌, [], length, slice_get, IfErr, IfOk, OnOk};
 ghost use Rattle.std.specs.Option.{option_copied};
 ghost use Rattle.pres_wire.specs.Ids.{ClientId};
 ghost use Rattle.pres_retry.specs.Tables.{row, recorded, rows_of};
@@ -10,7 +10,7 @@ ghost use Rattle.pres_retry.specs.declared.fault.RetryFault.TheVariants.{Memory}
 use crate::fault::RetryFault;
 use pres_wire::{ClientId, Count, Number};
 use pres_write::Kept;
-use std::alloc::Global;
+use std::alloc::{AllocError, Global};
 use std::marker::Model;
 
 /// What is kept of an answered write.
@@ -20,6 +20,18 @@ pub struct Row {
     pub done: Number,
     /// What it came to.
     pub kept: Kept,
+}
+
+impl Row {
+    /// An equal row.
+    pub fn copy(&self, alloc: Global) -> Result<Row, AllocError>
+        ensures { IfOk result (λ made. made ≡ self.now) }
+    {
+        Ok(Row {
+            done: self.done,
+            kept: self.kept.copy(alloc)?,
+        })
+    }
 }
 
 /// What a write with a number is.
@@ -81,6 +93,20 @@ impl RetryTable {
             }
         }
         last
+    }
+
+    /// What is kept of the client's writes, in their order, copied.
+    pub fn rows(&self, alloc: Global, client: &ClientId) -> Result<Vec<Row>, RetryFault>
+        ensures rows { IfOk result (λ rows. rows.items ≡ rows_of client.now self.now) }
+        ensures err { IfErr result (λ e. e ≡ Memory) }
+    {
+        let mut rows = Vec::new(alloc);
+        for record in &self.records {
+            if record.client == *client {
+                rows.push(record.row.copy(alloc)?)?;
+            }
+        }
+        Ok(rows)
     }
 
     // What is kept of the client's write with the number.

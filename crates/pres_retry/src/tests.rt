@@ -82,3 +82,23 @@ fn clients_are_counted_apart(rt: HostRuntime) -> Result<(), Fail> {
     }
     Ok(())
 }
+
+// Where the client's answered writes were done, in their order.
+fn rows_done(table: &RetryTable, name: &str, rt: &HostRuntime) -> Result<Vec<u64>, Fail> {
+    let client = ClientId::parse(rt.alloc(), name)?;
+    let rows = table.rows(rt.alloc(), &client)?;
+    let mut done = Vec::new(rt.alloc());
+    for row in &rows {
+        done.push(row.done.get())?;
+    }
+    Ok(done)
+}
+
+#[test]
+fn rows_are_those_of_the_client_in_order(rt: HostRuntime) -> Result<(), Fail> {
+    let table = interleaved(&rt)?;
+    assert_eq!(rt; rows_done(&table, "alice", &rt)?.as_slice(), &[3, 6, 9][..]);
+    assert_eq!(rt; rows_done(&table, "bob", &rt)?.as_slice(), &[7, 8][..]);
+    assert!(rt; rows_done(&table, "carol", &rt)?.is_empty());
+    Ok(())
+}

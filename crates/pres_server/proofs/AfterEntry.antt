@@ -31,13 +31,13 @@ use Rattle.pres_server.proofs.Parts.{later_still, not_ended, open_of_same, open_
 
 -- ---- the order of clients
 
-clients_total : IsTotalOrder client_cmp
+pub clients_total : IsTotalOrder client_cmp
 clients_total = nat_list_cmp_total
 
-clients_apart : IsAntisymmetric client_cmp
+pub clients_apart : IsAntisymmetric client_cmp
 clients_apart = slice_cmp-IsAntisymmetric nat_cmp-IsAntisymmetric
 
-same_by_cmp : (k l : ClientId) → eq_by_cmp client_cmp k l ≡ same_client k l
+pub same_by_cmp : (k l : ClientId) → eq_by_cmp client_cmp k l ≡ same_client k l
 same_by_cmp k l = elim (same_client k l) as (λ b. same_client k l ≡ b → eq_by_cmp client_cmp k l ≡ b) [
   | true ↦ λ e. ap (λ x. eq_by_cmp client_cmp x l) (client_same k l e) ∙ ap is_eq (tied_itself clients_total l)
   | false ↦ λ e. elim (eq_by_cmp client_cmp k l) as (λ b. eq_by_cmp client_cmp k l ≡ b → b ≡ false) [

@@ -36,7 +36,7 @@ use Rattle.pres_server.proofs.Steps.{In, or_false, open_listed, in_open}
 use Rattle.pres_server.proofs.Parts.{only_open, ended_own, no_more}
 use Rattle.pres_server.proofs.AfterEntry.{sound_after, open_after}
 
-stamp_itself : (s : Stamp) → same_stamp s s ≡ true
+pub stamp_itself : (s : Stamp) → same_stamp s s ≡ true
 stamp_itself s = and_from _ _ (eq-eqb s.incarnation s.incarnation refl) (eq-eqb s.attempt s.attempt refl)
 
 -- a session is open where it is the one that its client's part has

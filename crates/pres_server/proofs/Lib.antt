@@ -4,5 +4,9 @@ pub mod Steps
 pub mod Parts
 pub mod AfterEntry
 pub mod Decide
+pub mod Checks
 pub mod Whole
 pub mod Samples
+pub mod Taken
+pub mod Heard
+pub mod Readers

@@ -28,6 +28,11 @@ abbrev pub is_live : Option LivePart → Stamp → Bool
 is_live None t = false
 is_live (Some l) t = same_stamp t l.stamp
 
+-- how many messages of the open session with the stamp were accepted
+abbrev pub count_in : Option LivePart → Stamp → Option ℕ
+count_in None t = None
+count_in (Some l) t = if same_stamp t l.stamp then Some l.count else None
+
 abbrev pub said_by : Option LivePart → SessionId → ℕ → Decision → Decision
 said_by None s q accepted = refused fault.Session
 said_by (Some l) s q accepted =

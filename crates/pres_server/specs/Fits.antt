@@ -1,7 +1,9 @@
 -- Entries that may come one after another, but for the limit on open sessions.
-use Rattle.std.specs.Prelude.{ℕ, ◌≡◌, IsTrue, List, [], ◌∷◌, ◌++◌}
+use Rattle.std.specs.Prelude.{ℕ, ◌≡◌, IsTrue, All, List, [], ◌∷◌, ◌++◌}
+use Rattle.pres_write.specs.Basics.{FitsThere}
 use Rattle.pres_log.specs.declared.entry.Entry.{Entry}
 use Rattle.pres_log.specs.declared.entry.Entry.TheVariants as entry
+use Rattle.pres_log.specs.Logs.{writes_of}
 use Rattle.pres_server.specs.Sessions.{is_newest, open_sessions_of}
 use Rattle.pres_server.specs.LegalLog.{MayCome}
 
@@ -13,3 +15,8 @@ Fits before moment e = MayCome before moment e
 abbrev pub AllFit : List Entry → ℕ → List Entry → Type 0
 AllFit es m [] = Unit {0}
 AllFit es m (e ∷ more) = Fits es m e × AllFit (es ++ e ∷ []) m more
+
+-- the values that each entry writes may stand at their paths
+abbrev pub WritesFit : List Entry → Type 0
+WritesFit [] = Unit {0}
+WritesFit (e ∷ later) = All FitsThere (writes_of e) × WritesFit later

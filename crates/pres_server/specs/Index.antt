@@ -15,11 +15,11 @@ use Rattle.pres_retry.specs.Tables.{row, rows_of, recorded}
 use Rattle.pres_retry.specs.Verdicts.{verdict, again}
 use Rattle.pres_log.specs.declared.entry.Entry.{Entry}
 use Rattle.pres_log.specs.declared.entry.Entry.TheVariants as entry
-use Rattle.pres_log.specs.Logs.{tree, writes}
+use Rattle.pres_log.specs.Logs.{tree}
 use Rattle.pres_server.specs.declared.index.Index.{Index}
 use Rattle.pres_server.specs.Sessions.{session_of, open_sessions}
 use Rattle.pres_server.specs.Heard.{Heard, heard_last}
-use Rattle.pres_server.specs.Fits.{AllFit}
+use Rattle.pres_server.specs.Fits.{AllFit, WritesFit}
 use Rattle.pres_server.specs.Parts.{Part, part_of, open_step, Sound}
 use Rattle.pres_server.specs.Slots.{Place, session_at, last_at, moment_at, live_part, place_after, HasRoom, MayOpen}
 
@@ -75,5 +75,5 @@ pub record Fitting (es : List Entry) (z moment : ℕ) (more : List Entry) (index
   pub sound : Sound es
   pub next : z ≡ length es + 1
   pub fits : AllFit es moment more
-  pub writes : All FitsThere (writes more)
-  pub room : length es + length more < 2 ^ 53
+  pub writes : WritesFit more
+  pub room : length es + length more < 2 ^ 52

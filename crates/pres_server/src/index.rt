@@ -1,17 +1,19 @@
 //! What the log says of each client and of the tree, kept as the log grows.
 
 ghost use Rattle.std.specs.Prelude.{◌≡◌, ◌+◌, ◌<◌, ◌++◌, ◌∷◌, [], ◌^◌, ℕ, All, List, Option, length, IfOk, option_map};
-ghost use Rattle.pres_tree.specs.Rows.{Rows};
+ghost use Rattle.std.specs.BTreeMap.{IsOrdered};
 ghost use Rattle.pres_write.specs.Basics.{FitsThere, applied};
 ghost use Rattle.pres_write.specs.Outcomes.{kept_of, writes_in};
 ghost use Rattle.pres_write.specs.declared.op.Op.{Op};
 ghost use Rattle.pres_retry.specs.Tables.{row, rows_of, recorded};
-ghost use Rattle.pres_wire.specs.Ids.{ClientId};
+ghost use Rattle.pres_wire.specs.Ids.{ClientId, client_cmp, stamp_of};
 ghost use Rattle.pres_log.specs.declared.entry.Entry.TheVariants as entry;
 ghost use Rattle.pres_server.specs.Answers.{answers};
 ghost use Rattle.pres_server.specs.Heard.{Heard, heard_after_all};
-ghost use Rattle.pres_server.specs.Index.{Indexed, Steps, Takes, Tells, Fitting, part_at};
+ghost use Rattle.pres_server.specs.Index.{Indexed, Steps, Takes, Tells, Fitting, part_at, place_at};
+ghost use Rattle.pres_server.specs.Decide.{count_in};
 ghost use Rattle.pres_server.specs.Parts.{answer_by};
+ghost use Rattle.pres_server.specs.Slots.{moment_at};
 ghost use Rattle.pres_server.specs.Sessions.{session_of};
 
 use crate::places;
@@ -20,7 +22,7 @@ use pres_log::Entry;
 use pres_retry::{RetryTable, Verdict};
 use pres_session::{NoPlan, Slot};
 use pres_tree::Tree;
-use pres_wire::{ClientId, Down, Number, SessionId, Why};
+use pres_wire::{ClientId, Count, Down, Number, SessionId, Why};
 use pres_write::{Basic, Moment, Outcome, apply};
 use std::alloc::Global;
 use std::collections::BTreeMap;
@@ -58,7 +60,9 @@ fn writes(outcome: &Outcome) -> &[Basic]
 impl Index {
     /// The index of the log without batches.
     pub(crate) fn new(alloc: Global) -> Index
-        ensures { Indexed [] result }
+        ensures indexed { Indexed [] result }
+        ensures no_places { result.places.entries ≡ [] }
+        ensures ordered { IsOrdered client_cmp result.places }
     {
         Index {
             places: BTreeMap::new(alloc),
@@ -66,6 +70,25 @@ impl Index {
             open_count: 0,
             tree: Tree::empty(),
         }
+    }
+
+    /// How many messages of the session were accepted, where it is its client's open one.
+    pub(crate) fn count(&self, session: &SessionId) -> Option<Count>
+        ensures { result ≡ count_in (part_at self.now session.now.client).live (stamp_of session.now) }
+    {
+        let live = places::session(&self.places, &session.client)?;
+        if session.stamp() != live.stamp() {
+            return None;
+        }
+        Some(live.count())
+    }
+
+    /// When the client was heard of last, where a session of it is open.
+    pub(crate) fn heard(&self, client: &ClientId) -> Option<Moment>
+        ensures { result ≡ moment_at (place_at self.now client.now) }
+    {
+        let live = places::session(&self.places, client)?;
+        Some(live.heard())
     }
 
     // Takes in that the session was opened, and answers it.
@@ -235,9 +258,6 @@ pub(crate) fn take_all(
         return Ok(());
     };
     outs.push(index.take(alloc, first, made)?)?;
-    if rest.is_empty() {
-        return Ok(());
-    }
     let Some(number) = made.number.next() else {
         unreachable!()
     };

@@ -115,6 +115,18 @@ impl Server {
         &self.log
     }
 
+    /// What became of the client's writes, in their order. Busy, for want of memory, is the one
+    /// refusal.
+    pub fn history_of(&self, client: &ClientId) -> Result<Vec<Row>, Fault>
+        ensures rows { IfOk result (λ rows. rows.items ≡ rows_for client.now (entries self.now.log)) }
+        ensures busy { IfErr result (λ e. e ≡ OutOfMemory) }
+    {
+        let Ok(rows) = self.index.retry.rows(self.alloc, client) else {
+            return Err(Fault::Busy);
+        };
+        Ok(rows)
+    }
+
     /// Whether the session is open.
     pub fn is_open(&self, session: &SessionId) -> bool
         ensures { result ≡ is_open session.now (entries self.now.log) }
@@ -126,10 +138,7 @@ impl Server {
     pub fn count(&self, session: &SessionId) -> Option<Count>
         ensures { result ≡ (if is_open session.now (entries self.now.log) then Some (count session.now (entries self.now.log)) else None) }
     {
-        if !self.index.is_live(session) {
-            return None;
-        }
-        Some(places::session(&self.index.places, &session.client)?.count())
+        self.index.count(session)
     }
 
     /// When the client was heard of last, none where no session of it is open.
@@ -137,7 +146,7 @@ impl Server {
         ensures heard { result ≡ heard_last self.now.heard client.now }
         ensures open { is_some result ≡ has_open client.now (entries self.now.log) }
     {
-        Some(places::session(&self.index.places, client)?.heard())
+        self.index.heard(client)
     }
 
     /// What the input does, at the later of the given moment and the log's greatest one. Nothing is

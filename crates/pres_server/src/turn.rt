@@ -118,7 +118,15 @@ impl Index {
     {
         limits(number + 1, self.open_count.saturating_sub(1))?;
         let rows = Items::of(Vec::new(alloc));
-        Ok(Items::one(alloc, Entry::Ended { session, q, why, rows })?)
+        Ok(Items::one(
+            alloc,
+            Entry::Ended {
+                session,
+                q,
+                why,
+                rows,
+            },
+        )?)
     }
 
     // The opening of a session, after the end of the client's open one, which has the stamp.
@@ -188,7 +196,54 @@ impl Index {
         let Ok(outcome) = op.resolve(alloc, &self.tree, now.moment) else {
             return Err(Fault::Busy);
         };
-        Ok(Items::one(alloc, Entry::Op { session, q, n, op, outcome })?)
+        Ok(Items::one(
+            alloc,
+            Entry::Op {
+                session,
+                q,
+                n,
+                op,
+                outcome,
+            },
+        )?)
+    }
+
+    // What an operation asks for.
+    fn op_message(
+        &self,
+        alloc: Global,
+        session: SessionId,
+        q: Number,
+        n: Number,
+        op: Op,
+        now: Now,
+    ) -> Result<Step, Fault>
+        requires number { now.number < 2 ^ 53 }
+        requires open_count { self.now.open_count < 2 ^ 53 }
+        ensures { Decides (Some session) (limited_by now.number self.now.open_count (said_by (part_at self.now session.client).live session q (op_by (verdict n (part_at self.now session.client).rows) self.now.tree now.moment session q n op))) result }
+    {
+        if !self.is_next(&session, q)? {
+            return Ok(Step::Quiet(Some(session)));
+        }
+        Ok(Step::Makes(self.operation(alloc, session, q, n, op, now)?))
+    }
+
+    // What a Bye asks for.
+    fn bye_message(
+        &self,
+        alloc: Global,
+        session: SessionId,
+        q: Number,
+        number: u64,
+    ) -> Result<Step, Fault>
+        requires number { number < 2 ^ 53 }
+        requires open_count { self.now.open_count < 2 ^ 53 }
+        ensures { Decides (Some session) (limited_by number self.now.open_count (said_by (part_at self.now session.client).live session q (makes (entry.Ended session (Some q) why.Bye [] ∷ [])))) result }
+    {
+        if !self.is_next(&session, q)? {
+            return Ok(Step::Quiet(Some(session)));
+        }
+        Ok(Step::Makes(self.ending(alloc, session, Some(q), Why::Bye, number)?))
     }
 
     // What a message asks for.
@@ -199,18 +254,8 @@ impl Index {
     {
         match up {
             Up::Hello { session } => Ok(Step::Makes(self.hello(alloc, session, now.number)?)),
-            Up::Op { session, q, n, op } => {
-                if !self.is_next(&session, q)? {
-                    return Ok(Step::Quiet(Some(session)));
-                }
-                Ok(Step::Makes(self.operation(alloc, session, q, n, op, now)?))
-            }
-            Up::Bye { session, q } => {
-                if !self.is_next(&session, q)? {
-                    return Ok(Step::Quiet(Some(session)));
-                }
-                Ok(Step::Makes(self.ending(alloc, session, Some(q), Why::Bye, now.number)?))
-            }
+            Up::Op { session, q, n, op } => self.op_message(alloc, session, q, n, op, now),
+            Up::Bye { session, q } => self.bye_message(alloc, session, q, now.number),
         }
     }
 

@@ -1,0 +1,18 @@
+-- What a check refuses stays refused.
+use Rattle.std.proofs.Common.{◌≡◌, ℕ, sym, subst, Ok, Err, Option, Result}
+use Rattle.std.proofs.lemmas.Bool.{false≢true}
+use Rattle.std.specs.Result.{IsErr, IsErrAnd}
+use Rattle.pres_wire.specs.declared.id.SessionId.{SessionId}
+use Rattle.pres_log.specs.declared.fault.Fault.{Fault}
+use Rattle.pres_server.specs.declared.turn.Step.{Step}
+use Rattle.pres_server.specs.Messages.{Decision}
+use Rattle.pres_server.specs.Decide.{limited_by}
+use Rattle.pres_server.specs.Calls.{IsRefusal, Decides}
+
+-- a result that gives the refusal of a call on
+pub refused_by : (from : Option SessionId) (d : Decision) (r : Result Step Fault) (f : Fault) → IsErr r × IsErrAnd r (λ x. x ≡ f) → IsRefusal d f → Decides from d r
+refused_by from d (Ok s) f h q = absurd (false≢true h.0)
+refused_by from d (Err x) f h q = subst (IsRefusal d) (sym h.1) q
+
+pub refused_as : (n o : ℕ) (d e : Decision) (f : Fault) → d ≡ e → IsRefusal (limited_by n o e) f → IsRefusal (limited_by n o d) f
+refused_as n o d e f same h = subst (λ x. IsRefusal (limited_by n o x) f) (sym same) h

@@ -1,0 +1,200 @@
+-- What the index says after one entry more.
+use Rattle.std.proofs.Common.{refl, sym, ◌∙◌, ap, subst, ◌≡◌, ◌≢◌, ℕ, ◌+◌, ◌-◌, ◌^◌, ◌<◌, ◌≤◌, suc, List, [], ◌∷◌, ◌++◌, length, map, Bool, true, false, not, cond, append-nil, append_assoc, true≢false, arith, length-append, Option, Some, None, is_some, All, slice_get, ◌==◌, unwrap_or}
+use Rattle.std.specs.Option.{option_map}
+use Rattle.std.specs.BTreeMap.{get, Updates}
+use Rattle.std.specs.FinMap.Entries.{find, put, where_key, find-put, find-where_key}
+use Rattle.std.proofs.lemmas.Bool.Decides.{nat_tests}
+use Rattle.pres_write.specs.declared.basic.Basic.{Basic}
+use Rattle.pres_write.specs.Basics.{FitsThere, applied}
+use Rattle.pres_write.specs.Outcomes.{kept_of, writes_in}
+use Rattle.pres_wire.specs.declared.id.Stamp.{Stamp}
+use Rattle.pres_wire.specs.declared.id.SessionId.{SessionId}
+use Rattle.pres_wire.specs.Ids.{ClientId, client_cmp, same_client, stamp_of}
+use Rattle.pres_wire.specs.Numbers.{greatest_number}
+use Rattle.pres_session.specs.declared.slot.Slot.TheVariants.{Never, Gone, Live}
+use Rattle.pres_retry.specs.declared.table.Record.{Record}
+use Rattle.pres_retry.specs.declared.table.Row.{Row}
+use Rattle.pres_retry.specs.Tables.{row, rows_of, recorded}
+use Rattle.pres_retry.specs.Verdicts.{verdict, told_row, again, fresh}
+use Rattle.pres_retry.proofs.Records.{rows_of_recorded}
+use Rattle.pres_log.specs.declared.entry.Entry.{Entry}
+use Rattle.pres_log.specs.declared.entry.Entry.TheVariants as entry
+use Rattle.pres_log.specs.Logs.{tree, writes, writes_of}
+use Rattle.pres_log.proofs.Entries.{tree-append}
+use Rattle.pres_server.specs.declared.index.Index.{Index}
+use Rattle.pres_server.specs.Sessions.{session_of, is_open, open_sessions, open_sessions_of, count, last_of, is_newest}
+use Rattle.pres_server.specs.Streams.{stream}
+use Rattle.pres_server.specs.Outcomes.{rows_for, ops}
+use Rattle.pres_server.specs.Answers.{answers_to}
+use Rattle.pres_server.specs.Heard.{Heard, heard_last, heard_since, heard_again, heard_after, heard_after_all}
+use Rattle.pres_server.specs.Parts.{Part, LivePart, Sound, part_of, part_step, live_in, answer_by, open_step, comes_after, one_more}
+use Rattle.pres_server.specs.Fits.{Fits, AllFit, WritesFit}
+use Rattle.pres_server.specs.Slots.{Place, Session, session_at, last_at, moment_at, live_part, place_after, HasRoom, MayOpen}
+use Rattle.pres_server.specs.Index.{place_at, part_at, retry_after, tree_after_entry, Steps, Takes, Tells, Indexed, Fitting}
+use Rattle.pres_server.proofs.Since.{client_same, client_itself, client_sym}
+use Rattle.pres_server.proofs.Parts.{part_after, only_open, row_there}
+use Rattle.pres_server.proofs.AfterEntry.{sound_after, open_after, answers_are, clients_total, clients_apart, same_by_cmp}
+use Rattle.pres_server.proofs.Whole.{count_small, stream_small, open_small}
+
+-- ---- what a client's part says of its place
+
+-- an open session has a number left each way
+room_by : (place : Option Place) (l : LivePart) → option_map live_part (session_at place) ≡ Some l → l.count < greatest_number → l.sent < greatest_number → HasRoom place
+room_by None l k a b = absurd (cc)
+room_by (Some Never) l k a b = absurd (cc)
+room_by (Some (Gone last)) l k a b = absurd (cc)
+room_by (Some (Live session)) l k a b =
+    let c : session.count ≡ l.count = ap (λ (o : Option LivePart). (unwrap_or o l).count) k in
+    let e : session.emitted ≡ l.sent = ap (λ (o : Option LivePart). (unwrap_or o l).sent) k in
+    (omega arith, omega arith)
+
+room_there : (es : List Entry) (s : SessionId) (index : Index) → Indexed es index → Sound es → is_open s es ≡ true → length es + 1 < 2 ^ 53 → HasRoom (place_at index s.client)
+room_there es s index ix sound o small =
+    let c = count_small s es in
+    let e = stream_small s es in
+    room_by (place_at index s.client) (record { stamp = stamp_of s; count = count s es; sent = length (stream s es) })
+    (ap (λ (p : Part). p.live) (ix.parts s.client) ∙ ap (λ xs. live_in xs es) (only_open s es sound o)) (omega arith) (omega arith)
+
+may_open : (place : Option Place) (stamp : Stamp) → option_map live_part (session_at place) ≡ None → comes_after (last_at place) stamp ≡ true → MayOpen place stamp
+may_open None stamp l k = k
+may_open (Some Never) stamp l k = k
+may_open (Some (Gone last)) stamp l k = k
+may_open (Some (Live session)) stamp l k = absurd (cc)
+
+not_next : (n k : ℕ) → n ≤ k → (n == k + 1) ≡ false
+not_next n k h = grind (arith, nat_tests)
+
+is_again : (n : ℕ) (rows : List Row) (kept : Row) → n ≤ length rows → slice_get rows (n - 1) ≡ Some kept → verdict n rows ≡ again kept
+is_again n rows kept low k = ap (λ b. cond b fresh (told_row (slice_get rows (n - 1)))) (not_next n (length rows) low) ∙ ap told_row k
+
+-- an entry that fits behind the log may be taken in
+pub takes : (es : List Entry) (m : ℕ) (e : Entry) (index : Index) → Indexed es index → Sound es → Fits es m e → All FitsThere (writes_of e) → length es + 1 < 2 ^ 53 → Takes index e
+takes es m (entry.Open s) index ix sound f w small =
+    let k = open_small es in
+    let c = ix.open_count in
+    (may_open (place_at index s.client) (stamp_of s) (ap (λ (p : Part). p.live) (ix.parts s.client) ∙ ap (λ xs. live_in xs es) f.1)
+    (ap (λ (p : Part). comes_after p.last (stamp_of s)) (ix.parts s.client) ∙ sym (sound.newest s) ∙ f.0), omega arith)
+takes es m (entry.Op s q n op outcome) index ix sound f w small =
+    (room_there es s index ix sound f.0.0 small, f.1 ∙ ap (λ (p : Part). length p.rows + 1) (sym (ix.parts s.client)), w)
+takes es m (entry.Again s q n) index ix sound f w small =
+    let r = row_there es s.client n f.1 f.2 in
+    let k : slice_get (rows_of s.client index.retry) (n - 1) ≡ Some r.0 = ap (λ (p : Part). slice_get p.rows (n - 1)) (ix.parts s.client) ∙ r.1 in
+    (room_there es s index ix sound f.0.0 small, r.0, is_again n (rows_of s.client index.retry) r.0 (subst (λ (p : Part). n ≤ length p.rows) (sym (ix.parts s.client)) f.2) k, k)
+takes es m (entry.Ended s q why rows) index ix sound f w small = (room_there es s index ix sound f.0 small, f.2)
+
+-- ---- the parts after the entry
+
+abbrev rows_after : ℕ → Entry → List Row → List Row
+rows_after z (entry.Op s q n op outcome) rows = rows ++ row z (kept_of outcome) ∷ []
+rows_after z _ rows = rows
+
+abbrev part_in : Option Place → List Row → Part
+part_in place rows = record { last = last_at place; rows = rows; live = option_map live_part (session_at place) }
+
+step_is : (z m : ℕ) (e : Entry) (place : Option Place) (rows : List Row) → part_in (place_after m e place) (rows_after z e rows) ≡ part_step z e (part_in place rows)
+step_is z m (entry.Open s) place rows = refl
+step_is z m (entry.Op s q n op outcome) None rows = refl
+step_is z m (entry.Op s q n op outcome) (Some Never) rows = refl
+step_is z m (entry.Op s q n op outcome) (Some (Gone last)) rows = refl
+step_is z m (entry.Op s q n op outcome) (Some (Live session)) rows = refl
+step_is z m (entry.Again s q n) None rows = refl
+step_is z m (entry.Again s q n) (Some Never) rows = refl
+step_is z m (entry.Again s q n) (Some (Gone last)) rows = refl
+step_is z m (entry.Again s q n) (Some (Live session)) rows = refl
+step_is z m (entry.Ended s q why due) None rows = refl
+step_is z m (entry.Ended s q why due) (Some Never) rows = refl
+step_is z m (entry.Ended s q why due) (Some (Gone last)) rows = refl
+step_is z m (entry.Ended s q why due) (Some (Live session)) rows = refl
+
+rows_own : (z : ℕ) (e : Entry) (table : List Record) → rows_of (session_of e).client (retry_after z e table) ≡ rows_after z e (rows_of (session_of e).client table)
+rows_own z (entry.Open s) table = refl
+rows_own z (entry.Op s q n op outcome) table =
+    rows_of_recorded s.client s.client n (row z (kept_of outcome)) table
+    ∙ ap (λ b. rows_of s.client table ++ cond b (row z (kept_of outcome) ∷ []) []) (client_itself s.client)
+rows_own z (entry.Again s q n) table = refl
+rows_own z (entry.Ended s q why due) table = refl
+
+rows_other : (z : ℕ) (e : Entry) (c : ClientId) (table : List Record) → same_client (session_of e).client c ≡ false → rows_of c (retry_after z e table) ≡ rows_of c table
+rows_other z (entry.Open s) c table h = refl
+rows_other z (entry.Op s q n op outcome) c table h =
+    rows_of_recorded c s.client n (row z (kept_of outcome)) table
+    ∙ ap (λ b. rows_of c table ++ cond b (row z (kept_of outcome) ∷ []) []) h
+    ∙ append-nil (rows_of c table)
+rows_other z (entry.Again s q n) c table h = refl
+rows_other z (entry.Ended s q why due) c table h = refl
+
+pub place_new : (z m : ℕ) (old new : Index) (e : Entry) → Steps z m old new e → (c : ClientId) (b : Bool) → same_client (session_of e).client c ≡ b
+    → place_at new c ≡ cond b (place_after m e (place_at old (session_of e).client)) (place_at old c)
+place_new z m old new e st c b h =
+    st.places.0 c ∙ ap (λ t. cond t (place_after m e (place_at old (session_of e).client)) (place_at old c)) (same_by_cmp (session_of e).client c ∙ h)
+
+part_own : (z m : ℕ) (old new : Index) (e : Entry) → Steps z m old new e → part_at new (session_of e).client ≡ part_step z e (part_at old (session_of e).client)
+part_own z m old new e st =
+    let c = (session_of e).client in
+    (λ i. part_in (place_new z m old new e st c true (client_itself c) i) ((ap (rows_of c) st.retry ∙ rows_own z e old.retry) i))
+    ∙ step_is z m e (place_at old c) (rows_of c old.retry)
+
+part_kept : (z m : ℕ) (old new : Index) (e : Entry) → Steps z m old new e → (c : ClientId) → same_client (session_of e).client c ≡ false → part_at new c ≡ part_at old c
+part_kept z m old new e st c h = λ i. part_in (place_new z m old new e st c false h i) ((ap (rows_of c) st.retry ∙ rows_other z e c old.retry h) i)
+
+nothing : (es : List Entry) → applied (tree es) [] ≡ tree es
+nothing es = sym (tree-append es []) ∙ ap tree (append-nil es)
+
+tree_step : (es : List Entry) (e : Entry) → tree (es ++ e ∷ []) ≡ tree_after_entry e (tree es)
+tree_step es (entry.Open s) = tree-append es (entry.Open s ∷ []) ∙ nothing es
+tree_step es (entry.Op s q n op outcome) = tree-append es (entry.Op s q n op outcome ∷ []) ∙ ap (applied (tree es)) (append-nil (writes_in outcome))
+tree_step es (entry.Again s q n) = tree-append es (entry.Again s q n ∷ []) ∙ nothing es
+tree_step es (entry.Ended s q why due) = tree-append es (entry.Ended s q why due ∷ []) ∙ ap (applied (tree es)) (append-nil due)
+
+-- the index says what the entries say, with one more
+pub indexed_after : (es : List Entry) (m : ℕ) (old new : Index) (e : Entry) → Indexed es old → Sound es → Fits es m e → Steps (length es + 1) m old new e → Indexed (es ++ e ∷ []) new
+indexed_after es m old new e ix sound f st = record { parts = parts; open_count = opens; tree = the_tree } where
+  z : ℕ
+  z = length es + 1
+  k : ClientId
+  k = (session_of e).client
+
+  parts : (c : ClientId) → part_at new c ≡ part_of c (es ++ e ∷ [])
+  parts c = by (same_client k c) refl ∙ sym (part_after es m e sound f c) where
+    by : (b : Bool) → same_client k c ≡ b → part_at new c ≡ cond b (part_step z e (part_of c es)) (part_of c es)
+    by true h = subst (λ x. part_at new x ≡ part_step z e (part_at old x)) (client_same k c h) (part_own z m old new e st) ∙ ap (part_step z e) (ix.parts c)
+    by false h = part_kept z m old new e st c h ∙ ix.parts c
+
+  opens : new.open_count ≡ length (open_sessions (es ++ e ∷ []))
+  opens = st.open_count ∙ ap (open_step e) ix.open_count ∙ sym (open_after es m e sound f)
+
+  the_tree : new.tree ≡ tree (es ++ e ∷ [])
+  the_tree = st.tree ∙ ap (tree_after_entry e) ix.tree ∙ sym (tree_step es e)
+
+-- ---- several entries
+
+pub first_taken : (es : List Entry) (z m : ℕ) (xs : List Entry) (e : Entry) (more : List Entry) (index : Index) → xs ≡ e ∷ more → Fitting es z m xs index → Takes index e
+first_taken es z m xs e more index k f =
+    let fits = subst (AllFit es m) k f.fits in
+    let w = subst WritesFit k f.writes in
+    let small = f.room in
+    let n = ap length k in
+    takes es m e index f.indexed f.sound fits.0 w.0 (omega arith)
+
+pub rest_fits : (es : List Entry) (z m : ℕ) (xs : List Entry) (e : Entry) (more : List Entry) (old new : Index) → xs ≡ e ∷ more → Fitting es z m xs old → Steps z m old new e → Fitting (es ++ e ∷ []) (z + 1) m more new
+rest_fits es z m xs e more old new k f st =
+    let fits = subst (AllFit es m) k f.fits in
+    let w = subst WritesFit k f.writes in
+    let n = length-append es (e ∷ []) in
+    let l = ap length k in
+    let small = f.room in
+    let next = f.next in
+    record {
+      indexed = indexed_after es m old new e f.indexed f.sound fits.0 (subst (λ y. Steps y m old new e) f.next st);
+      sound = sound_after es m e f.sound fits.0;
+      next = omega arith;
+      fits = fits.1;
+      writes = w.1;
+      room = omega arith
+    }
+
+pub first_answered : (es : List Entry) (z m : ℕ) (xs : List Entry) (e : Entry) (more : List Entry) (index : Index) → xs ≡ e ∷ more → Fitting es z m xs index → answers_to es e ≡ answer_by z e (part_at index (session_of e).client)
+first_answered es z m xs e more index k f =
+    let fits = subst (AllFit es m) k f.fits in
+    answers_are es m e f.sound fits.0
+    ∙ (λ i. answer_by (sym f.next i) e (sym (f.indexed.parts (session_of e).client) i))
