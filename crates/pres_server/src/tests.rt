@@ -214,6 +214,24 @@ fn standing(alloc: Global, server: &Server) -> Result<(bool, Option<u64>), Fail>
     ))
 }
 
+// The numbers at which the client's writes were done.
+fn history(alloc: Global, server: &Server, client: &str) -> Result<Vec<u64>, Fail> {
+    let mut numbers = Vec::new(alloc);
+    for row in &server.history_of(&ClientId::parse(alloc, client)?)? {
+        numbers.push(row.done.get())?;
+    }
+    Ok(numbers)
+}
+
+// The moments of the log's batches.
+fn moments(alloc: Global, log: &Log) -> Result<Vec<u64>, AllocError> {
+    let mut moments = Vec::new(alloc);
+    for batch in log.batches() {
+        moments.push(batch.moment.millis())?;
+    }
+    Ok(moments)
+}
+
 #[test]
 fn a_superseded_session(rt: HostRuntime) -> Result<(), Fail> {
     let server = run(
@@ -281,6 +299,8 @@ fn a_lost_reply_and_the_write_sent_again(rt: HostRuntime) -> Result<(), Fail> {
             ],
         )?
     );
+    let history = history(rt.alloc(), &server, "alice")?;
+    assert_eq!(rt; history.as_slice(), [2].as_slice());
     Ok(())
 }
 
@@ -504,12 +524,8 @@ fn moments_and_values(rt: HostRuntime) -> Result<(), Fail> {
     }
     assert_eq!(rt; value(rt.alloc(), &server, "/t")?.as_str(), "8");
     assert_eq!(rt; value(rt.alloc(), &server, "/a")?.as_str(), "null");
-    let moments = server
-        .log()
-        .batches()
-        .iter()
-        .map(|batch| batch.moment.millis());
-    assert!(rt; moments.eq([5, 7, 7, 8, 8, 8]));
+    let moments = moments(rt.alloc(), server.log())?;
+    assert_eq!(rt; moments.as_slice(), [5, 7, 7, 8, 8, 8].as_slice());
     Ok(())
 }
 
