@@ -8,6 +8,8 @@ pub mod laws;
 mod places;
 mod reopen;
 mod server;
+#[cfg(test)]
+mod tests;
 mod turn;
 
 pub use input::Input;
