@@ -215,7 +215,7 @@ impl Index {
         )?)
     }
 
-    // What an operation asks for.
+    // What an Op asks for.
     fn op_message(
         &self,
         alloc: Global,
