@@ -1,9 +1,9 @@
 -- When clients were heard of last: the list that is defined is the one that the places of the clients give.
-use Rattle.std.proofs.Common.{refl, sym, ◌∙◌, ap, subst, ◌≡◌, ℕ, max, List, [], ◌∷◌, Bool, true, false, not, cond, ◌&&◌, Option, Some, None, T}
+use Rattle.std.proofs.Common.{refl, sym, ◌∙◌, ap, subst, ◌≡◌, ℕ, max, List, [], ◌∷◌, Bool, true, false, not, cond, ◌&&◌, Option, Some, None, T, IsSome, is_some}
 use Rattle.std.specs.List.{filter_map, cons_option, AllByRecursion}
 use Rattle.std.specs.Option.{option_map}
 use Rattle.std.specs.Map.{lookup, keys_of}
-use Rattle.std.specs.BTreeMap.{is_at, IsOrdered}
+use Rattle.std.specs.BTreeMap.{is_at, IsOrdered, Updates}
 use Rattle.std.specs.List.Sorted.{IsStrictlySortedBy}
 use Rattle.std.specs.Ordering.{is_lt, is_eq}
 use Rattle.std.specs.declared.cmp.Ordering.TheVariants.{Less}
@@ -12,16 +12,18 @@ use Rattle.std.proofs.lemmas.Map.Keys.{sorted_head, sorted_tail}
 use Rattle.pres_wire.specs.declared.id.SessionId.{SessionId}
 use Rattle.pres_wire.specs.Ids.{ClientId, client_cmp, same_client}
 use Rattle.pres_session.specs.declared.slot.Slot.TheVariants.{Never, Gone, Live}
+use Rattle.pres_retry.specs.declared.table.Row.{Row}
+use Rattle.pres_retry.specs.Tables.{rows_of}
 use Rattle.pres_log.specs.declared.entry.Entry.{Entry}
 use Rattle.pres_log.specs.declared.entry.Entry.TheVariants as entry
 use Rattle.pres_server.specs.declared.index.Index.{Index}
 use Rattle.pres_server.specs.Sessions.{session_of}
 use Rattle.pres_server.specs.Heard.{Heard, heard_last, heard_since, heard_again, heard_after, heard_after_all, heard_of}
 use Rattle.pres_server.specs.Slots.{Place, moment_at, place_after, answered_at, ended_at, heard_at}
-use Rattle.pres_server.specs.Index.{place_at, heard_in, Steps, Tells}
+use Rattle.pres_server.specs.Index.{place_at, part_at, heard_in, Steps, Tells, Hears, Indexed}
 use Rattle.pres_server.proofs.Since.{client_same, client_itself, client_sym}
 use Rattle.pres_server.proofs.AfterEntry.{clients_total, clients_apart, same_by_cmp}
-use Rattle.pres_server.proofs.Taken.{place_new}
+use Rattle.pres_server.proofs.Taken.{place_new, part_in}
 
 -- ---- the list, client by client
 
@@ -170,3 +172,44 @@ heard_sorted index o = listed_is_sorted index.places.entries o
 pub heard_is : (heard : Heard) (index : Index) → T (is_sorted client_cmp heard) → IsOrdered client_cmp index.places → Tells heard index → heard_in index ≡ heard
 heard_is heard index s o t =
     same_entries client_cmp clients_total clients_apart (heard_in index) heard (heard_sorted index o) s (λ c. heard_tells index o c ∙ sym (t c))
+
+-- ---- a client that was heard of
+
+part_heard : (m : ℕ) (place : Option Place) (rows : List Row) → part_in (heard_at m place) rows ≡ part_in place rows
+part_heard m None rows = refl
+part_heard m (Some Never) rows = refl
+part_heard m (Some (Gone last)) rows = refl
+part_heard m (Some (Live session)) rows = refl
+
+some_of : (o : Option Place) (x : Place) → o ≡ Some x → IsSome o
+some_of o x h = ap is_some h
+
+-- what a map says at the client, and at each other one
+pub hears : (k : ClientId) (m : ℕ) (old new : Index) → (IsSome (place_at old k) → Updates client_cmp old.places new.places k (heard_at m (place_at old k)))
+    → (place_at old k ≡ None → new.places.entries ≡ old.places.entries) → new.retry ≡ old.retry → new.open_count ≡ old.open_count → new.tree ≡ old.tree → Hears k m old new
+hears k m old new known stranger r o t = record { places = λ c. by (place_at old k) refl c (same_client k c) refl; retry = r; open_count = o; tree = t } where
+  by : (p : Option Place) → place_at old k ≡ p → (c : ClientId) (b : Bool) → same_client k c ≡ b → place_at new c ≡ cond b (heard_at m (place_at old k)) (place_at old c)
+  by None h c true s = ap (λ es. lookup (is_at (client_cmp c)) es) (stranger h) ∙ sym (ap (place_at old) (client_same k c s)) ∙ h ∙ sym (ap (heard_at m) h)
+  by None h c false s = ap (λ es. lookup (is_at (client_cmp c)) es) (stranger h)
+  by (Some x) h c b s = (known (some_of (place_at old k) x h)).0 c ∙ ap (λ t. cond t (heard_at m (place_at old k)) (place_at old c)) (same_by_cmp k c ∙ s)
+
+pub hear_parts : (k : ClientId) (m : ℕ) (old new : Index) → Hears k m old new → (c : ClientId) → part_at new c ≡ part_at old c
+hear_parts k m old new h c = by (same_client k c) refl where
+  by : (b : Bool) → same_client k c ≡ b → part_at new c ≡ part_at old c
+  by true s = subst (λ x. part_at new x ≡ part_at old x) (client_same k c s)
+      ((λ i. part_in ((h.places k ∙ ap (λ b. cond b (heard_at m (place_at old k)) (place_at old k)) (client_itself k)) i) (rows_of k (h.retry i))) ∙ part_heard m (place_at old k) (rows_of k old.retry))
+  by false s = λ i. part_in ((h.places c ∙ ap (λ b. cond b (heard_at m (place_at old k)) (place_at old c)) s) i) (rows_of c (h.retry i))
+
+pub hear_tells : (k : ClientId) (m : ℕ) (old new : Index) (heard : Heard) → Hears k m old new → Tells heard old → Tells (heard_again k m heard) new
+hear_tells k m old new heard h t = λ c. by c (same_client k c) refl where
+  by : (c : ClientId) (b : Bool) → same_client k c ≡ b → heard_last (heard_again k m heard) c ≡ moment_at (place_at new c)
+  by c true s = subst (λ x. heard_last (heard_again k m heard) x ≡ moment_at (place_at new x)) (client_same k c s)
+      (again_own k m heard (moment_at (place_at old k)) (t k) ∙ sym (moment_heard m (place_at old k))
+      ∙ sym (ap moment_at (h.places k ∙ ap (λ b. cond b (heard_at m (place_at old k)) (place_at old k)) (client_itself k))))
+  by c false s = again_other c k m heard s ∙ t c ∙ sym (ap moment_at (h.places c ∙ ap (λ b. cond b (heard_at m (place_at old k)) (place_at old c)) s))
+
+pub hear_is : (k : ClientId) (m : ℕ) (old new : Index) → Hears k m old new → IsOrdered client_cmp old.places → IsOrdered client_cmp new.places → heard_in new ≡ heard_again k m (heard_in old)
+hear_is k m old new h o p = heard_is (heard_again k m (heard_in old)) new (again_sorted k m (heard_in old) (heard_sorted old o)) p (hear_tells k m old new (heard_in old) h (heard_tells old o))
+
+pub indexed_still : (es : List Entry) (k : ClientId) (m : ℕ) (old new : Index) → Hears k m old new → Indexed es old → Indexed es new
+indexed_still es k m old new h ix = record { parts = λ c. hear_parts k m old new h c ∙ ix.parts c; open_count = h.open_count ∙ ix.open_count; tree = h.tree ∙ ix.tree }

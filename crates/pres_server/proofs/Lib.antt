@@ -10,3 +10,4 @@ pub mod Samples
 pub mod Taken
 pub mod Heard
 pub mod Readers
+pub mod Turned

@@ -71,9 +71,11 @@ is_again n rows kept low k = ap (λ b. cond b fresh (told_row (slice_get rows (n
 pub takes : (es : List Entry) (m : ℕ) (e : Entry) (index : Index) → Indexed es index → Sound es → Fits es m e → All FitsThere (writes_of e) → length es + 1 < 2 ^ 53 → Takes index e
 takes es m (entry.Open s) index ix sound f w small =
     let k = open_small es in
-    let c = ix.open_count in
-    (may_open (place_at index s.client) (stamp_of s) (ap (λ (p : Part). p.live) (ix.parts s.client) ∙ ap (λ xs. live_in xs es) f.1)
-    (ap (λ (p : Part). comes_after p.last (stamp_of s)) (ix.parts s.client) ∙ sym (sound.newest s) ∙ f.0), omega arith)
+    let c = ix.open_count in (
+      may_open (place_at index s.client) (stamp_of s) (ap (λ (p : Part). p.live) (ix.parts s.client) ∙ ap (λ xs. live_in xs es) f.1)
+          (ap (λ (p : Part). comes_after p.last (stamp_of s)) (ix.parts s.client) ∙ sym (sound.newest s) ∙ f.0),
+      omega arith,
+    )
 takes es m (entry.Op s q n op outcome) index ix sound f w small =
     (room_there es s index ix sound f.0.0 small, f.1 ∙ ap (λ (p : Part). length p.rows + 1) (sym (ix.parts s.client)), w)
 takes es m (entry.Again s q n) index ix sound f w small =
@@ -88,7 +90,7 @@ abbrev rows_after : ℕ → Entry → List Row → List Row
 rows_after z (entry.Op s q n op outcome) rows = rows ++ row z (kept_of outcome) ∷ []
 rows_after z _ rows = rows
 
-abbrev part_in : Option Place → List Row → Part
+abbrev pub part_in : Option Place → List Row → Part
 part_in place rows = record { last = last_at place; rows = rows; live = option_map live_part (session_at place) }
 
 step_is : (z m : ℕ) (e : Entry) (place : Option Place) (rows : List Row) → part_in (place_after m e place) (rows_after z e rows) ≡ part_step z e (part_in place rows)
@@ -151,6 +153,7 @@ pub indexed_after : (es : List Entry) (m : ℕ) (old new : Index) (e : Entry) �
 indexed_after es m old new e ix sound f st = record { parts = parts; open_count = opens; tree = the_tree } where
   z : ℕ
   z = length es + 1
+
   k : ClientId
   k = (session_of e).client
 
@@ -190,7 +193,7 @@ rest_fits es z m xs e more old new k f st =
       next = omega arith;
       fits = fits.1;
       writes = w.1;
-      room = omega arith
+      room = omega arith;
     }
 
 pub first_answered : (es : List Entry) (z m : ℕ) (xs : List Entry) (e : Entry) (more : List Entry) (index : Index) → xs ≡ e ∷ more → Fitting es z m xs index → answers_to es e ≡ answer_by z e (part_at index (session_of e).client)

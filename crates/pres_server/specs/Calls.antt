@@ -9,6 +9,7 @@ use Rattle.pres_server.specs.declared.turn.Step.{Step}
 use Rattle.pres_server.specs.declared.turn.Step.TheVariants as step
 use Rattle.pres_server.specs.declared.server.Turn.{Turn}
 use Rattle.pres_server.specs.declared.server.Turn.TheVariants as turn_is
+use Rattle.pres_server.specs.Fits.{WritesFit}
 use Rattle.pres_server.specs.Messages.{Decision, refused, quiet, makes, moment_of}
 use Rattle.pres_server.specs.Turns.{State, turn, state_heard}
 
@@ -28,6 +29,11 @@ Makes decision result = MatchResult result (λ es. decision ≡ makes es) (IsRef
 abbrev pub IsStep : Option SessionId → Decision → Step → Type 0
 IsStep from decision (step.Makes es) = decision ≡ makes es
 IsStep from decision (step.Quiet heard) = (decision ≡ quiet) × (heard ≡ from)
+
+-- the values that are written may stand at their paths
+abbrev pub StepFits : Step → Type 0
+StepFits (step.Makes es) = WritesFit es
+StepFits (step.Quiet heard) = Unit {0}
 
 abbrev pub Decides : Option SessionId → Decision → Result Step Fault → Type 0
 Decides from decision result = MatchResult result (IsStep from decision) (IsRefusal decision)

@@ -1,5 +1,5 @@
 -- What the index of a log says, and how an entry changes it.
-use Rattle.std.specs.Prelude.{◌≡◌, ◌<◌, ◌≤◌, ℕ, ◌+◌, ◌-◌, ◌^◌, All, List, [], ◌∷◌, ◌++◌, length, slice_get, Option, Some, None}
+use Rattle.std.specs.Prelude.{◌≡◌, ◌<◌, ◌≤◌, ℕ, ◌+◌, ◌-◌, ◌^◌, All, List, [], ◌∷◌, ◌++◌, length, slice_get, Option, Some, None, if◌then◌else◌}
 use Rattle.std.specs.List.{filter_map}
 use Rattle.std.specs.Option.{option_map}
 use Rattle.std.specs.BTreeMap.{get, Updates}
@@ -8,7 +8,7 @@ use Rattle.pres_tree.specs.Rows.{Rows}
 use Rattle.pres_write.specs.Basics.{FitsThere, applied}
 use Rattle.pres_write.specs.Outcomes.{kept_of, writes_in}
 use Rattle.pres_wire.specs.declared.id.SessionId.{SessionId}
-use Rattle.pres_wire.specs.Ids.{ClientId, client_cmp, stamp_of}
+use Rattle.pres_wire.specs.Ids.{ClientId, client_cmp, same_client, stamp_of}
 use Rattle.pres_retry.specs.declared.table.Record.{Record}
 use Rattle.pres_retry.specs.declared.table.Row.{Row}
 use Rattle.pres_retry.specs.Tables.{row, rows_of, recorded}
@@ -21,7 +21,7 @@ use Rattle.pres_server.specs.Sessions.{session_of, open_sessions}
 use Rattle.pres_server.specs.Heard.{Heard, heard_last}
 use Rattle.pres_server.specs.Fits.{AllFit, WritesFit}
 use Rattle.pres_server.specs.Parts.{Part, part_of, open_step, Sound}
-use Rattle.pres_server.specs.Slots.{Place, session_at, last_at, moment_at, live_part, place_after, HasRoom, MayOpen}
+use Rattle.pres_server.specs.Slots.{Place, session_at, last_at, moment_at, live_part, place_after, heard_at, HasRoom, MayOpen}
 
 -- where a client stands
 abbrev pub place_at : Index → ClientId → Option Place
@@ -55,6 +55,13 @@ pub record Steps (z moment : ℕ) (old new : Index) (e : Entry) : Type 0 where
   pub retry : new.retry ≡ retry_after z e old.retry
   pub open_count : new.open_count ≡ open_step e old.open_count
   pub tree : new.tree ≡ tree_after_entry e old.tree
+
+-- the index after the client was heard of at the moment
+pub record Hears (client : ClientId) (moment : ℕ) (old new : Index) : Type 0 where
+  pub places : (c : ClientId) → place_at new c ≡ (if same_client client c then heard_at moment (place_at old client) else place_at old c)
+  pub retry : new.retry ≡ old.retry
+  pub open_count : new.open_count ≡ old.open_count
+  pub tree : new.tree ≡ old.tree
 
 -- the entry may be taken in
 abbrev pub Takes : Index → Entry → Type 0

@@ -234,7 +234,10 @@ impl Index {
             } => self.write(alloc, session, *q, *n, outcome, made),
             Entry::Again { session, q, n } => self.write_again(alloc, session, *q, *n, made),
             Entry::Ended {
-                session, why, rows, ..
+                session,
+                why,
+                rows,
+                ..
             } => self.end(alloc, session, *why, rows.as_slice(), made),
         }
     }

@@ -1,7 +1,7 @@
 //! Where each client stands.
 
-ghost use Rattle.std.specs.Prelude.{◌≡◌, ◌+◌, [], OnOk, IsSome, Some, option_map};
-ghost use Rattle.std.specs.BTreeMap.{get, Updates};
+ghost use Rattle.std.specs.Prelude.{◌≡◌, ◌+◌, [], OnOk, IsSome, Some, None, option_map};
+ghost use Rattle.std.specs.BTreeMap.{get, Updates, IsOrdered};
 ghost use Rattle.pres_wire.specs.Ids.{client_cmp, stamp_of};
 ghost use Rattle.pres_session.specs.declared.slot.Slot.TheVariants.{Live as LivePlace};
 ghost use Rattle.pres_server.specs.Slots.{began, session_at, last_at, MayOpen, HasRoom, answered_at, ended_at, heard_at};
@@ -40,9 +40,7 @@ fn answer_in(slot: &mut Slot<NoPlan>, moment: Moment) -> Number
         unreachable!()
     };
     live.hear(moment);
-    let Ok(_) = live.accept() else {
-        unreachable!()
-    };
+    let Ok(_) = live.accept() else { unreachable!() };
     let Ok(number) = live.emit() else {
         unreachable!()
     };
@@ -131,19 +129,16 @@ pub(crate) fn end(
     end_in(slot, why, rows)
 }
 
-/// The client, which is there, was heard of at the moment, where a session of it is open.
-pub(crate) fn hear(
-    places: &mut BTreeMap<ClientId, Slot<NoPlan>>,
-    client: &ClientId,
-    moment: Moment,
-)
-    requires { IsSome (get client_cmp places.old client.now) }
-    ensures { Updates client_cmp places.old places.new client.now (heard_at moment (get client_cmp places.old client.now)) }
+/// The client was heard of at the moment, where a session of it is open.
+pub(crate) fn hear(places: &mut BTreeMap<ClientId, Slot<NoPlan>>, client: &ClientId, moment: Moment)
+    ensures known { IsSome (get client_cmp places.old client.now)
+        → Updates client_cmp places.old places.new client.now (heard_at moment (get client_cmp places.old client.now)) }
+    ensures stranger { get client_cmp places.old client.now ≡ None → places.new.entries ≡ places.old.entries }
+    ensures ordered { IsOrdered client_cmp places.new }
 {
-    let Some(slot) = places.get_mut(client) else {
-        unreachable!()
-    };
-    hear_in(slot, moment);
+    if let Some(slot) = places.get_mut(client) {
+        hear_in(slot, moment);
+    }
 }
 
 /// The client's open session.
@@ -160,10 +155,7 @@ pub(crate) fn session<'a>(
 }
 
 /// The stamp of the client's last session.
-pub(crate) fn last(
-    places: &BTreeMap<ClientId, Slot<NoPlan>>,
-    client: &ClientId,
-) -> Option<Stamp>
+pub(crate) fn last(places: &BTreeMap<ClientId, Slot<NoPlan>>, client: &ClientId) -> Option<Stamp>
     ensures { result ≡ last_at (get client_cmp places.now client.now) }
 {
     match places.get(client)? {

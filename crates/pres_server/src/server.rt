@@ -5,9 +5,10 @@ ghost use Rattle.pres_tree.specs.Rows.{value_at};
 ghost use Rattle.pres_log.specs.Logs.{number, entries, tree};
 ghost use Rattle.pres_log.specs.declared.fault.Fault.TheVariants.{Busy as OutOfMemory};
 ghost use Rattle.pres_server.specs.Sessions.{is_open, count, has_open};
-ghost use Rattle.pres_server.specs.Heard.{heard_last};
+ghost use Rattle.pres_server.specs.Heard.{heard_last, heard_again};
+ghost use Rattle.pres_server.specs.Fits.{WritesFit};
 ghost use Rattle.pres_server.specs.Outcomes.{rows_for};
-ghost use Rattle.pres_server.specs.LegalLog.{IsLegal};
+ghost use Rattle.pres_server.specs.LegalLog.{IsLegal, MayFollow};
 ghost use Rattle.pres_server.specs.Turns.{blank, turn, batch_of, state_after};
 ghost use Rattle.pres_server.specs.Answers.{answers};
 ghost use Rattle.pres_server.specs.Calls.{IsTurn, IsRefusal};
@@ -17,7 +18,7 @@ use crate::input::Input;
 use crate::places;
 use crate::reopen::Reopen;
 use crate::turn::{Now, Step};
-use pres_log::{Batch, Fault, Log};
+use pres_log::{Batch, Entry, Fault, Log};
 use pres_retry::Row;
 use pres_tree::{Path, Tree};
 use pres_wire::{ClientId, Count, Down, Number, SessionId};
@@ -149,6 +150,33 @@ impl Server {
         self.index.heard(client)
     }
 
+    // The client was heard of at the moment, where a session of it is open.
+    fn hear(&mut self, client: &ClientId, moment: Moment)
+        ensures { self.new ≡ record { log = self.old.log; heard = heard_again client.now moment self.old.heard } }
+    {
+        places::hear(&mut self.index.places, client, moment);
+    }
+
+    // The turn that makes these entries at the moment.
+    fn wait(self, moment: Moment, entries: Items<Entry>) -> Busy
+        requires follows { MayFollow self.log (batch_of self.log moment entries) }
+        requires fits { WritesFit entries }
+        ensures { result ≡ record { state = self; moment = moment; made = entries } }
+    {
+        let Some(first) = Number::new(self.log.len() + 1) else {
+            unreachable!()
+        };
+        let batch = Batch {
+            first,
+            moment,
+            entries,
+        };
+        Busy {
+            server: self,
+            batch,
+        }
+    }
+
     /// What the input does, at the later of the given moment and the log's greatest one. Nothing is
     /// changed before `done` but, by a message that was accepted before, when its client was heard
     /// of last. Refused, in this order, with the server as it was: Old, Session, Order, Spent, Full,
@@ -158,30 +186,18 @@ impl Server {
         ensures refused { IfErr result (λ e. IsRefusal (turn self.log input now) e.0) }
         ensures unchanged { IfErr result (λ e. e.1 ≡ self) }
     {
+        // it ensures that the moment is in range
+        let _ = now.millis();
         let moment = self.moment.max(now);
         let number = self.log.len();
+        let none = Items::of(Vec::new(self.alloc));
         match self.index.turn(self.alloc, input, Now { number, moment }) {
-            Ok(Step::Makes(entries)) => {
-                let Some(first) = Number::new(number + 1) else {
-                    unreachable!()
-                };
-                let batch = Batch {
-                    first,
-                    moment,
-                    entries,
-                };
-                Ok(Turn::Busy(Busy {
-                    server: self,
-                    batch,
-                }))
+            Ok(Step::Makes(entries)) => Ok(Turn::Busy(self.wait(moment, entries))),
+            Ok(Step::Quiet(Some(session))) => {
+                self.hear(&session.client, moment);
+                Ok(Turn::Quiet(self, none))
             }
-            Ok(Step::Quiet(heard)) => {
-                if let Some(session) = heard {
-                    places::hear(&mut self.index.places, &session.client, moment);
-                }
-                let answers = Items::of(Vec::new(self.alloc));
-                Ok(Turn::Quiet(self, answers))
-            }
+            Ok(Step::Quiet(None)) => Ok(Turn::Quiet(self, none)),
             Err(fault) => Err((fault, self)),
         }
     }
@@ -229,6 +245,8 @@ impl Busy {
             made,
             &mut answers,
         )?;
+        // it ensures that the clients are in order
+        let _ = index.places.len();
         let Ok(()) = log.push(batch) else {
             return Err(Reopen);
         };

@@ -1,6 +1,6 @@
 //! What an input asks for.
 
-ghost use Rattle.std.specs.Prelude.{◌≡◌, ◌<◌, ◌∷◌, ◌^◌, [], IfOk, IfErr, Some, None};
+ghost use Rattle.std.specs.Prelude.{◌≡◌, ◌<◌, ◌≤◌, ◌∷◌, ◌^◌, [], IfOk, IfErr, Some, None};
 ghost use Rattle.pres_wire.specs.Ids.{stamp_of};
 ghost use Rattle.pres_wire.specs.Messages.{session_in};
 ghost use Rattle.pres_wire.specs.declared.id.Why.TheVariants as why;
@@ -9,7 +9,10 @@ ghost use Rattle.pres_retry.specs.Verdicts.{verdict};
 ghost use Rattle.pres_log.specs.declared.entry.Entry.TheVariants as entry;
 ghost use Rattle.pres_server.specs.Messages.{Decision, makes, op_by, ends_first};
 ghost use Rattle.pres_server.specs.Decide.{wanted_by, hello_by, message_by, said_by, ends_live, is_live, client_in, limited_by, within, checked, said};
-ghost use Rattle.pres_server.specs.Calls.{Makes, Decides};
+ghost use Rattle.pres_server.specs.Calls.{Makes, Decides, StepFits};
+ghost use Rattle.pres_server.specs.Fits.{WritesFit};
+ghost use Rattle.pres_server.specs.Turns.{CountsWrites};
+ghost use Rattle.pres_server.specs.declared.input.Input.TheVariants as input;
 ghost use Rattle.pres_server.specs.Heard.{heard_from};
 ghost use Rattle.pres_server.specs.Parts.{listed, session_with};
 ghost use Rattle.pres_server.specs.Index.{part_at};
@@ -114,7 +117,8 @@ impl Index {
     ) -> Result<Items<Entry>, Fault>
         requires number { number < 2 ^ 53 }
         requires open_count { self.now.open_count < 2 ^ 53 }
-        ensures { Makes (limited_by number self.now.open_count (makes (entry.Ended session q why [] ∷ []))) result }
+        ensures made { Makes (limited_by number self.now.open_count (makes (entry.Ended session q why [] ∷ []))) result }
+        ensures fits { IfOk result WritesFit }
     {
         limits(number + 1, self.open_count.saturating_sub(1))?;
         let rows = Items::of(Vec::new(alloc));
@@ -139,7 +143,8 @@ impl Index {
     ) -> Result<Items<Entry>, Fault>
         requires number { number < 2 ^ 53 }
         requires open_count { self.now.open_count < 2 ^ 53 }
-        ensures { Makes (limited_by number self.now.open_count (makes (entry.Ended (session_with session.client stamp) None why.Superseded [] ∷ entry.Open session ∷ []))) result }
+        ensures made { Makes (limited_by number self.now.open_count (makes (entry.Ended (session_with session.client stamp) None why.Superseded [] ∷ entry.Open session ∷ []))) result }
+        ensures fits { IfOk result WritesFit }
     {
         limits(number + 2, self.open_count.saturating_sub(1) + 1)?;
         let ended = Entry::Ended {
@@ -155,7 +160,8 @@ impl Index {
     fn hello(&self, alloc: Global, session: SessionId, number: u64) -> Result<Items<Entry>, Fault>
         requires number { number < 2 ^ 53 }
         requires open_count { self.now.open_count < 2 ^ 53 }
-        ensures { Makes (limited_by number self.now.open_count (hello_by (part_at self.now session.client) session)) result }
+        ensures made { Makes (limited_by number self.now.open_count (hello_by (part_at self.now session.client) session)) result }
+        ensures fits { IfOk result WritesFit }
     {
         if let Some(last) = places::last(&self.places, &session.client) {
             if !last.is_earlier(&session.stamp()) {
@@ -182,7 +188,8 @@ impl Index {
     ) -> Result<Items<Entry>, Fault>
         requires number { now.number < 2 ^ 53 }
         requires open_count { self.now.open_count < 2 ^ 53 }
-        ensures { Makes (limited_by now.number self.now.open_count (op_by (verdict n (part_at self.now session.client).rows) self.now.tree now.moment session q n op)) result }
+        ensures made { Makes (limited_by now.number self.now.open_count (op_by (verdict n (part_at self.now session.client).rows) self.now.tree now.moment session q n op)) result }
+        ensures fits { IfOk result WritesFit }
     {
         let again = match self.retry.find(&session.client, n) {
             Verdict::New => false,
@@ -220,8 +227,12 @@ impl Index {
     ) -> Result<Step, Fault>
         requires number { now.number < 2 ^ 53 }
         requires open_count { self.now.open_count < 2 ^ 53 }
-        ensures { Decides (Some session) (limited_by now.number self.now.open_count (said_by (part_at self.now session.client).live session q (op_by (verdict n (part_at self.now session.client).rows) self.now.tree now.moment session q n op))) result }
+        ensures step { Decides (Some session) (limited_by now.number self.now.open_count (said_by (part_at self.now session.client).live session q (op_by (verdict n (part_at self.now session.client).rows) self.now.tree now.moment session q n op))) result }
+        ensures fits { IfOk result StepFits }
+        ensures counts { 1 ≤ n }
     {
+        // it ensures that writes count from 1
+        let _ = n.get();
         if !self.is_next(&session, q)? {
             return Ok(Step::Quiet(Some(session)));
         }
@@ -238,7 +249,8 @@ impl Index {
     ) -> Result<Step, Fault>
         requires number { number < 2 ^ 53 }
         requires open_count { self.now.open_count < 2 ^ 53 }
-        ensures { Decides (Some session) (limited_by number self.now.open_count (said_by (part_at self.now session.client).live session q (makes (entry.Ended session (Some q) why.Bye [] ∷ [])))) result }
+        ensures step { Decides (Some session) (limited_by number self.now.open_count (said_by (part_at self.now session.client).live session q (makes (entry.Ended session (Some q) why.Bye [] ∷ [])))) result }
+        ensures fits { IfOk result StepFits }
     {
         if !self.is_next(&session, q)? {
             return Ok(Step::Quiet(Some(session)));
@@ -250,7 +262,9 @@ impl Index {
     fn message(&self, alloc: Global, up: Up, now: Now) -> Result<Step, Fault>
         requires number { now.number < 2 ^ 53 }
         requires open_count { self.now.open_count < 2 ^ 53 }
-        ensures { Decides (Some (session_in up)) (limited_by now.number self.now.open_count (message_by (part_at self.now (session_in up).client) self.now.tree now.moment up)) result }
+        ensures step { Decides (Some (session_in up)) (limited_by now.number self.now.open_count (message_by (part_at self.now (session_in up).client) self.now.tree now.moment up)) result }
+        ensures fits { IfOk result StepFits }
+        ensures counts { CountsWrites (input.Up up) }
     {
         match up {
             Up::Hello { session } => Ok(Step::Makes(self.hello(alloc, session, now.number)?)),
@@ -263,7 +277,8 @@ impl Index {
     fn lost(&self, alloc: Global, session: SessionId, why: Why, number: u64) -> Result<Step, Fault>
         requires number { number < 2 ^ 53 }
         requires open_count { self.now.open_count < 2 ^ 53 }
-        ensures { Decides None (limited_by number self.now.open_count (ends_live (part_at self.now session.client).live why session)) result }
+        ensures step { Decides None (limited_by number self.now.open_count (ends_live (part_at self.now session.client).live why session)) result }
+        ensures fits { IfOk result StepFits }
     {
         if !self.is_live(&session) {
             return Ok(Step::Quiet(None));
@@ -275,7 +290,8 @@ impl Index {
     fn restarted(&self, alloc: Global, client: ClientId, number: u64) -> Result<Step, Fault>
         requires number { number < 2 ^ 53 }
         requires open_count { self.now.open_count < 2 ^ 53 }
-        ensures { Decides None (limited_by number self.now.open_count (ends_first why.Restart (listed client (part_at self.now client).live))) result }
+        ensures step { Decides None (limited_by number self.now.open_count (ends_first why.Restart (listed client (part_at self.now client).live))) result }
+        ensures fits { IfOk result StepFits }
     {
         let Some(live) = places::session(&self.places, &client) else {
             return Ok(Step::Quiet(None));
@@ -288,7 +304,9 @@ impl Index {
     pub(crate) fn turn(&self, alloc: Global, input: Input, now: Now) -> Result<Step, Fault>
         requires number { now.number < 2 ^ 53 }
         requires open_count { self.now.open_count < 2 ^ 53 }
-        ensures { Decides (heard_from input) (limited_by now.number self.now.open_count (wanted_by (part_at self.now (client_in input)) self.now.tree now.moment input)) result }
+        ensures step { Decides (heard_from input) (limited_by now.number self.now.open_count (wanted_by (part_at self.now (client_in input)) self.now.tree now.moment input)) result }
+        ensures fits { IfOk result StepFits }
+        ensures counts { CountsWrites input }
     {
         match input {
             Input::Up(up) => self.message(alloc, up, now),

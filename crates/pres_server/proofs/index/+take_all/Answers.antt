@@ -14,11 +14,14 @@ take_all-requires t c =
     let es = c.requires.0 in
     let first = c.in-Some.first.now in
     let rest = c.in-Some.rest.now in
-    let m = c.args.made.moment in
-    (search rules,
-    (es ++ first ∷ [],
-    subst (λ z. Fitting (es ++ first ∷ []) z m rest c.take.new.self) (sym c.in-Some-next.ensures.1)
-    (rest_fits es c.args.made.number m c.args.entries.now first rest c.args.index.now c.take.new.self c.in-Some.ensures.cases.0 c.requires.1 c.in_ok-take.ensures.steps)))
+    let m = c.args.made.moment in (
+      search rules,
+      (
+        es ++ first ∷ [],
+        subst (λ z. Fitting (es ++ first ∷ []) z m rest c.take.new.self) (sym c.in-Some-next.ensures.1)
+            (rest_fits es c.args.made.number m c.args.entries.now first rest c.args.index.now c.take.new.self c.in-Some.ensures.cases.0 c.requires.1 c.in_ok-take.ensures.steps),
+      ),
+    )
 
 pub returns-clause-indexed : goal.returns-clause-indexed
 returns-clause-indexed t c = λ es f.

@@ -6,14 +6,14 @@ use Rattle.pres_server.specs.Decide.{limited_by}
 use Rattle.pres_server.proofs.Checks.{refused_by, refused_as}
 use Rattle.pres_server.proofs.index.Index.bye_message.Goals as goal
 
-pub returns-in_err-is_next : goal.returns-in_err-is_next
-returns-in_err-is_next c =
+pub returns-in_err-is_next-clause-step : goal.returns-in_err-is_next-clause-step
+returns-in_err-is_next-clause-step c =
     refused_by _ _ c.from_residual.result c.in_err-is_next.field-0.0 c.from_residual.ensures
     (inl (ap (limited_by c.args.number c.args.self.now.open_count) (c.in_err-is_next.ensures (makes (entry.Ended c.args.session (Some c.args.q) why.Bye [] ∷ [])))))
 
-pub returns-in_err-ending : goal.returns-in_err-ending
-returns-in_err-ending c =
+pub returns-in_err-ending-clause-step : goal.returns-in_err-ending-clause-step
+returns-in_err-ending-clause-step c =
     let end : Decision = makes (entry.Ended c.args.session (Some c.args.q) why.Bye [] ∷ []) in
     let next : c.in_ok-is_next.field-0 ≡ true = search rules in
     refused_by _ _ c.from_residual-in_err-ending.result c.in_err-ending.field-0.0 c.from_residual-in_err-ending.ensures
-    (refused_as _ _ _ end _ (c.in_ok-is_next.ensures end ∙ ap (λ b. cond b end quiet) next) c.in_err-ending.ensures)
+    (refused_as _ _ _ end _ (c.in_ok-is_next.ensures end ∙ ap (λ b. cond b end quiet) next) c.in_err-ending.ensures.made)

@@ -1,0 +1,79 @@
+-- A server's turn and its commit, over what holds of the server.
+use Rattle.std.proofs.Common.{refl, sym, ◌∙◌, ap, subst, ◌≡◌, ℕ, ◌+◌, ◌-◌, ◌^◌, ◌<◌, ◌≤◌, min, max, List, [], ◌∷◌, ◌++◌, length, arith, length-append}
+use Rattle.std.specs.BTreeMap.{IsOrdered}
+use Rattle.pres_write.specs.Moments as moments
+use Rattle.pres_wire.specs.Ids.{client_cmp}
+use Rattle.pres_log.specs.declared.entry.Batch.{Batch}
+use Rattle.pres_log.specs.declared.entry.Entry.{Entry}
+use Rattle.pres_log.specs.Logs.{Log, entries, number, last_moment, tree}
+use Rattle.pres_log.proofs.Entries.{entries-push, last_moment-push}
+use Rattle.pres_server.specs.declared.index.Index.{Index}
+use Rattle.pres_server.specs.declared.input.Input.{Input}
+use Rattle.pres_server.specs.Sessions.{open_sessions}
+use Rattle.pres_server.specs.LegalLog.{IsLegal, MayFollow, LeavesRoom}
+use Rattle.pres_server.specs.Messages.{Decision, makes, moment_of}
+use Rattle.pres_server.specs.Turns.{wanted, turn, batch_of, CountsWrites, State, state_after}
+use Rattle.pres_server.specs.Decide.{client_in, wanted_by, limited_by}
+use Rattle.pres_server.specs.Heard.{heard_after_all}
+use Rattle.pres_server.specs.Index.{part_at, heard_in, Indexed, Fitting, Tells}
+use Rattle.pres_server.specs.Kept.{Kept, Waits}
+use Rattle.pres_server.proofs.Decide.{wanted_is, wanted_allowed, limited_is}
+use Rattle.pres_server.proofs.Whole.{legal_is_sound, legal_leaves_room, legal_in_range, legal_after, follows_fit}
+use Rattle.pres_server.proofs.Heard.{heard_is, heard_tells, heard_sorted, sorted_after_all}
+
+-- the numbers are far from the last one
+pub number_small : (log : Log) (moment : ℕ) (index : Index) → Kept log moment index → number log < 2 ^ 53
+number_small log moment index kept = let room = legal_leaves_room log kept.legal in omega arith
+
+pub open_small : (log : Log) (moment : ℕ) (index : Index) → Kept log moment index → index.open_count < 2 ^ 53
+open_small log moment index kept =
+    let room = legal_leaves_room log kept.legal in
+    let count = kept.indexed.open_count in
+    omega arith
+
+pub moment_is : (log : Log) (moment now : ℕ) (index : Index) → Kept log moment index → now ≤ moments.last_moment → max moment now ≡ moment_of log now
+moment_is log moment now index kept low = let last = kept.last in omega arith
+
+-- what the index decides is the turn
+pub turned : (log : Log) (moment now : ℕ) (index : Index) (i : Input) → Kept log moment index → now ≤ moments.last_moment → CountsWrites i
+    → turn log i now ≡ limited_by (number log) index.open_count (wanted_by (part_at index (client_in i)) index.tree (max moment now) i)
+turned log moment now index i kept low counts =
+    let es = entries log in
+    let sound = legal_is_sound log kept.legal in
+    let m = moment_of log now in
+    limited_is es m (wanted es m i) sound (wanted_allowed es m i sound counts)
+    ∙ (λ x. limited_by (length es) (sym kept.indexed.open_count x) (wanted_is es m i sound x))
+    ∙ (λ x. limited_by (length es) index.open_count (wanted_by (sym (kept.indexed.parts (client_in i)) x) (sym kept.indexed.tree x) (sym (moment_is log moment now index kept low) x) i))
+
+-- ---- the commit
+
+pub fitting : (log : Log) (moment : ℕ) (index : Index) (b : Batch) → Kept log moment index → Waits log b → Fitting (entries log) b.first b.moment b.entries index
+fitting log moment index b kept waits =
+    let room = waits.follows.room in
+    let both = length-append (entries log) b.entries in
+    record {
+      indexed = kept.indexed;
+      sound = legal_is_sound log kept.legal;
+      next = waits.follows.first;
+      fits = follows_fit (entries log) b.moment b.entries waits.follows.allowed;
+      writes = waits.fits;
+      room = omega arith;
+    }
+
+pub kept_after : (log : Log) (moment : ℕ) (index new : Index) (b : Batch) → Kept log moment index → MayFollow log b → Indexed (entries log ++ b.entries) new → IsOrdered client_cmp new.places → Kept (log ++ b ∷ []) b.moment new
+kept_after log moment index new b kept follows ix ordered =
+    let last = last_moment-push log b in
+    let later = follows.not_earlier in
+    record {
+      legal = legal_after log b kept.legal follows;
+      indexed = subst (λ es. Indexed es new) (sym (entries-push log b)) ix;
+      last = omega arith;
+      ordered = ordered;
+    }
+
+pub heard_done : (m : ℕ) (es : List Entry) (old new : Index) → IsOrdered client_cmp old.places → IsOrdered client_cmp new.places → Tells (heard_after_all m es (heard_in old)) new → heard_in new ≡ heard_after_all m es (heard_in old)
+heard_done m es old new o p t = heard_is (heard_after_all m es (heard_in old)) new (sorted_after_all m es (heard_in old) (heard_sorted old o)) p t
+
+-- the batch is the one of the turn
+pub batch_is : (log : Log) (b : Batch) → MayFollow log b → b ≡ batch_of log b.moment b.entries
+batch_is log b follows = λ i. record { first = follows.first i; moment = b.moment; entries = b.entries }
