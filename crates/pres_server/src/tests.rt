@@ -199,10 +199,10 @@ fn value(alloc: Global, server: &Server, path: &str) -> Result<String, Fail> {
     }
 }
 
-// When the client was heard of last, in milliseconds.
-fn heard(alloc: Global, server: &Server, client: &str) -> Result<Option<u64>, Fail> {
-    let client = ClientId::parse(alloc, client)?;
-    Ok(server.heard(&client).map(Moment::millis))
+// When alice was heard of last, in milliseconds.
+fn heard(alloc: Global, server: &Server) -> Result<Option<u64>, Fail> {
+    let alice = ClientId::parse(alloc, "alice")?;
+    Ok(server.heard(&alice).map(Moment::millis))
 }
 
 // Whether alice's first session is open, and how many of its messages were accepted.
@@ -212,6 +212,33 @@ fn standing(alloc: Global, server: &Server) -> Result<(bool, Option<u64>), Fail>
         server.is_open(&session),
         server.count(&session).map(Count::get),
     ))
+}
+
+// What is seen of the server.
+fn seen(alloc: Global, server: &Server) -> Result<String, Fail> {
+    let number = server.number();
+    let (open, count) = standing(alloc, server)?;
+    let heard = heard(alloc, server)?;
+    let tree = value(alloc, server, "/")?;
+    Ok(format!(in alloc; "{number} entries, {open} {count:?}, heard {heard:?}, {tree}")?)
+}
+
+// The server, and what is seen of it.
+fn looked(alloc: Global, server: Server) -> Result<(Server, String), Fail> {
+    let text = seen(alloc, &server)?;
+    Ok((server, text))
+}
+
+// The server after inputs at moments, after each of which it has to be seen so.
+fn watch(rt: &impl Abort, alloc: Global, turns: &[(&str, u64, &str)]) -> Result<Server, Fail> {
+    let mut server = Server::new(alloc);
+    for (line, now, wanted) in turns {
+        let (after, _) = turn(alloc, server, line, *now)?;
+        let (after, text) = looked(alloc, after)?;
+        server = after;
+        assert_eq!(rt; text.as_str(), *wanted, "after {line} at {now}");
+    }
+    Ok(server)
 }
 
 // The numbers at which the client's writes were done.
@@ -440,90 +467,115 @@ fn a_refused_commit(rt: HostRuntime) -> Result<(), Fail> {
         r#"{"m":"bye","q":1,"s":["alice",1,1]}"#,
         r#"lost ["alice",1,1]"#,
     ] {
-        server = abandoned(rt.alloc(), server, line)?;
-        assert_eq!(rt; server.number(), 1, "{line}");
-        assert_eq!(rt; standing(rt.alloc(), &server)?, (true, Some(0)), "{line}");
-        assert_eq!(rt; heard(rt.alloc(), &server, "alice")?, Some(1000), "{line}");
+        let before = abandoned(rt.alloc(), server, line)?;
+        let (before, text) = looked(rt.alloc(), before)?;
+        server = before;
         assert_eq!(rt;
-            value(rt.alloc(), &server, "/a")?.as_str(),
-            "null",
+            text.as_str(),
+            "1 entries, true Some(0), heard Some(1000), null",
             "{line}"
         );
     }
     let (server, said) = turn(rt.alloc(), server, SET, 1500)?;
     assert_eq!(rt; said.as_str(), WROTE);
-    assert_eq!(rt; standing(rt.alloc(), &server)?, (true, Some(1)));
-    assert_eq!(rt; heard(rt.alloc(), &server, "alice")?, Some(1500));
-    assert_eq!(rt; value(rt.alloc(), &server, "/a")?.as_str(), "1");
+    let (_, text) = looked(rt.alloc(), server)?;
+    assert_eq!(rt;
+        text.as_str(),
+        "2 entries, true Some(1), heard Some(1500), {\"a\":1}"
+    );
     Ok(())
 }
 
 #[test]
 fn when_a_client_was_heard_of(rt: HostRuntime) -> Result<(), Fail> {
-    let mut server = Server::new(rt.alloc());
-    for (line, now, wanted) in [
-        (HELLO, 1000, Some(1000)),
-        (SET, 2000, Some(2000)),
-        (SET, 3000, Some(3000)),
-        (SET, 500, Some(3000)),
-        (HELLO, 4000, Some(3000)),
-        (r#"{"m":"hello","s":["bob",1,1]}"#, 5000, Some(3000)),
-        (SET, 4000, Some(5000)),
-        (r#"{"m":"bye","q":2,"s":["alice",1,1]}"#, 6000, None),
-        (SECOND_HELLO, 100, Some(6000)),
-    ] {
-        (server, _) = turn(rt.alloc(), server, line, now)?;
-        assert_eq!(rt;
-            heard(rt.alloc(), &server, "alice")?,
-            wanted,
-            "{line} at {now}"
-        );
-    }
-    assert_eq!(rt; heard(rt.alloc(), &server, "bob")?, Some(5000));
-    assert_eq!(rt; heard(rt.alloc(), &server, "carol")?, None);
+    watch(
+        &rt,
+        rt.alloc(),
+        &[
+            (
+                HELLO,
+                1000,
+                "1 entries, true Some(0), heard Some(1000), null",
+            ),
+            (
+                SET,
+                2000,
+                r#"2 entries, true Some(1), heard Some(2000), {"a":1}"#,
+            ),
+            (
+                SET,
+                3000,
+                r#"2 entries, true Some(1), heard Some(3000), {"a":1}"#,
+            ),
+            (
+                SET,
+                500,
+                r#"2 entries, true Some(1), heard Some(3000), {"a":1}"#,
+            ),
+            (
+                HELLO,
+                4000,
+                r#"2 entries, true Some(1), heard Some(3000), {"a":1}"#,
+            ),
+            (
+                r#"{"m":"hello","s":["bob",1,1]}"#,
+                5000,
+                r#"3 entries, true Some(1), heard Some(3000), {"a":1}"#,
+            ),
+            (
+                SET,
+                4000,
+                r#"3 entries, true Some(1), heard Some(5000), {"a":1}"#,
+            ),
+            (
+                r#"{"m":"bye","q":2,"s":["alice",1,1]}"#,
+                6000,
+                r#"4 entries, false None, heard None, {"a":1}"#,
+            ),
+            (
+                SECOND_HELLO,
+                100,
+                r#"5 entries, false None, heard Some(6000), {"a":1}"#,
+            ),
+        ],
+    )?;
     Ok(())
 }
 
 #[test]
 fn moments_and_values(rt: HostRuntime) -> Result<(), Fail> {
-    let mut server = Server::new(rt.alloc());
-    for (line, now, wanted) in [
-        (HELLO, 5, "null"),
-        (
-            r#"{"m":"op","n":1,"op":{"op":"set","path":"/t","value":{".sv":"timestamp"}},"q":1,"s":["alice",1,1]}"#,
-            7,
-            r#"{"t":7}"#,
-        ),
-        (
-            r#"{"m":"op","n":2,"op":{"op":"set","path":"/t","value":{".sv":"timestamp"}},"q":2,"s":["alice",1,1]}"#,
-            3,
-            r#"{"t":7}"#,
-        ),
-        (
-            r#"{"m":"op","n":3,"op":{"op":"update","path":"/","values":{"a/b":1,"t":{".sv":"timestamp"}}},"q":3,"s":["alice",1,1]}"#,
-            8,
-            r#"{"a":{"b":1},"t":8}"#,
-        ),
-        (
-            r#"{"m":"op","n":4,"op":{"expect":1,"op":"tx","path":"/a/b","value":2},"q":4,"s":["alice",1,1]}"#,
-            8,
-            r#"{"a":{"b":2},"t":8}"#,
-        ),
-        (
-            r#"{"m":"op","n":5,"op":{"op":"remove","path":"/a/b"},"q":5,"s":["alice",1,1]}"#,
-            8,
-            r#"{"t":8}"#,
-        ),
-    ] {
-        (server, _) = turn(rt.alloc(), server, line, now)?;
-        assert_eq!(rt;
-            value(rt.alloc(), &server, "/")?.as_str(),
-            wanted,
-            "{line} at {now}"
-        );
-    }
-    assert_eq!(rt; value(rt.alloc(), &server, "/t")?.as_str(), "8");
-    assert_eq!(rt; value(rt.alloc(), &server, "/a")?.as_str(), "null");
+    let server = watch(
+        &rt,
+        rt.alloc(),
+        &[
+            (HELLO, 5, "1 entries, true Some(0), heard Some(5), null"),
+            (
+                r#"{"m":"op","n":1,"op":{"op":"set","path":"/t","value":{".sv":"timestamp"}},"q":1,"s":["alice",1,1]}"#,
+                7,
+                r#"2 entries, true Some(1), heard Some(7), {"t":7}"#,
+            ),
+            (
+                r#"{"m":"op","n":2,"op":{"op":"set","path":"/t","value":{".sv":"timestamp"}},"q":2,"s":["alice",1,1]}"#,
+                3,
+                r#"3 entries, true Some(2), heard Some(7), {"t":7}"#,
+            ),
+            (
+                r#"{"m":"op","n":3,"op":{"op":"update","path":"/","values":{"a/b":1,"t":{".sv":"timestamp"}}},"q":3,"s":["alice",1,1]}"#,
+                8,
+                r#"4 entries, true Some(3), heard Some(8), {"a":{"b":1},"t":8}"#,
+            ),
+            (
+                r#"{"m":"op","n":4,"op":{"expect":1,"op":"tx","path":"/a/b","value":2},"q":4,"s":["alice",1,1]}"#,
+                8,
+                r#"5 entries, true Some(4), heard Some(8), {"a":{"b":2},"t":8}"#,
+            ),
+            (
+                r#"{"m":"op","n":5,"op":{"op":"remove","path":"/a/b"},"q":5,"s":["alice",1,1]}"#,
+                8,
+                r#"6 entries, true Some(5), heard Some(8), {"t":8}"#,
+            ),
+        ],
+    )?;
     let moments = moments(rt.alloc(), server.log())?;
     assert_eq!(rt; moments.as_slice(), [5, 7, 7, 8, 8, 8].as_slice());
     Ok(())
@@ -559,5 +611,6 @@ fn a_stale_transaction(rt: HostRuntime) -> Result<(), Fail> {
         ],
     )?;
     assert_eq!(rt; value(rt.alloc(), &server, "/n")?.as_str(), "1");
+    assert_eq!(rt; value(rt.alloc(), &server, "/m")?.as_str(), "null");
     Ok(())
 }
