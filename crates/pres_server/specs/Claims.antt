@@ -1,10 +1,13 @@
 -- What holds of every legal log and of every turn.
-use Rattle.std.specs.Prelude.{◌≡◌, ◌+◌, ℕ, List, [], ◌∷◌, ◌++◌, length, if◌then◌else◌}
+use Rattle.std.specs.Prelude.{◌≡◌, ◌+◌, ℕ, List, [], ◌∷◌, ◌++◌, length, IsTrue, if◌then◌else◌}
+use Rattle.pres_wire.specs.declared.id.SessionId.{SessionId}
+use Rattle.pres_wire.specs.declared.down.Down.{Down}
 use Rattle.pres_wire.specs.Ids.{ClientId, same_client}
 use Rattle.pres_log.specs.declared.entry.Entry.{Entry}
 use Rattle.pres_log.specs.Logs.{Log, entries, tree}
 use Rattle.pres_server.specs.declared.input.Input.{Input}
-use Rattle.pres_server.specs.Sessions.{session_of, open_sessions}
+use Rattle.pres_server.specs.Sessions.{session_of, is_open, open_sessions}
+use Rattle.pres_server.specs.Streams.{stream, sent_for, numbered_from}
 use Rattle.pres_server.specs.LegalLog.{IsLegal}
 use Rattle.pres_server.specs.Messages.{moment_of}
 use Rattle.pres_server.specs.Turns.{turn, wanted, log_after, CountsWrites}
@@ -38,3 +41,11 @@ PartAnswers es moment e = Sound es → Fits es moment e → answers_to es e ≡ 
 -- What an input asks for is given by what the log says of its client, and by the tree.
 abbrev pub PartDecides : List Entry → ℕ → Input → Type 0
 PartDecides es moment input = Sound es → wanted es moment input ≡ wanted_by (part_of (client_in input) es) (tree es) moment input
+
+-- An entry adds to the stream of an open session what it sends to it, numbered on.
+abbrev pub StreamSteps : SessionId → List Entry → Entry → Type 0
+StreamSteps s es e = IsTrue (is_open s es) → stream s (es ++ e ∷ []) ≡ stream s es ++ numbered_from (length (stream s es) + 1) (sent_for s (es ++ e ∷ []) e)
+
+-- Later entries take nothing from a stream and change nothing in it.
+abbrev pub StreamGrows : SessionId → List Entry → List Entry → Type 0
+StreamGrows s es later = (rest : List Down) × (stream s es ++ rest ≡ stream s (es ++ later))

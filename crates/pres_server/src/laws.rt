@@ -2,10 +2,11 @@
 
 ghost use Rattle.std.specs.Prelude.{ℕ, List};
 ghost use Rattle.pres_wire.specs.Ids.{ClientId};
+ghost use Rattle.pres_wire.specs.declared.id.SessionId.{SessionId};
 ghost use Rattle.pres_log.specs.Logs.{Log};
 ghost use Rattle.pres_log.specs.declared.entry.Entry.{Entry};
 ghost use Rattle.pres_server.specs.declared.input.Input.{Input};
-ghost use Rattle.pres_server.specs.Claims.{TurnIsLegal, LegalIsSound, PartSteps, OpenCountSteps, PartAnswers, PartDecides};
+ghost use Rattle.pres_server.specs.Claims.{TurnIsLegal, LegalIsSound, PartSteps, OpenCountSteps, PartAnswers, PartDecides, StreamSteps, StreamGrows};
 
 /// A turn on a legal log leaves a legal log.
 pub fn turns_are_legal()
@@ -35,4 +36,14 @@ pub fn parts_answer()
 /// What an input asks for is given by what the log says of its client, and by the tree.
 pub fn parts_decide()
     ensures { (es : List Entry) (moment : ℕ) (input : Input) → PartDecides es moment input }
+{}
+
+/// An entry adds to the stream of an open session what it sends to it, numbered on.
+pub fn streams_step()
+    ensures { (session : SessionId) (es : List Entry) (e : Entry) → StreamSteps session es e }
+{}
+
+/// Later entries take nothing from a stream and change nothing in it.
+pub fn streams_grow()
+    ensures { (session : SessionId) (es later : List Entry) → StreamGrows session es later }
 {}

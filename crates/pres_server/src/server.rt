@@ -1,7 +1,7 @@
 //! The server.
 
-ghost use Rattle.std.specs.Prelude.{◌≡◌, [], IfOk, IfErr, MatchOption, Some, None, is_some, if◌then◌else◌};
-ghost use Rattle.pres_tree.specs.Rows.{value_at};
+ghost use Rattle.std.specs.Prelude.{◌≡◌, [], IfOk, IfErr, MatchOption, Some, None, false, is_some, if◌then◌else◌};
+ghost use Rattle.pres_tree.specs.Rows.{is_null, value_at};
 ghost use Rattle.pres_log.specs.Logs.{number, entries, tree};
 ghost use Rattle.pres_log.specs.declared.fault.Fault.TheVariants.{Busy as OutOfMemory};
 ghost use Rattle.pres_server.specs.Sessions.{is_open, count, has_open};
@@ -104,7 +104,7 @@ impl Server {
     pub fn value_at(&self, path: &Path) -> Option<&Tree>
         ensures { MatchOption result
             (value_at path.now (tree (entries self.now.log)) ≡ [])
-            (λ value. value_at path.now (tree (entries self.now.log)) ≡ value.now) }
+            (λ value. (is_null value.now ≡ false) × (value_at path.now (tree (entries self.now.log)) ≡ value.now)) }
     {
         self.index.tree.at(path)
     }
