@@ -9,7 +9,6 @@ use Rattle.std.specs.Ordering.{is_lt, is_eq}
 use Rattle.std.specs.declared.cmp.Ordering.TheVariants.{Less}
 use Rattle.std.specs.FinMap.Entries.{find, put, where_key, is_sorted, below_all, find-put, find-where_key, is_sorted-put, is_sorted-where_key, same_entries}
 use Rattle.std.proofs.lemmas.Map.Keys.{sorted_head, sorted_tail}
-use Rattle.pres_wire.specs.declared.id.SessionId.{SessionId}
 use Rattle.pres_wire.specs.Ids.{ClientId, client_cmp, same_client}
 use Rattle.pres_session.specs.declared.slot.Slot.TheVariants.{Never, Gone, Live}
 use Rattle.pres_retry.specs.declared.table.Row.{Row}
@@ -18,7 +17,7 @@ use Rattle.pres_log.specs.declared.entry.Entry.{Entry}
 use Rattle.pres_log.specs.declared.entry.Entry.TheVariants as entry
 use Rattle.pres_server.specs.declared.index.Index.{Index}
 use Rattle.pres_server.specs.Sessions.{session_of}
-use Rattle.pres_server.specs.Heard.{Heard, heard_last, heard_since, heard_again, heard_after, heard_after_all, heard_of}
+use Rattle.pres_server.specs.Heard.{Heard, heard_last, heard_since, heard_again, heard_after, heard_after_all}
 use Rattle.pres_server.specs.Slots.{Place, moment_at, place_after, answered_at, ended_at, heard_at}
 use Rattle.pres_server.specs.Index.{place_at, part_at, heard_in, Steps, Tells, Hears, Indexed}
 use Rattle.pres_server.proofs.Since.{client_same, client_itself, client_sym}

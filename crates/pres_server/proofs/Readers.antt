@@ -1,17 +1,15 @@
 -- What the index says of sessions is what the log says.
-use Rattle.std.proofs.Common.{refl, sym, ◌∙◌, ap, subst, ◌≡◌, ℕ, List, [], ◌∷◌, Bool, true, false, cond, ◌||◌, length, Option, Some, None, is_some}
+use Rattle.std.proofs.Common.{refl, sym, ◌∙◌, ap, ◌≡◌, List, [], ◌∷◌, Bool, true, false, cond, ◌||◌, Option, Some, None, is_some}
 use Rattle.std.specs.List.{list_any, filter}
 use Rattle.std.specs.Option.{option_map}
-use Rattle.pres_wire.specs.declared.id.Stamp.{Stamp}
 use Rattle.pres_wire.specs.declared.id.SessionId.{SessionId}
 use Rattle.pres_wire.specs.Ids.{ClientId, stamp_of}
 use Rattle.pres_session.specs.declared.slot.Slot.TheVariants.{Never, Gone, Live}
 use Rattle.pres_log.specs.declared.entry.Entry.{Entry}
 use Rattle.pres_server.specs.declared.index.Index.{Index}
-use Rattle.pres_server.specs.Sessions.{is_open, count, has_open, sessions_of, open_sessions_of}
-use Rattle.pres_server.specs.Streams.{stream}
-use Rattle.pres_server.specs.Parts.{Part, LivePart, Sound, part_of, live_in, listed}
-use Rattle.pres_server.specs.Decide.{is_live, count_in, same_stamp}
+use Rattle.pres_server.specs.Sessions.{is_open, count, has_open, sessions_of}
+use Rattle.pres_server.specs.Parts.{Part, LivePart, Sound, part_of, live_in}
+use Rattle.pres_server.specs.Decide.{is_live, count_in}
 use Rattle.pres_server.specs.Slots.{Place, session_at, moment_at, live_part}
 use Rattle.pres_server.specs.Index.{part_at, place_at, Indexed}
 use Rattle.pres_server.proofs.Parts.{only_open}

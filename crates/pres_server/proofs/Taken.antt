@@ -1,39 +1,34 @@
 -- What the index says after one entry more.
-use Rattle.std.proofs.Common.{refl, sym, ◌∙◌, ap, subst, ◌≡◌, ◌≢◌, ℕ, ◌+◌, ◌-◌, ◌^◌, ◌<◌, ◌≤◌, suc, List, [], ◌∷◌, ◌++◌, length, map, Bool, true, false, not, cond, append-nil, append_assoc, true≢false, arith, length-append, Option, Some, None, is_some, All, slice_get, ◌==◌, unwrap_or}
+use Rattle.std.proofs.Common.{refl, sym, ◌∙◌, ap, subst, ◌≡◌, ℕ, ◌+◌, ◌-◌, ◌^◌, ◌<◌, ◌≤◌, List, [], ◌∷◌, ◌++◌, length, Bool, true, false, cond, append-nil, arith, length-append, Option, Some, None, All, slice_get, ◌==◌, unwrap_or}
 use Rattle.std.specs.Option.{option_map}
-use Rattle.std.specs.BTreeMap.{get, Updates}
-use Rattle.std.specs.FinMap.Entries.{find, put, where_key, find-put, find-where_key}
 use Rattle.std.proofs.lemmas.Bool.Decides.{nat_tests}
-use Rattle.pres_write.specs.declared.basic.Basic.{Basic}
 use Rattle.pres_write.specs.Basics.{FitsThere, applied}
 use Rattle.pres_write.specs.Outcomes.{kept_of, writes_in}
 use Rattle.pres_wire.specs.declared.id.Stamp.{Stamp}
 use Rattle.pres_wire.specs.declared.id.SessionId.{SessionId}
-use Rattle.pres_wire.specs.Ids.{ClientId, client_cmp, same_client, stamp_of}
+use Rattle.pres_wire.specs.Ids.{ClientId, same_client, stamp_of}
 use Rattle.pres_wire.specs.Numbers.{greatest_number}
 use Rattle.pres_session.specs.declared.slot.Slot.TheVariants.{Never, Gone, Live}
 use Rattle.pres_retry.specs.declared.table.Record.{Record}
 use Rattle.pres_retry.specs.declared.table.Row.{Row}
-use Rattle.pres_retry.specs.Tables.{row, rows_of, recorded}
+use Rattle.pres_retry.specs.Tables.{row, rows_of}
 use Rattle.pres_retry.specs.Verdicts.{verdict, told_row, again, fresh}
 use Rattle.pres_retry.proofs.Records.{rows_of_recorded}
 use Rattle.pres_log.specs.declared.entry.Entry.{Entry}
 use Rattle.pres_log.specs.declared.entry.Entry.TheVariants as entry
-use Rattle.pres_log.specs.Logs.{tree, writes, writes_of}
+use Rattle.pres_log.specs.Logs.{tree, writes_of}
 use Rattle.pres_log.proofs.Entries.{tree-append}
 use Rattle.pres_server.specs.declared.index.Index.{Index}
-use Rattle.pres_server.specs.Sessions.{session_of, is_open, open_sessions, open_sessions_of, count, last_of, is_newest}
+use Rattle.pres_server.specs.Sessions.{session_of, is_open, open_sessions, count}
 use Rattle.pres_server.specs.Streams.{stream}
-use Rattle.pres_server.specs.Outcomes.{rows_for, ops}
 use Rattle.pres_server.specs.Answers.{answers_to}
-use Rattle.pres_server.specs.Heard.{Heard, heard_last, heard_since, heard_again, heard_after, heard_after_all}
-use Rattle.pres_server.specs.Parts.{Part, LivePart, Sound, part_of, part_step, live_in, answer_by, open_step, comes_after, one_more}
+use Rattle.pres_server.specs.Parts.{Part, LivePart, Sound, part_of, part_step, live_in, answer_by, open_step, comes_after}
 use Rattle.pres_server.specs.Fits.{Fits, AllFit, WritesFit}
-use Rattle.pres_server.specs.Slots.{Place, Session, session_at, last_at, moment_at, live_part, place_after, HasRoom, MayOpen}
-use Rattle.pres_server.specs.Index.{place_at, part_at, retry_after, tree_after_entry, Steps, Takes, Tells, Indexed, Fitting}
-use Rattle.pres_server.proofs.Since.{client_same, client_itself, client_sym}
+use Rattle.pres_server.specs.Slots.{Place, session_at, last_at, live_part, place_after, HasRoom, MayOpen}
+use Rattle.pres_server.specs.Index.{place_at, part_at, retry_after, tree_after_entry, Steps, Takes, Indexed, Fitting}
+use Rattle.pres_server.proofs.Since.{client_same, client_itself}
 use Rattle.pres_server.proofs.Parts.{part_after, only_open, row_there}
-use Rattle.pres_server.proofs.AfterEntry.{sound_after, open_after, answers_are, clients_total, clients_apart, same_by_cmp}
+use Rattle.pres_server.proofs.AfterEntry.{sound_after, open_after, answers_are, same_by_cmp}
 use Rattle.pres_server.proofs.Whole.{count_small, stream_small, open_small}
 
 -- ---- what a client's part says of its place

@@ -1,25 +1,24 @@
 -- A server's turn and its commit, over what holds of the server.
-use Rattle.std.proofs.Common.{refl, sym, ◌∙◌, ap, subst, ◌≡◌, ℕ, ◌+◌, ◌-◌, ◌^◌, ◌<◌, ◌≤◌, min, max, List, [], ◌∷◌, ◌++◌, length, arith, length-append}
+use Rattle.std.proofs.Common.{sym, ◌∙◌, subst, ◌≡◌, ℕ, ◌^◌, ◌<◌, ◌≤◌, max, List, [], ◌∷◌, ◌++◌, length, arith, length-append}
 use Rattle.std.specs.BTreeMap.{IsOrdered}
 use Rattle.pres_write.specs.Moments as moments
 use Rattle.pres_wire.specs.Ids.{client_cmp}
 use Rattle.pres_log.specs.declared.entry.Batch.{Batch}
 use Rattle.pres_log.specs.declared.entry.Entry.{Entry}
-use Rattle.pres_log.specs.Logs.{Log, entries, number, last_moment, tree}
+use Rattle.pres_log.specs.Logs.{Log, entries, number}
 use Rattle.pres_log.proofs.Entries.{entries-push, last_moment-push}
 use Rattle.pres_server.specs.declared.index.Index.{Index}
 use Rattle.pres_server.specs.declared.input.Input.{Input}
-use Rattle.pres_server.specs.Sessions.{open_sessions}
-use Rattle.pres_server.specs.LegalLog.{IsLegal, MayFollow, LeavesRoom}
-use Rattle.pres_server.specs.Messages.{Decision, makes, moment_of}
-use Rattle.pres_server.specs.Turns.{wanted, turn, batch_of, CountsWrites, State, state_after}
+use Rattle.pres_server.specs.LegalLog.{MayFollow}
+use Rattle.pres_server.specs.Messages.{moment_of}
+use Rattle.pres_server.specs.Turns.{wanted, turn, batch_of, CountsWrites}
 use Rattle.pres_server.specs.Decide.{client_in, wanted_by, limited_by}
 use Rattle.pres_server.specs.Heard.{heard_after_all}
 use Rattle.pres_server.specs.Index.{part_at, heard_in, Indexed, Fitting, Tells}
 use Rattle.pres_server.specs.Kept.{Kept, Waits}
 use Rattle.pres_server.proofs.Decide.{wanted_is, wanted_allowed, limited_is}
-use Rattle.pres_server.proofs.Whole.{legal_is_sound, legal_leaves_room, legal_in_range, legal_after, follows_fit}
-use Rattle.pres_server.proofs.Heard.{heard_is, heard_tells, heard_sorted, sorted_after_all}
+use Rattle.pres_server.proofs.Whole.{legal_is_sound, legal_leaves_room, legal_after, follows_fit}
+use Rattle.pres_server.proofs.Heard.{heard_is, heard_sorted, sorted_after_all}
 
 -- the numbers are far from the last one
 pub number_small : (log : Log) (moment : ℕ) (index : Index) → Kept log moment index → number log < 2 ^ 53

@@ -13,6 +13,7 @@ use Rattle.pres_server.specs.Fits.{WritesFit}
 use Rattle.pres_server.specs.Messages.{Decision, refused, quiet, makes, moment_of}
 use Rattle.pres_server.specs.Turns.{State, turn, state_heard}
 
+-- something is to be made
 abbrev pub is_made : Decision → Bool
 is_made (makes es) = true
 is_made _ = false
@@ -35,6 +36,7 @@ abbrev pub StepFits : Step → Type 0
 StepFits (step.Makes es) = WritesFit es
 StepFits (step.Quiet heard) = Unit {0}
 
+-- the step that an input asks for, or its refusal
 abbrev pub Decides : Option SessionId → Decision → Result Step Fault → Type 0
 Decides from decision result = MatchResult result (IsStep from decision) (IsRefusal decision)
 

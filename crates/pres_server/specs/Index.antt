@@ -1,5 +1,5 @@
 -- What the index of a log says, and how an entry changes it.
-use Rattle.std.specs.Prelude.{◌≡◌, ◌<◌, ◌≤◌, ℕ, ◌+◌, ◌-◌, ◌^◌, All, List, [], ◌∷◌, ◌++◌, length, slice_get, Option, Some, None, if◌then◌else◌}
+use Rattle.std.specs.Prelude.{◌≡◌, ◌<◌, ℕ, ◌+◌, ◌-◌, ◌^◌, All, List, [], length, slice_get, Option, Some, if◌then◌else◌}
 use Rattle.std.specs.List.{filter_map}
 use Rattle.std.specs.Option.{option_map}
 use Rattle.std.specs.BTreeMap.{get, Updates}
@@ -7,7 +7,6 @@ use Rattle.pres_tree.specs.declared.scalar.Scalar.{Scalar}
 use Rattle.pres_tree.specs.Rows.{Rows}
 use Rattle.pres_write.specs.Basics.{FitsThere, applied}
 use Rattle.pres_write.specs.Outcomes.{kept_of, writes_in}
-use Rattle.pres_wire.specs.declared.id.SessionId.{SessionId}
 use Rattle.pres_wire.specs.Ids.{ClientId, client_cmp, same_client, stamp_of}
 use Rattle.pres_retry.specs.declared.table.Record.{Record}
 use Rattle.pres_retry.specs.declared.table.Row.{Row}
@@ -44,6 +43,7 @@ abbrev pub retry_after : ℕ → Entry → List Record → List Record
 retry_after z (entry.Op s q n op outcome) table = recorded s.client n (row z (kept_of outcome)) table
 retry_after z _ table = table
 
+-- the tree after the writes of an entry
 abbrev pub tree_after_entry : Entry → Rows Scalar → Rows Scalar
 tree_after_entry (entry.Op s q n op outcome) before = applied before (writes_in outcome)
 tree_after_entry (entry.Ended s q why rows) before = applied before rows
@@ -63,7 +63,7 @@ pub record Hears (client : ClientId) (moment : ℕ) (old new : Index) : Type 0 w
   pub open_count : new.open_count ≡ old.open_count
   pub tree : new.tree ≡ old.tree
 
--- the entry may be taken in
+-- what the code asks of an entry that it takes in: a legal log's next one meets it
 abbrev pub Takes : Index → Entry → Type 0
 Takes index (entry.Open s) = MayOpen (place_at index s.client) (stamp_of s) × (index.open_count < 2 ^ 53)
 Takes index (entry.Op s q n op outcome) = HasRoom (place_at index s.client) × (n ≡ length (rows_of s.client index.retry) + 1) × All FitsThere (writes_in outcome)

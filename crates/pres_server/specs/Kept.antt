@@ -3,7 +3,6 @@ use Rattle.std.specs.Prelude.{◌≡◌, ℕ}
 use Rattle.std.specs.BTreeMap.{IsOrdered}
 use Rattle.pres_wire.specs.Ids.{client_cmp}
 use Rattle.pres_log.specs.declared.entry.Batch.{Batch}
-use Rattle.pres_log.specs.declared.entry.Entry.{Entry}
 use Rattle.pres_log.specs.Logs.{Log, entries, last_moment}
 use Rattle.pres_server.specs.declared.index.Index.{Index}
 use Rattle.pres_server.specs.Fits.{WritesFit}

@@ -1,5 +1,5 @@
 -- Where a client stands, as plain data, and how an entry changes it.
-use Rattle.std.specs.Prelude.{◌≡◌, ◌<◌, ℕ, ◌+◌, max, Bool, true, Option, Some, None}
+use Rattle.std.specs.Prelude.{◌≡◌, ◌<◌, ℕ, ◌+◌, max, true, Option, Some, None}
 use Rattle.std.specs.Option.{option_map}
 use Rattle.pres_wire.specs.declared.id.Stamp.{Stamp}
 use Rattle.pres_wire.specs.Ids.{stamp_of}
@@ -16,6 +16,7 @@ use Rattle.pres_server.specs.Parts.{LivePart, comes_after}
 abbrev pub Session : Type 0
 Session = Life NoPlan
 
+-- a client had no session, its last one is gone, or one is open
 abbrev pub Place : Type 0
 Place = Slot NoPlan
 
@@ -37,6 +38,7 @@ last_at (Some (Live session)) = Some session.stamp
 abbrev pub moment_at : Option Place → Option ℕ
 moment_at place = option_map (λ session. session.heard) (session_at place)
 
+-- what answers and checks need of it
 abbrev pub live_part : Session → LivePart
 live_part session = record { stamp = session.stamp; count = session.count; sent = session.emitted }
 
@@ -44,6 +46,7 @@ live_part session = record { stamp = session.stamp; count = session.count; sent 
 abbrev pub answered : ℕ → Session → Session
 answered moment session = record { stamp = session.stamp; count = session.count + 1; emitted = session.emitted + 1; heard = max session.heard moment; plan = session.plan }
 
+-- where a client stands after such a message, and after the end of its session
 abbrev pub answered_at : ℕ → Option Place → Option Place
 answered_at moment (Some (Live session)) = Some (Live (answered moment session))
 answered_at moment other = other

@@ -1,6 +1,6 @@
 //! What the log says of each client and of the tree, kept as the log grows.
 
-ghost use Rattle.std.specs.Prelude.{◌≡◌, ◌+◌, ◌<◌, ◌++◌, ◌∷◌, [], ◌^◌, ℕ, All, List, Option, length, IfOk, option_map};
+ghost use Rattle.std.specs.Prelude.{◌≡◌, ◌+◌, ◌++◌, ◌∷◌, [], ℕ, All, List, Option, length, IfOk};
 ghost use Rattle.std.specs.BTreeMap.{IsOrdered};
 ghost use Rattle.pres_write.specs.Basics.{FitsThere, applied};
 ghost use Rattle.pres_write.specs.Outcomes.{kept_of, writes_in};

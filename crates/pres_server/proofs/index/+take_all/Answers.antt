@@ -1,4 +1,4 @@
-use Rattle.std.proofs.Common.{rules, ◌∙◌, ap, sym, subst, ◌≡◌, ◌+◌, ◌++◌, ◌∷◌, [], length, append_assoc, IfOk}
+use Rattle.std.proofs.Common.{rules, ◌∙◌, ap, sym, subst, ◌≡◌, ◌++◌, ◌∷◌, [], append_assoc, IfOk}
 use Rattle.pres_server.specs.Answers.{answers}
 use Rattle.pres_server.specs.Heard.{heard_after_all}
 use Rattle.pres_server.specs.Index.{Indexed, Tells, Fitting}

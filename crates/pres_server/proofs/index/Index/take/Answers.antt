@@ -1,5 +1,4 @@
 use Rattle.std.proofs.Common.{sym, subst, ◌≡◌, ◌∷◌, [], IfOk}
-use Rattle.pres_log.specs.declared.entry.Entry.{Entry}
 use Rattle.pres_server.specs.Index.{part_at}
 use Rattle.pres_server.specs.Parts.{answer_by}
 use Rattle.pres_server.specs.Sessions.{session_of}

@@ -1,11 +1,10 @@
-use Rattle.std.proofs.Common.{◌∙◌, ap, sym, subst, ◌≡◌, ◌++◌, ◌∷◌, []}
-use Rattle.pres_log.specs.declared.entry.Batch.{Batch}
-use Rattle.pres_log.specs.Logs.{Log, entries}
+use Rattle.std.proofs.Common.{◌∙◌, ap, sym, subst, ◌++◌, ◌∷◌, []}
+use Rattle.pres_log.specs.Logs.{entries}
 use Rattle.pres_server.specs.Answers.{answers}
 use Rattle.pres_server.specs.Heard.{heard_after_all}
 use Rattle.pres_server.specs.Index.{Indexed, Fitting, Tells, heard_in}
 use Rattle.pres_server.specs.Kept.{Kept, Waits}
-use Rattle.pres_server.specs.Turns.{State, Pending, state_after, batch_of}
+use Rattle.pres_server.specs.Turns.{State, Pending, state_after}
 use Rattle.pres_server.proofs.Heard.{heard_tells}
 use Rattle.pres_server.proofs.Turned.{fitting, kept_after, heard_done, batch_is}
 use Rattle.pres_server.proofs.server.Busy.done.Goals as goal
