@@ -2,8 +2,8 @@
 //! sessions send again, which are quiet.
 #![tactic(auto)]
 
-use anyhow::{Result, bail};
-use pres_server::{Input, Server, Turn};
+use anyhow::{Error, Result, anyhow};
+use pres_server::{Busy, Input, Server, Turn};
 use pres_wire::Up;
 use pres_write::Moment;
 use std::alloc::Global;
@@ -63,27 +63,36 @@ fn repeats(alloc: Global) -> Result<Vec<Up>> {
     Ok(messages)
 }
 
+// The server after the batch's commit.
+fn committed(busy: Busy) -> Result<Server> {
+    let (server, _) = busy.done()?;
+    Ok(server)
+}
+
 // The server after a message that makes a batch.
 fn made(server: Server, message: Up) -> Result<Server> {
     match server.prepare(Input::Up(message), Moment::at(NOW)) {
-        Ok(Turn::Busy(busy)) => {
-            let (server, _) = busy.done()?;
-            Ok(server)
-        }
-        Ok(Turn::Quiet(_, _)) => bail!("a new message was quiet"),
-        Err((fault, _)) => Err(fault)?,
+        Ok(Turn::Busy(busy)) => committed(busy),
+        Ok(Turn::Quiet(_, _)) => Err(anyhow!("a new message was quiet")),
+        Err(_) => Err(anyhow!("a new message was refused")),
     }
+}
+
+// The error of a message that was not to make this batch.
+fn unwanted(busy: Busy) -> Error {
+    drop(busy.abandon());
+    anyhow!("a repeated message made a batch")
 }
 
 // The server after a message that was accepted before.
 fn repeated(server: Server, message: Up) -> Result<Server> {
     match server.prepare(Input::Up(message), Moment::at(NOW)) {
-        Ok(Turn::Quiet(server, _)) => Ok(server),
-        Ok(Turn::Busy(busy)) => {
-            drop(busy.abandon());
-            bail!("a repeated message made a batch")
+        Ok(Turn::Quiet(server, answers)) => {
+            drop(answers);
+            Ok(server)
         }
-        Err((fault, _)) => Err(fault)?,
+        Ok(Turn::Busy(busy)) => Err(unwanted(busy)),
+        Err(_) => Err(anyhow!("a repeated message was refused")),
     }
 }
 
