@@ -13,8 +13,6 @@ mod path;
 mod print;
 mod read;
 mod scalar;
-#[cfg(test)]
-mod tests;
 mod text;
 
 pub use fault::TreeFault;

@@ -44,7 +44,8 @@ pub trait Leaf: Form<Self> + Drop {
     // Null is no leaf, and neither is an object whose names are keys.
     ghost null_is_branch: { Self.reading null ≡ branch };
 
-    ghost object_is_branch: { (members : Members) → HasKeys members → Self.reading (object members) ≡ branch };
+    ghost object_is_branch: { (members : Members) → HasKeys members
+        → Self.reading (object members) ≡ branch };
 }
 
 /// A value over leaves of the type `L`: null, one leaf, or values under keys. Null has one form:
@@ -205,7 +206,8 @@ impl<L: Drop> Nested<L> {
         value: Option<Nested<L>>,
     ) -> Result<(), TreeFault>
         requires { Fits path.now (rows_in value) }
-        ensures ok { IfOk result (λ _. self.new ≡ after self.old (write path.now (rows_in value) ∷ [])) }
+        ensures ok { IfOk result (λ _.
+            self.new ≡ after self.old (write path.now (rows_in value) ∷ [])) }
         ensures err { IfErr result (λ e. (e ≡ Memory) × (self.new ≡ self.old)) }
     {
         match value {
@@ -240,7 +242,8 @@ impl<L: Drop> Nested<L> {
         requires some { is_null value ≡ false }
         requires fits { Fits path.now value }
         ensures ok { IfOk result (λ _. self.new ≡ after self.old (write path.now value ∷ [])) }
-        ensures back { IfOk result (λ place. Undoes (take place.0 path.now) place.1 self.old self.new) }
+        ensures back { IfOk result (λ place.
+            Undoes (take place.0 path.now) place.1 self.old self.new) }
         ensures err { IfErr result (λ e. (e ≡ Memory) × (self.new ≡ self.old)) }
     {
         // it ensures that the value is one
@@ -317,7 +320,8 @@ impl<L: Drop> Nested<L> {
         requires fits { Fits keys.now value }
         ensures ok { IfOk result (λ _. self.new ≡ after self.old (write keys.now value ∷ [])) }
         ensures depth { IfOk result (λ place. place.0 ≤ length keys.now) }
-        ensures back { IfOk result (λ place. Undoes (take place.0 keys.now) place.1 self.old self.new) }
+        ensures back { IfOk result (λ place.
+            Undoes (take place.0 keys.now) place.1 self.old self.new) }
         ensures err { IfErr result (λ _. self.new ≡ self.old) }
     {
         let Some((key, rest)) = keys.split_first() else {
@@ -422,7 +426,8 @@ fn changed_children<L, M: Drop, C: Change<L, M>>(
     children: &BTreeMap<Key, Nested<L>>,
     how: &C,
 ) -> Result<BTreeMap<Key, Nested<M>>, AllocError>
-    ensures entries { IfOk result (λ m. m.entries ≡ children_with (C.makes how.now) children.now.entries) }
+    ensures entries { IfOk result (λ m.
+        m.entries ≡ children_with (C.makes how.now) children.now.entries) }
     ensures ordered { IfOk result (λ m. IsOrdered key_cmp m) }
 {
     let mut changed = BTreeMap::new(alloc);

@@ -16,8 +16,8 @@ use std::marker::Model;
 /// levels.
 pub const MAX_DEPTH: usize = 32;
 
-/// A path: at most `MAX_DEPTH` keys from the root to a place. Contracts see it as the list of its keys.
-/// Paths are ordered key by key in byte order, a prefix first.
+/// A path: at most `MAX_DEPTH` keys from the root to a place. Contracts see it as the list of its
+/// keys. Paths are ordered key by key in byte order, a prefix first.
 #[derive(Drop)]
 pub struct Path {
     keys: Vec<Key>,
@@ -75,7 +75,8 @@ impl Path {
     /// path.
     pub fn text(&self, alloc: Global) -> Result<String, AllocError>
         ensures text { IfOk result (λ t. string_bytes t ≡ path_text self.now) }
-        ensures reads_back { IfOk result (λ t. (segments (string_bytes t) ≡ self.now) × (path_fault (string_bytes t) ≡ None)) }
+        ensures reads_back { IfOk result (λ t.
+            (segments (string_bytes t) ≡ self.now) × (path_fault (string_bytes t) ≡ None)) }
     {
         if self.keys.is_empty() {
             return String::from_str(alloc, "/");
@@ -89,7 +90,8 @@ impl Path {
     /// path.
     pub fn name(&self, alloc: Global) -> Result<String, AllocError>
         ensures name { IfOk result (λ t. string_bytes t ≡ drop 1 (path_text self.now)) }
-        ensures reads_back { IfOk result (λ t. (segments (string_bytes t) ≡ self.now) × (path_fault (string_bytes t) ≡ None)) }
+        ensures reads_back { IfOk result (λ t.
+            (segments (string_bytes t) ≡ self.now) × (path_fault (string_bytes t) ≡ None)) }
     {
         let Some((first, rest)) = self.keys.split_first() else {
             return Ok(String::new(alloc));
@@ -132,7 +134,8 @@ impl Path {
     /// more than `MAX_DEPTH` keys together.
     pub fn join(&self, alloc: Global, other: &Path) -> Result<Path, TreeFault>
         ensures path { IfOk result (λ p. p ≡ self.now ++ other.now) }
-        ensures deep { IsErrOf result TreeFault.TooDeep ↔ (max_depth < length self.now + length other.now) }
+        ensures deep { IsErrOf result TreeFault.TooDeep
+            ↔ (max_depth < length self.now + length other.now) }
         ensures err { IfErr result (λ e. (e ≡ TooDeep) ⊎ (e ≡ Memory)) }
     {
         if self.keys.len() + other.keys.len() > MAX_DEPTH {
@@ -234,7 +237,8 @@ impl PartialOrd for Path {
 
     ghost partial_cmp = { as_partial_cmp (slice_cmp (slice_cmp nat_cmp)) };
 
-    ghost laws = { partial_order_from_own_ties (Prim.search (comparing, rules)) (lists_ties (slice_cmp nat_cmp) texts_ties) };
+    ghost laws = { partial_order_from_own_ties (Prim.search (comparing, rules))
+        (lists_ties (slice_cmp nat_cmp) texts_ties) };
 
     fn partial_cmp(&self, other: &Path) -> Option<Ordering> {
         Some(self.cmp(other))

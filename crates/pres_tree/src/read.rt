@@ -5,7 +5,7 @@ ghost use Rattle.serde_json.specs.View.{view, items_view, members_view};
 ghost use Rattle.pres_tree.specs.declared.fault.TreeFault.TheVariants.{Memory};
 ghost use Rattle.pres_tree.specs.Paths.{max_depth, path_cmp, sorted_by};
 ghost use Rattle.pres_tree.specs.Rows.{Fits};
-ghost use Rattle.pres_tree.specs.Reading.{rows_of, fault_of, items_rows, items_fault, members_rows, members_fault, first_of, fault_in, Shallow};
+ghost use Rattle.pres_tree.specs.Reading.{levels_below, rows_of, fault_of, items_rows, items_fault, members_rows, members_fault, first_of, fault_in, Shallow};
 
 use crate::fault::TreeFault;
 use crate::key::Key;
@@ -49,7 +49,8 @@ impl<L: Leaf> Nested<L> {
     /// answered: at a key EmptyKey, LongKey, BadKey, at a leaf TooDeep, NotWhole, Range.
     pub fn from_value(alloc: Global, value: &Value) -> Result<Nested<L>, TreeFault>
         ensures { MatchResult result
-            (λ t. (fault_of L.reading (max_depth + 1) (view value.now) ≡ None) × (t ≡ rows_of L.reading (view value.now)))
+            (λ t. (fault_of L.reading (max_depth + 1) (view value.now) ≡ None)
+            × (t ≡ rows_of L.reading (view value.now)))
             (λ e. (e ≡ Memory) ⊎ (fault_of L.reading (max_depth + 1) (view value.now) ≡ Some e)) }
     {
         read_at::<L, L>(alloc, value, LEVELS)
@@ -62,8 +63,10 @@ impl<L: Leaf> Nested<L> {
         path: &Path,
     ) -> Result<Nested<L>, TreeFault>
         ensures read { MatchResult result
-            (λ t. (fault_of L.reading (max_depth + 1 - length path.now) (view value.now) ≡ None) × (t ≡ rows_of L.reading (view value.now)))
-            (λ e. (e ≡ Memory) ⊎ (fault_of L.reading (max_depth + 1 - length path.now) (view value.now) ≡ Some e)) }
+            (λ t. (fault_of L.reading (levels_below path.now) (view value.now) ≡ None)
+            × (t ≡ rows_of L.reading (view value.now)))
+            (λ e. (e ≡ Memory)
+            ⊎ (fault_of L.reading (levels_below path.now) (view value.now) ≡ Some e)) }
         ensures fits { IfOk result (λ t. Fits path.now t) }
     {
         Nested::from_value_as::<L>(alloc, value, path)
@@ -78,8 +81,10 @@ impl<L: Drop> Nested<L> {
         path: &Path,
     ) -> Result<Nested<L>, TreeFault>
         ensures read { MatchResult result
-            (λ t. (fault_of F.reading (max_depth + 1 - length path.now) (view value.now) ≡ None) × (t ≡ rows_of F.reading (view value.now)))
-            (λ e. (e ≡ Memory) ⊎ (fault_of F.reading (max_depth + 1 - length path.now) (view value.now) ≡ Some e)) }
+            (λ t. (fault_of F.reading (levels_below path.now) (view value.now) ≡ None)
+            × (t ≡ rows_of F.reading (view value.now)))
+            (λ e. (e ≡ Memory)
+            ⊎ (fault_of F.reading (levels_below path.now) (view value.now) ≡ Some e)) }
         ensures fits { IfOk result (λ t. Fits path.now t) }
     {
         read_at::<L, F>(alloc, value, LEVELS - path.len())
@@ -95,7 +100,8 @@ fn read_at<L: Drop, F: Form<L>>(
 ) -> Result<Nested<L>, TreeFault>
     requires { left ≤ max_depth + 1 }
     ensures read { MatchResult result
-        (λ t. (fault_of F.reading left (view value.now) ≡ None) × (t ≡ rows_of F.reading (view value.now)))
+        (λ t. (fault_of F.reading left (view value.now) ≡ None)
+        × (t ≡ rows_of F.reading (view value.now)))
         (λ e. (e ≡ Memory) ⊎ (fault_of F.reading left (view value.now) ≡ Some e)) }
     ensures shallow { IfOk result (λ t. Shallow left t) }
 {
@@ -120,8 +126,10 @@ fn read_items<L: Drop, F: Form<L>>(
 ) -> Result<Nested<L>, TreeFault>
     requires { left ≤ max_depth }
     ensures read { MatchResult result
-        (λ t. (items_fault F.reading left 0 (items_view items.now.items) ≡ None) × (t ≡ sorted_by path_cmp (items_rows F.reading 0 (items_view items.now.items))))
-        (λ e. (e ≡ Memory) ⊎ (fault_in (items_fault F.reading left 0 (items_view items.now.items)) ≡ Some e)) }
+        (λ t. (items_fault F.reading left 0 (items_view items.now.items) ≡ None)
+        × (t ≡ sorted_by path_cmp (items_rows F.reading 0 (items_view items.now.items))))
+        (λ e. (e ≡ Memory)
+        ⊎ (fault_in (items_fault F.reading left 0 (items_view items.now.items)) ≡ Some e)) }
     ensures shallow { IfOk result (λ t. Shallow (left + 1) t) }
 {
     let mut children = BTreeMap::new(alloc);
@@ -164,8 +172,10 @@ fn read_members<L: Drop, F: Form<L>>(
 ) -> Result<Nested<L>, TreeFault>
     requires { left ≤ max_depth }
     ensures read { MatchResult result
-        (λ t. (members_fault F.reading left (members_view members.now.entries) ≡ None) × (t ≡ sorted_by path_cmp (members_rows F.reading (members_view members.now.entries))))
-        (λ e. (e ≡ Memory) ⊎ (members_fault F.reading left (members_view members.now.entries) ≡ Some e)) }
+        (λ t. (members_fault F.reading left (members_view members.now.entries) ≡ None)
+        × (t ≡ sorted_by path_cmp (members_rows F.reading (members_view members.now.entries))))
+        (λ e. (e ≡ Memory)
+        ⊎ (members_fault F.reading left (members_view members.now.entries) ≡ Some e)) }
     ensures shallow { IfOk result (λ t. Shallow (left + 1) t) }
 {
     let mut children = BTreeMap::new(alloc);

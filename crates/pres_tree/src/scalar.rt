@@ -63,7 +63,7 @@ impl Leaf for Scalar {
         match (self, other) {
             (Scalar::Bool(truth), Scalar::Bool(other)) => truth == other,
             (Scalar::Int(number), Scalar::Int(other)) => number == other,
-            (Scalar::Text(text), Scalar::Text(other)) => text.as_str() == other.as_str(),
+            (Scalar::Text(text), Scalar::Text(other)) => text == other,
             _ => false,
         }
     }
