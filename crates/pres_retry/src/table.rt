@@ -127,13 +127,14 @@ impl RetryTable {
     pub fn find(&self, client: &ClientId, n: Number) -> Verdict<'_>
         ensures { told result ≡ verdict n (rows_of client.now self.now) }
     {
-        if let Some(row) = self.row(client, n) {
-            return Verdict::Again(row);
-        }
+        // it ensures that numbers count from 1
+        let _ = n.get();
         if self.last(client).next() == Some(n) {
-            Verdict::New
-        } else {
-            Verdict::Gap
+            return Verdict::New;
+        }
+        match self.row(client, n) {
+            Some(row) => Verdict::Again(row),
+            None => Verdict::Gap,
         }
     }
 
@@ -147,8 +148,10 @@ impl RetryTable {
     ) -> Result<(), RetryFault>
         requires { n ≡ length (rows_of client self.old) + 1 }
         ensures recorded { OnOk result (self.new ≡ recorded client n (row done kept) self.old) }
-        ensures own { OnOk result (rows_of client self.new ≡ rows_of client self.old ++ row done kept ∷ []) }
-        ensures others { OnOk result ((other : ClientId) → other ≢ client → rows_of other self.new ≡ rows_of other self.old) }
+        ensures own { OnOk result
+            (rows_of client self.new ≡ rows_of client self.old ++ row done kept ∷ []) }
+        ensures others { OnOk result ((other : ClientId) → other ≢ client
+            → rows_of other self.new ≡ rows_of other self.old) }
         ensures err { IfErr result (λ e. (e ≡ Memory) × (self.new ≡ self.old)) }
     {
         let row = Row { done, kept };

@@ -40,7 +40,7 @@ room_by (Some Never) l k a b = absurd (cc)
 room_by (Some (Gone last)) l k a b = absurd (cc)
 room_by (Some (Live session)) l k a b =
     let c : session.count ≡ l.count = ap (λ (o : Option LivePart). (unwrap_or o l).count) k in
-    let e : session.emitted ≡ l.sent = ap (λ (o : Option LivePart). (unwrap_or o l).sent) k in
+    let e : session.sent ≡ l.sent = ap (λ (o : Option LivePart). (unwrap_or o l).sent) k in
     (omega arith, omega arith)
 
 room_there : (es : List Entry) (s : SessionId) (index : Index) → Indexed es index → Sound es → is_open s es ≡ true → length es + 1 < 2 ^ 53 → HasRoom (place_at index s.client)

@@ -40,11 +40,11 @@ moment_at place = option_map (λ session. session.heard) (session_at place)
 
 -- what answers and checks need of it
 abbrev pub live_part : Session → LivePart
-live_part session = record { stamp = session.stamp; count = session.count; sent = session.emitted }
+live_part session = record { stamp = session.stamp; count = session.count; sent = session.sent }
 
 -- a session after a message of its client that was accepted at the moment, and answered
 abbrev pub answered : ℕ → Session → Session
-answered moment session = record { stamp = session.stamp; count = session.count + 1; emitted = session.emitted + 1; heard = max session.heard moment; plan = session.plan }
+answered moment session = record { stamp = session.stamp; count = session.count + 1; sent = session.sent + 1; heard = max session.heard moment; plan = session.plan }
 
 -- where a client stands after such a message, and after the end of its session
 abbrev pub answered_at : ℕ → Option Place → Option Place
@@ -57,7 +57,7 @@ ended_at other = other
 
 -- heard of at the moment
 abbrev pub heard_at : ℕ → Option Place → Option Place
-heard_at moment (Some (Live session)) = Some (Live (record { stamp = session.stamp; count = session.count; emitted = session.emitted; heard = max session.heard moment; plan = session.plan }))
+heard_at moment (Some (Live session)) = Some (Live (record { stamp = session.stamp; count = session.count; sent = session.sent; heard = max session.heard moment; plan = session.plan }))
 heard_at moment other = other
 
 -- a session that begins
@@ -72,7 +72,7 @@ place_after moment _ before = answered_at moment before
 
 -- a session is open that has a number left for a message each way
 abbrev pub HasRoom : Option Place → Type 0
-HasRoom (Some (Live session)) = (session.count < greatest_number) × (session.emitted < greatest_number)
+HasRoom (Some (Live session)) = (session.count < greatest_number) × (session.sent < greatest_number)
 HasRoom _ = ⊥
 
 -- none is open, and the stamp is greater than the last one

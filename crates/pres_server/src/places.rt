@@ -33,7 +33,7 @@ fn next_session(slot: Slot<NoPlan>, stamp: Stamp, moment: Moment) -> Live<NoPlan
 // Counts a message of the open session, and its answer: the answer's number.
 fn answer_in(slot: &mut Slot<NoPlan>, moment: Moment) -> Number
     requires { HasRoom (Some slot.old) }
-    ensures number { Some result ≡ option_map (λ s. s.emitted + 1) (session_at (Some slot.old)) }
+    ensures number { Some result ≡ option_map (λ s. s.sent + 1) (session_at (Some slot.old)) }
     ensures slot { Some slot.new ≡ answered_at moment (Some slot.old) }
 {
     let Slot::Live(live) = slot else {
@@ -51,7 +51,7 @@ fn answer_in(slot: &mut Slot<NoPlan>, moment: Moment) -> Number
 fn end_in(slot: &mut Slot<NoPlan>, why: Why, rows: &[Basic]) -> Number
     requires room { HasRoom (Some slot.old) }
     requires due { rows.now ≡ [] }
-    ensures number { Some result ≡ option_map (λ s. s.emitted + 1) (session_at (Some slot.old)) }
+    ensures number { Some result ≡ option_map (λ s. s.sent + 1) (session_at (Some slot.old)) }
     ensures slot { Some slot.new ≡ ended_at (Some slot.old) }
 {
     let Slot::Live(mut live) = replace(slot, Slot::Never) else {
@@ -102,7 +102,7 @@ pub(crate) fn answer(
     moment: Moment,
 ) -> Number
     requires { HasRoom (get client_cmp places.old client.now) }
-    ensures number { Some result ≡ option_map (λ s. s.emitted + 1) (session_at (get client_cmp places.old client.now)) }
+    ensures number { Some result ≡ option_map (λ s. s.sent + 1) (session_at (get client_cmp places.old client.now)) }
     ensures places { Updates client_cmp places.old places.new client.now (answered_at moment (get client_cmp places.old client.now)) }
 {
     let Some(slot) = places.get_mut(client) else {
@@ -120,7 +120,7 @@ pub(crate) fn end(
 ) -> Number
     requires room { HasRoom (get client_cmp places.old client.now) }
     requires due { rows.now ≡ [] }
-    ensures number { Some result ≡ option_map (λ s. s.emitted + 1) (session_at (get client_cmp places.old client.now)) }
+    ensures number { Some result ≡ option_map (λ s. s.sent + 1) (session_at (get client_cmp places.old client.now)) }
     ensures places { Updates client_cmp places.old places.new client.now (ended_at (get client_cmp places.old client.now)) }
 {
     let Some(slot) = places.get_mut(client) else {

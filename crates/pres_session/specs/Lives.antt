@@ -7,7 +7,7 @@ pub record Life (P : Type 0) : Type 0 where
   -- the number of the client's last message, 0 before the first
   pub count : ℕ
   -- the number of the last message to the client, 0 before the first
-  pub emitted : ℕ
+  pub sent : ℕ
   -- when the client was heard of last
   pub heard : ℕ
   -- what is owed at the end
@@ -15,4 +15,4 @@ pub record Life (P : Type 0) : Type 0 where
 
 -- a session that begins
 abbrev pub opened : {P : Type 0} → Stamp → ℕ → P → Life P
-opened stamp heard plan = record { stamp = stamp; count = 0; emitted = 0; heard = heard; plan = plan }
+opened stamp heard plan = record { stamp = stamp; count = 0; sent = 0; heard = heard; plan = plan }

@@ -19,7 +19,7 @@ use std::marker::Model;
 pub struct Live<P> {
     stamp: Stamp,
     count: Count,
-    emitted: Count,
+    sent: Count,
     heard: Moment,
     plan: P,
 }
@@ -29,7 +29,13 @@ impl<P> Model for Live<P> {
 
     ghost Value = { Life P };
 
-    ghost view = { λ l. record { stamp = l.stamp; count = l.count; emitted = l.emitted; heard = l.heard; plan = l.plan } };
+    ghost view = { λ l. record {
+      stamp = l.stamp;
+      count = l.count;
+      sent = l.sent;
+      heard = l.heard;
+      plan = l.plan;
+    } };
 }
 
 /// The session of a client that had none.
@@ -39,7 +45,7 @@ pub fn first<P>(stamp: Stamp, heard: Moment, plan: P) -> Live<P>
     Live {
         stamp,
         count: Count::zero(),
-        emitted: Count::zero(),
+        sent: Count::zero(),
         heard,
         plan,
     }
@@ -61,10 +67,10 @@ impl<P> Live<P> {
     }
 
     /// How many messages to the client were numbered.
-    pub fn emitted(&self) -> Count
-        ensures { result ≡ self.now.emitted }
+    pub fn sent(&self) -> Count
+        ensures { result ≡ self.now.sent }
     {
-        self.emitted
+        self.sent
     }
 
     /// When the client was heard of last.
@@ -113,15 +119,15 @@ impl<P> Live<P> {
 
     /// The number of the next message to the client, from 1 on. Spent after 2^53 - 1.
     pub fn emit(&mut self) -> Result<Number, SessionFault>
-        ensures number { IfOk result (λ r. r ≡ self.old.emitted + 1) }
-        ensures counted { IfOk result (λ r. self.new ≡ record self.old { emitted = r }) }
-        ensures spent { IfErr result (λ e. (e ≡ Spent) × (self.old.emitted ≡ greatest_number)) }
+        ensures number { IfOk result (λ r. r ≡ self.old.sent + 1) }
+        ensures counted { IfOk result (λ r. self.new ≡ record self.old { sent = r }) }
+        ensures spent { IfErr result (λ e. (e ≡ Spent) × (self.old.sent ≡ greatest_number)) }
         ensures unchanged { OnErr result (self.new ≡ self.old) }
     {
-        let Some(number) = self.emitted.next() else {
+        let Some(number) = self.sent.next() else {
             return Err(SessionFault::Spent);
         };
-        self.emitted = Count::up_to(number);
+        self.sent = Count::up_to(number);
         Ok(number)
     }
 

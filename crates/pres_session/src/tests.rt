@@ -23,7 +23,7 @@ fn a_client_comes_and_goes(rt: HostRuntime) -> Result<(), Fail> {
     assert_eq!(rt; due.why(), Why::Lost);
     let live = due.put_back();
     assert_eq!(rt; live.count().get(), 2);
-    assert_eq!(rt; live.emitted().get(), 1);
+    assert_eq!(rt; live.sent().get(), 1);
     let gone = live.end(Why::Bye).spend(&[]);
     let Err((fault, gone, plan)) = gone.open(stamp(1, 1)?, Moment::at(4000), NoPlan) else {
         return Err(Fail::from("an equal stamp was accepted"));
