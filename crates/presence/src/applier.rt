@@ -9,13 +9,10 @@ ghost use Rattle.presence.specs.Faults.{EndsAt};
 use crate::faults::{LineFault, RunFault};
 use pres_log::{Fault, Plain};
 use pres_tree::{Tree, TreeFault};
-use pres_write::{Kept, Moment, Op, WriteFault};
+use pres_write::{Kept, MAX_SAFE_INTEGER, Moment, Op, WriteFault};
 use serde_json::Value;
 use std::alloc::{AllocError, Global};
 use std::marker::Model;
-
-// 2^53 - 1, the greatest moment that a line may name.
-const LAST_MOMENT: u64 = 9007199254740991;
 
 /// The log that the lines so far have made, and whether one of them was refused.
 #[derive(Drop)]
@@ -168,7 +165,7 @@ fn moment_of(value: &Value) -> Option<Moment>
     ensures { result ≡ moment_in (view value.now) }
 {
     let now = value.get("now").and_then(Value::as_u64)?;
-    if now > LAST_MOMENT {
+    if now > MAX_SAFE_INTEGER {
         return None;
     }
     Some(Moment::at(now))
