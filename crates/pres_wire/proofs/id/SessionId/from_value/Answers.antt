@@ -3,8 +3,8 @@ use Rattle.serde_json.specs.Find.{as_array}
 use Rattle.serde_json.specs.View.{view, items_view}
 use Rattle.pres_wire.specs.Fields.{session_in_items}
 use Rattle.pres_wire.proofs.Sessions.{too_few, too_many}
-use Rattle.pres_wire.proofs.field.session_of.Goals as goal
-use Rattle.pres_wire.proofs.field.session_of.Goals.{in_default-as_slice-via-then-as_slice-lt3, in_default-as_slice-via-else-as_slice-lt3+else-this-lt4}
+use Rattle.pres_wire.proofs.id.SessionId.from_value.Goals as goal
+use Rattle.pres_wire.proofs.id.SessionId.from_value.Goals.{in_default-as_slice-via-then-as_slice-lt3, in_default-as_slice-via-else-as_slice-lt3+else-this-lt4}
 
 pub returns-in_default-as_slice : goal.returns-in_default-as_slice
 returns-in_default-as_slice c =
