@@ -16,7 +16,7 @@ use Rattle.pres_tree.specs.declared.fault.TreeFault.TheVariants.{TooDeep, Range,
 use Rattle.pres_tree.specs.declared.scalar.Scalar.{Scalar}
 use Rattle.pres_tree.specs.declared.scalar.Scalar.TheVariants.{Bool as BoolOf, Int, Text}
 use Rattle.pres_tree.specs.Paths.{Path, path_text, path_fault, segments, sorted_by}
-use Rattle.pres_tree.specs.Rows.{Rows, is_null}
+use Rattle.pres_tree.specs.Rows.{Rows}
 use Rattle.pres_tree.specs.Reading.{Reading, branch, leaf, bad, is_leaf, fault_of}
 use Rattle.pres_tree.specs.Printing.{json_of}
 use Rattle.pres_tree.specs.Scalars.{scalar_printing, number_reading}

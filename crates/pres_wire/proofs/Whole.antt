@@ -13,7 +13,7 @@ use Rattle.pres_tree.specs.declared.scalar.Scalar.{Scalar}
 use Rattle.pres_tree.specs.declared.scalar.Scalar.TheVariants.{Bool as BoolOf, Int, Text}
 use Rattle.pres_tree.specs.Keys.{Key, same_key}
 use Rattle.pres_tree.specs.Paths.{Path, path_text, sorted_by}
-use Rattle.pres_tree.specs.Rows.{Rows, is_null, rows_in}
+use Rattle.pres_tree.specs.Rows.{Rows, rows_in}
 use Rattle.pres_tree.specs.Printing.{json_of, with_row, with_first, members_in}
 use Rattle.pres_tree.specs.Scalars.{scalar_printing}
 use Rattle.pres_write.specs.declared.draft.Slot.{Slot}
