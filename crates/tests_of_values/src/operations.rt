@@ -1,5 +1,5 @@
-//! Tests of operations as JSON texts: what they leave in a tree, and why they are refused. A table is
-//! a text of lines, each a case and what it must answer. Each helper holds few values at once.
+//! Tests of operations as JSON texts: what they leave in a tree, and why they are refused. A table
+//! is a text of lines, each a case and what it must answer. Each helper holds few values at once.
 
 ghost use Rattle.std.specs.Prelude.{IfOk};
 ghost use Rattle.pres_write.specs.Basics.{Apart};
@@ -454,9 +454,15 @@ fn writes_and_operations_are_made(rt: HostRuntime) -> Result<(), Fail> {
     assert_eq!(rt; wrong.as_str(), "");
     let alloc = rt.alloc();
     let set = answer(alloc, Table::Sets, r#"/a {".sv":"timestamp"}"#)?;
-    assert_eq!(rt; set.as_str(), r#"{"op":"set","path":"/a","value":{".sv":"timestamp"}}"#);
+    assert_eq!(rt;
+        set.as_str(),
+        r#"{"op":"set","path":"/a","value":{".sv":"timestamp"}}"#
+    );
     let tx = answer(alloc, Table::Txs, "/a 2")?;
-    assert_eq!(rt; tx.as_str(), r#"{"expect":1,"op":"tx","path":"/a","value":2}"#);
+    assert_eq!(rt;
+        tx.as_str(),
+        r#"{"expect":1,"op":"tx","path":"/a","value":2}"#
+    );
     Ok(())
 }
 
