@@ -80,7 +80,7 @@ impl Applier {
             Err(Fault::Spent) => return Err(RunFault::Spent),
             Err(_) => return Err(RunFault::Memory),
         };
-        let text = kept_text(self.alloc, number, &kept)?;
+        let text = kept_text(self.alloc, number.get(), &kept)?;
         out.extend_from_slice(text.as_bytes())?;
         Ok(())
     }
