@@ -20,9 +20,8 @@ use Rattle.pres_log.specs.declared.entry.Entry.TheVariants as entry
 use Rattle.pres_tree.specs.Paths.{sorted_by}
 use Rattle.pres_wire.specs.Ids.{ClientId, client_cmp, same_client, is_earlier, stamp_of}
 use Rattle.pres_server.specs.Sessions.{session_of, opened_by, opened, opens, ends, is_open, sessions_of, open_entries, open_sessions_of, open_sessions, is_newest, last_of}
-use Rattle.pres_server.specs.Streams.{Unnumbered, stream, sent_for, own_answer, numbered_from}
-use Rattle.pres_server.specs.Answers.{added, answers_to}
-use Rattle.pres_server.specs.Fits.{Fits}
+use Rattle.pres_server.specs.Streams.{Unnumbered, stream, sent_for, own_answer, numbered_from, added, answers_to}
+use Rattle.pres_server.specs.Invariants.{Fits}
 use Rattle.pres_server.specs.Parts.{LivePart, session_with, part_of, live_in, open_step, told, told_row, answer_by, Sound, listed, comes_after}
 use Rattle.pres_server.proofs.Since.{client_same, client_itself, session_same, session_itself, any-append}
 use Rattle.pres_server.proofs.StreamSteps.{stream_step}

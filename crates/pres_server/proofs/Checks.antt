@@ -5,9 +5,8 @@ use Rattle.std.specs.Result.{IsErr, IsErrAnd}
 use Rattle.pres_wire.specs.declared.id.SessionId.{SessionId}
 use Rattle.pres_log.specs.declared.fault.Fault.{Fault}
 use Rattle.pres_server.specs.declared.turn.Step.{Step}
-use Rattle.pres_server.specs.Messages.{Decision}
-use Rattle.pres_server.specs.Decide.{limited_by}
-use Rattle.pres_server.specs.Calls.{IsRefusal, Decides}
+use Rattle.pres_server.specs.Turns.{Decision, IsRefusal, Decides}
+use Rattle.pres_server.specs.Parts.{limited_by}
 
 -- a result that gives the refusal of a call on
 pub refused_by : (from : Option SessionId) (d : Decision) (r : Result Step Fault) (f : Fault) → IsErr r × IsErrAnd r (λ x. x ≡ f) → IsRefusal d f → Decides from d r

@@ -12,7 +12,7 @@ use Rattle.pres_session.specs.declared.slot.Slot.TheVariants.{Never, Gone, Live}
 use Rattle.pres_retry.specs.declared.table.Record.{Record}
 use Rattle.pres_retry.specs.declared.table.Row.{Row}
 use Rattle.pres_retry.specs.Tables.{row, rows_of}
-use Rattle.pres_retry.specs.Verdicts.{verdict, told_row, again, fresh}
+use Rattle.pres_retry.specs.Verdicts.{verdict, told_row, again, fresh, gap}
 use Rattle.pres_retry.proofs.Records.{rows_of_recorded}
 use Rattle.pres_log.specs.declared.entry.Entry.{Entry}
 use Rattle.pres_log.specs.declared.entry.Entry.TheVariants as entry
@@ -20,12 +20,11 @@ use Rattle.pres_log.specs.Logs.{tree, writes_of}
 use Rattle.pres_log.proofs.Entries.{tree-append}
 use Rattle.pres_server.specs.declared.index.Index.{Index}
 use Rattle.pres_server.specs.Sessions.{session_of, is_open, open_sessions, count}
-use Rattle.pres_server.specs.Streams.{stream}
-use Rattle.pres_server.specs.Answers.{answers_to}
+use Rattle.pres_server.specs.Streams.{stream, answers_to}
 use Rattle.pres_server.specs.Parts.{Part, LivePart, Sound, part_of, part_step, live_in, answer_by, open_step, comes_after}
-use Rattle.pres_server.specs.Fits.{Fits, AllFit, WritesFit}
-use Rattle.pres_server.specs.Slots.{Place, session_at, last_at, live_part, place_after, HasRoom, MayOpen}
-use Rattle.pres_server.specs.Index.{place_at, part_at, retry_after, tree_after_entry, Steps, Takes, Indexed, Fitting}
+use Rattle.pres_server.specs.Turns.{WritesFit}
+use Rattle.pres_server.specs.Invariants.{Fits, AllFit, Fitting}
+use Rattle.pres_server.specs.Index.{Place, session_at, last_at, live_part, place_after, HasRoom, MayOpen, place_at, part_at, retry_after, tree_after_entry, Steps, Takes, Indexed}
 use Rattle.pres_server.proofs.Since.{client_same, client_itself}
 use Rattle.pres_server.proofs.Parts.{part_after, only_open, row_there}
 use Rattle.pres_server.proofs.AfterEntry.{sound_after, open_after, answers_are, same_by_cmp}
@@ -59,8 +58,13 @@ may_open (Some (Live session)) stamp l k = absurd (cc)
 not_next : (n k : ℕ) → n ≤ k → (n == k + 1) ≡ false
 not_next n k h = grind (arith, nat_tests)
 
-is_again : (n : ℕ) (rows : List Row) (kept : Row) → n ≤ length rows → slice_get rows (n - 1) ≡ Some kept → verdict n rows ≡ again kept
-is_again n rows kept low k = ap (λ b. cond b fresh (told_row (slice_get rows (n - 1)))) (not_next n (length rows) low) ∙ ap told_row k
+not_zero : (n : ℕ) → 1 ≤ n → (n == 0) ≡ false
+not_zero n h = grind (arith, nat_tests)
+
+is_again : (n : ℕ) (rows : List Row) (kept : Row) → 1 ≤ n → n ≤ length rows → slice_get rows (n - 1) ≡ Some kept → verdict n rows ≡ again kept
+is_again n rows kept low high k =
+    (λ i. cond (not_zero n low i) gap (cond (not_next n (length rows) high i) fresh (told_row (slice_get rows (n - 1)))))
+    ∙ ap told_row k
 
 -- an entry that fits behind the log may be taken in
 pub takes : (es : List Entry) (m : ℕ) (e : Entry) (index : Index) → Indexed es index → Sound es → Fits es m e → All FitsThere (writes_of e) → length es + 1 < 2 ^ 53 → Takes index e
@@ -76,7 +80,7 @@ takes es m (entry.Op s q n op outcome) index ix sound f w small =
 takes es m (entry.Again s q n) index ix sound f w small =
     let r = row_there es s.client n f.1 f.2 in
     let k : slice_get (rows_of s.client index.retry) (n - 1) ≡ Some r.0 = ap (λ (p : Part). slice_get p.rows (n - 1)) (ix.parts s.client) ∙ r.1 in
-    (room_there es s index ix sound f.0.0 small, r.0, is_again n (rows_of s.client index.retry) r.0 (subst (λ (p : Part). n ≤ length p.rows) (sym (ix.parts s.client)) f.2) k, k)
+    (room_there es s index ix sound f.0.0 small, r.0, is_again n (rows_of s.client index.retry) r.0 f.1 (subst (λ (p : Part). n ≤ length p.rows) (sym (ix.parts s.client)) f.2) k, k)
 takes es m (entry.Ended s q why rows) index ix sound f w small = (room_there es s index ix sound f.0 small, f.2)
 
 -- ---- the parts after the entry

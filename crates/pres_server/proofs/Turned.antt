@@ -10,12 +10,11 @@ use Rattle.pres_log.proofs.Entries.{entries-push, last_moment-push}
 use Rattle.pres_server.specs.declared.index.Index.{Index}
 use Rattle.pres_server.specs.declared.input.Input.{Input}
 use Rattle.pres_server.specs.LegalLog.{MayFollow}
-use Rattle.pres_server.specs.Messages.{moment_of}
-use Rattle.pres_server.specs.Turns.{wanted, turn, batch_of, CountsWrites}
-use Rattle.pres_server.specs.Decide.{client_in, wanted_by, limited_by}
+use Rattle.pres_server.specs.Turns.{moment_of, wanted, turn, batch_of}
+use Rattle.pres_server.specs.Parts.{client_in, wanted_by, limited_by}
 use Rattle.pres_server.specs.Heard.{heard_after_all}
-use Rattle.pres_server.specs.Index.{part_at, heard_in, Indexed, Fitting, Tells}
-use Rattle.pres_server.specs.Kept.{Kept, Waits}
+use Rattle.pres_server.specs.Index.{part_at, heard_in, Indexed, Tells}
+use Rattle.pres_server.specs.Invariants.{Fitting, Kept, Waits}
 use Rattle.pres_server.proofs.Decide.{wanted_is, wanted_allowed, limited_is}
 use Rattle.pres_server.proofs.Whole.{legal_is_sound, legal_leaves_room, legal_after, follows_fit}
 use Rattle.pres_server.proofs.Heard.{heard_is, heard_sorted, sorted_after_all}
@@ -34,13 +33,13 @@ pub moment_is : (log : Log) (moment now : ℕ) (index : Index) → Kept log mome
 moment_is log moment now index kept low = let last = kept.last in omega arith
 
 -- what the index decides is the turn
-pub turned : (log : Log) (moment now : ℕ) (index : Index) (i : Input) → Kept log moment index → now ≤ moments.last_moment → CountsWrites i
+pub turned : (log : Log) (moment now : ℕ) (index : Index) (i : Input) → Kept log moment index → now ≤ moments.last_moment
     → turn log i now ≡ limited_by (number log) index.open_count (wanted_by (part_at index (client_in i)) index.tree (max moment now) i)
-turned log moment now index i kept low counts =
+turned log moment now index i kept low =
     let es = entries log in
     let sound = legal_is_sound log kept.legal in
     let m = moment_of log now in
-    limited_is es m (wanted es m i) sound (wanted_allowed es m i sound counts)
+    limited_is es m (wanted es m i) sound (wanted_allowed es m i sound)
     ∙ (λ x. limited_by (length es) (sym kept.indexed.open_count x) (wanted_is es m i sound x))
     ∙ (λ x. limited_by (length es) index.open_count (wanted_by (sym (kept.indexed.parts (client_in i)) x) (sym kept.indexed.tree x) (sym (moment_is log moment now index kept low) x) i))
 

@@ -18,10 +18,9 @@ use Rattle.pres_server.specs.declared.input.Input.{Input}
 use Rattle.pres_server.specs.Sessions.{session_of, opened, opens, ends, since_open, is_open, count, open_sessions}
 use Rattle.pres_server.specs.Streams.{stream, sent_for, sent_from, own_answer, repeated_reply}
 use Rattle.pres_server.specs.LegalLog.{IsLegal, IsLegalAfter, MayFollow, MayComeTogether, LeavesRoom}
-use Rattle.pres_server.specs.Messages.{Decision, makes, quiet, refused, moment_of}
-use Rattle.pres_server.specs.Turns.{wanted, turn, batch_of, log_after, CountsWrites}
-use Rattle.pres_server.specs.Claims.{TurnIsLegal, LegalIsSound}
-use Rattle.pres_server.specs.Fits.{Fits, AllFit}
+use Rattle.pres_server.specs.Turns.{Decision, makes, quiet, refused, moment_of, wanted, turn, batch_of, log_after}
+use Rattle.pres_server.specs.Laws.{TurnIsLegal, LegalIsSound}
+use Rattle.pres_server.specs.Invariants.{Fits, AllFit}
 use Rattle.pres_server.specs.Parts.{Sound}
 use Rattle.pres_server.proofs.StreamSteps.{length-numbered_from}
 use Rattle.pres_server.proofs.Parts.{fits}
@@ -159,17 +158,17 @@ legal_leaves_room = of_legal (λ log. LeavesRoom (entries log)) (let none : leng
 -- ---- turns
 
 -- what a turn makes may follow
-pub may_follow : (log : Log) (i : Input) (now : ℕ) (xs : List Entry) → IsLegal log → CountsWrites i → turn log i now ≡ makes xs → MayFollow log (batch_of log (moment_of log now) xs)
-may_follow log i now xs legal low e =
+pub may_follow : (log : Log) (i : Input) (now : ℕ) (xs : List Entry) → IsLegal log → turn log i now ≡ makes xs → MayFollow log (batch_of log (moment_of log now) xs)
+may_follow log i now xs legal e =
     let es = entries log in
     let m = moment_of log now in
-    let full : AllowedFully es m (makes xs) = subst (AllowedFully es m) e (limited_allowed es m (wanted es m i) (wanted_allowed es m i (legal_is_sound log legal) low)) in
+    let full : AllowedFully es m (makes xs) = subst (AllowedFully es m) e (limited_allowed es m (wanted es m i) (wanted_allowed es m i (legal_is_sound log legal))) in
     let range = legal_in_range log legal in
     record { first = refl; not_earlier = omega arith; in_range = omega arith; allowed = full.0; room = full.1 }
 
 pub turn_is_legal : (log : Log) (i : Input) (now : ℕ) → TurnIsLegal log i now
-turn_is_legal log i now legal low = by (turn log i now) refl where
+turn_is_legal log i now legal = by (turn log i now) refl where
   by : (d : Decision) → turn log i now ≡ d → IsLegal (log_after log (moment_of log now) d)
-  by (makes xs) e = legal_after log (batch_of log (moment_of log now) xs) legal (may_follow log i now xs legal low e)
+  by (makes xs) e = legal_after log (batch_of log (moment_of log now) xs) legal (may_follow log i now xs legal e)
   by quiet e = legal
   by (refused c) e = legal

@@ -8,12 +8,11 @@ ghost use Rattle.pres_write.specs.declared.op.Op.{Op};
 ghost use Rattle.pres_retry.specs.Tables.{row, rows_of, recorded};
 ghost use Rattle.pres_wire.specs.Ids.{ClientId, client_cmp, stamp_of};
 ghost use Rattle.pres_log.specs.declared.entry.Entry.TheVariants as entry;
-ghost use Rattle.pres_server.specs.Answers.{answers};
+ghost use Rattle.pres_server.specs.Streams.{answers};
 ghost use Rattle.pres_server.specs.Heard.{Heard, heard_after_all};
-ghost use Rattle.pres_server.specs.Index.{Indexed, Steps, Takes, Tells, Fitting, part_at, place_at};
-ghost use Rattle.pres_server.specs.Decide.{count_in};
-ghost use Rattle.pres_server.specs.Parts.{answer_by};
-ghost use Rattle.pres_server.specs.Slots.{moment_at};
+ghost use Rattle.pres_server.specs.Index.{Indexed, Steps, Takes, Tells, part_at, place_at, moment_at};
+ghost use Rattle.pres_server.specs.Invariants.{Fitting};
+ghost use Rattle.pres_server.specs.Parts.{count_in, answer_by};
 ghost use Rattle.pres_server.specs.Sessions.{session_of};
 
 use crate::places;

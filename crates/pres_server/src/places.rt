@@ -4,7 +4,7 @@ ghost use Rattle.std.specs.Prelude.{◌≡◌, ◌+◌, [], OnOk, IsSome, Some, 
 ghost use Rattle.std.specs.BTreeMap.{get, Updates, IsOrdered};
 ghost use Rattle.pres_wire.specs.Ids.{client_cmp, stamp_of};
 ghost use Rattle.pres_session.specs.declared.slot.Slot.TheVariants.{Live as LivePlace};
-ghost use Rattle.pres_server.specs.Slots.{began, session_at, last_at, MayOpen, HasRoom, answered_at, ended_at, heard_at};
+ghost use Rattle.pres_server.specs.Index.{began, session_at, last_at, MayOpen, HasRoom, answered_at, ended_at, heard_at};
 
 use pres_session::{Live, NoPlan, Slot, first};
 use pres_wire::{ClientId, Number, SessionId, Stamp, Why};

@@ -1,17 +1,15 @@
 //! The server.
 
-ghost use Rattle.std.specs.Prelude.{◌≡◌, [], IfOk, IfErr, MatchOption, Some, None, false, is_some, if◌then◌else◌};
+ghost use Rattle.std.specs.Prelude.{◌≡◌, ◌++◌, ◌∷◌, [], IfOk, IfErr, MatchOption, Some, None, false, is_some, if◌then◌else◌};
 ghost use Rattle.pres_tree.specs.Rows.{is_null, value_at};
 ghost use Rattle.pres_log.specs.Logs.{number, entries, tree};
 ghost use Rattle.pres_log.specs.declared.fault.Fault.TheVariants.{Busy as OutOfMemory};
 ghost use Rattle.pres_server.specs.Sessions.{is_open, count, has_open};
-ghost use Rattle.pres_server.specs.Heard.{heard_last, heard_again};
-ghost use Rattle.pres_server.specs.Fits.{WritesFit};
+ghost use Rattle.pres_server.specs.Heard.{heard_last, heard_again, blank};
 ghost use Rattle.pres_server.specs.Outcomes.{rows_for};
 ghost use Rattle.pres_server.specs.LegalLog.{IsLegal, MayFollow};
-ghost use Rattle.pres_server.specs.Turns.{blank, turn, batch_of, state_after};
-ghost use Rattle.pres_server.specs.Answers.{answers};
-ghost use Rattle.pres_server.specs.Calls.{IsTurn, IsRefusal};
+ghost use Rattle.pres_server.specs.Turns.{turn, batch_of, state_after, IsTurn, IsRefusal, WritesFit};
+ghost use Rattle.pres_server.specs.Streams.{answers};
 
 use crate::index::{Index, Made, take_all};
 use crate::input::Input;
@@ -38,12 +36,12 @@ pub struct Server {
 }
 
 impl Model for Server {
-    ghost use Rattle.pres_server.specs.Turns.{State};
+    ghost use Rattle.pres_server.specs.Heard.{State};
 
     ghost Value = { State };
 
     ghost use Rattle.pres_server.specs.Index.{heard_in};
-    ghost use Rattle.pres_server.specs.Kept.{Kept};
+    ghost use Rattle.pres_server.specs.Invariants.{Kept};
 
     ghost view = { λ s. record { log = s.log; heard = heard_in s.index } };
 
@@ -59,11 +57,11 @@ pub struct Busy {
 }
 
 impl Model for Busy {
-    ghost use Rattle.pres_server.specs.Turns.{Pending};
+    ghost use Rattle.pres_server.specs.Heard.{Pending};
 
     ghost Value = { Pending };
 
-    ghost use Rattle.pres_server.specs.Kept.{Waits};
+    ghost use Rattle.pres_server.specs.Invariants.{Waits};
 
     ghost view = { λ b. record { state = b.server; moment = b.batch.moment; made = b.batch.entries } };
 
@@ -206,7 +204,8 @@ impl Server {
 impl Busy {
     /// The batch that is to be committed.
     pub fn batch(&self) -> &Batch
-        ensures { result.now ≡ batch_of self.now.state.log self.now.moment self.now.made }
+        ensures made { result.now ≡ batch_of self.now.state.log self.now.moment self.now.made }
+        ensures legal { IsLegal (self.now.state.log ++ result.now ∷ []) }
     {
         &self.batch
     }

@@ -7,14 +7,10 @@ ghost use Rattle.pres_wire.specs.declared.id.Why.TheVariants as why;
 ghost use Rattle.pres_log.specs.declared.fault.Fault.TheVariants.{Busy};
 ghost use Rattle.pres_retry.specs.Verdicts.{verdict};
 ghost use Rattle.pres_log.specs.declared.entry.Entry.TheVariants as entry;
-ghost use Rattle.pres_server.specs.Messages.{Decision, makes, op_by, ends_first};
-ghost use Rattle.pres_server.specs.Decide.{wanted_by, hello_by, message_by, said_by, ends_live, is_live, client_in, limited_by, within, checked, said};
-ghost use Rattle.pres_server.specs.Calls.{Makes, Decides, StepFits};
-ghost use Rattle.pres_server.specs.Fits.{WritesFit};
-ghost use Rattle.pres_server.specs.Turns.{CountsWrites};
+ghost use Rattle.pres_server.specs.Turns.{Decision, makes, op_by, ends_first, Makes, Decides, StepFits, WritesFit};
+ghost use Rattle.pres_server.specs.Parts.{wanted_by, hello_by, message_by, said_by, ends_live, is_live, client_in, limited_by, within, checked, said, listed, session_with};
 ghost use Rattle.pres_server.specs.declared.input.Input.TheVariants as input;
 ghost use Rattle.pres_server.specs.Heard.{heard_from};
-ghost use Rattle.pres_server.specs.Parts.{listed, session_with};
 ghost use Rattle.pres_server.specs.Index.{part_at};
 
 use crate::index::Index;
@@ -229,10 +225,7 @@ impl Index {
         requires open_count { self.now.open_count < 2 ^ 53 }
         ensures step { Decides (Some session) (limited_by now.number self.now.open_count (said_by (part_at self.now session.client).live session q (op_by (verdict n (part_at self.now session.client).rows) self.now.tree now.moment session q n op))) result }
         ensures fits { IfOk result StepFits }
-        ensures counts { 1 ≤ n }
     {
-        // it ensures that writes count from 1
-        let _ = n.get();
         if !self.is_next(&session, q)? {
             return Ok(Step::Quiet(Some(session)));
         }
@@ -264,7 +257,6 @@ impl Index {
         requires open_count { self.now.open_count < 2 ^ 53 }
         ensures step { Decides (Some (session_in up)) (limited_by now.number self.now.open_count (message_by (part_at self.now (session_in up).client) self.now.tree now.moment up)) result }
         ensures fits { IfOk result StepFits }
-        ensures counts { CountsWrites (input.Up up) }
     {
         match up {
             Up::Hello { session } => Ok(Step::Makes(self.hello(alloc, session, now.number)?)),
@@ -306,7 +298,6 @@ impl Index {
         requires open_count { self.now.open_count < 2 ^ 53 }
         ensures step { Decides (heard_from input) (limited_by now.number self.now.open_count (wanted_by (part_at self.now (client_in input)) self.now.tree now.moment input)) result }
         ensures fits { IfOk result StepFits }
-        ensures counts { CountsWrites input }
     {
         match input {
             Input::Up(up) => self.message(alloc, up, now),

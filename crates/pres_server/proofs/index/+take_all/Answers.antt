@@ -1,7 +1,8 @@
 use Rattle.std.proofs.Common.{rules, ◌∙◌, ap, sym, subst, ◌≡◌, ◌++◌, ◌∷◌, [], append_assoc, IfOk}
-use Rattle.pres_server.specs.Answers.{answers}
+use Rattle.pres_server.specs.Streams.{answers}
 use Rattle.pres_server.specs.Heard.{heard_after_all}
-use Rattle.pres_server.specs.Index.{Indexed, Tells, Fitting}
+use Rattle.pres_server.specs.Index.{Indexed, Tells}
+use Rattle.pres_server.specs.Invariants.{Fitting}
 use Rattle.pres_server.proofs.Heard.{tells_after}
 use Rattle.pres_server.proofs.Taken.{first_taken, rest_fits, first_answered}
 use Rattle.pres_server.proofs.index.+take_all.Goals as goal

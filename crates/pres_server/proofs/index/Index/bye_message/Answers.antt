@@ -1,8 +1,8 @@
 use Rattle.std.proofs.Common.{◌≡◌, ◌∙◌, ap, inl, Some, [], ◌∷◌, true, cond, rules}
 use Rattle.pres_wire.specs.declared.id.Why.TheVariants as why
 use Rattle.pres_log.specs.declared.entry.Entry.TheVariants as entry
-use Rattle.pres_server.specs.Messages.{Decision, makes, quiet}
-use Rattle.pres_server.specs.Decide.{limited_by}
+use Rattle.pres_server.specs.Turns.{Decision, makes, quiet}
+use Rattle.pres_server.specs.Parts.{limited_by}
 use Rattle.pres_server.proofs.Checks.{refused_by, refused_as}
 use Rattle.pres_server.proofs.index.Index.bye_message.Goals as goal
 

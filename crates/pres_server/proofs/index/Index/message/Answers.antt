@@ -5,8 +5,8 @@ use Rattle.pres_log.specs.declared.fault.Fault.{Fault}
 use Rattle.pres_server.specs.declared.index.Index.{Index}
 use Rattle.pres_server.specs.declared.turn.Step.{Step}
 use Rattle.pres_server.specs.declared.turn.Step.TheVariants as step
-use Rattle.pres_server.specs.Decide.{message_by, limited_by}
-use Rattle.pres_server.specs.Calls.{Decides}
+use Rattle.pres_server.specs.Parts.{message_by, limited_by}
+use Rattle.pres_server.specs.Turns.{Decides}
 use Rattle.pres_server.specs.Index.{part_at}
 use Rattle.pres_server.proofs.Checks.{refused_by}
 use Rattle.pres_server.proofs.index.Index.message.Goals as goal

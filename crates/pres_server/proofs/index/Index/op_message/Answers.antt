@@ -1,7 +1,7 @@
 use Rattle.std.proofs.Common.{◌≡◌, ◌∙◌, ap, inl, true, cond, rules}
 use Rattle.pres_retry.specs.Verdicts.{verdict}
-use Rattle.pres_server.specs.Messages.{Decision, op_by, quiet}
-use Rattle.pres_server.specs.Decide.{limited_by}
+use Rattle.pres_server.specs.Turns.{Decision, op_by, quiet}
+use Rattle.pres_server.specs.Parts.{limited_by}
 use Rattle.pres_server.specs.Index.{part_at}
 use Rattle.pres_server.proofs.Checks.{refused_by, refused_as}
 use Rattle.pres_server.proofs.index.Index.op_message.Goals as goal

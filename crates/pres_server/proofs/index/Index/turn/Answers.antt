@@ -3,8 +3,8 @@ use Rattle.pres_log.specs.declared.fault.Fault.{Fault}
 use Rattle.pres_server.specs.declared.index.Index.{Index}
 use Rattle.pres_server.specs.declared.input.Input.{Input}
 use Rattle.pres_server.specs.declared.turn.Step.{Step}
-use Rattle.pres_server.specs.Decide.{wanted_by, client_in, limited_by}
-use Rattle.pres_server.specs.Calls.{Decides}
+use Rattle.pres_server.specs.Parts.{wanted_by, client_in, limited_by}
+use Rattle.pres_server.specs.Turns.{Decides}
 use Rattle.pres_server.specs.Heard.{heard_from}
 use Rattle.pres_server.specs.Index.{part_at}
 use Rattle.pres_server.proofs.index.Index.turn.Goals as goal

@@ -1,10 +1,10 @@
 use Rattle.std.proofs.Common.{◌∙◌, ap, sym, subst, ◌++◌, ◌∷◌, []}
 use Rattle.pres_log.specs.Logs.{entries}
-use Rattle.pres_server.specs.Answers.{answers}
-use Rattle.pres_server.specs.Heard.{heard_after_all}
-use Rattle.pres_server.specs.Index.{Indexed, Fitting, Tells, heard_in}
-use Rattle.pres_server.specs.Kept.{Kept, Waits}
-use Rattle.pres_server.specs.Turns.{State, Pending, state_after}
+use Rattle.pres_server.specs.Streams.{answers}
+use Rattle.pres_server.specs.Heard.{heard_after_all, State, Pending}
+use Rattle.pres_server.specs.Index.{Indexed, Tells, heard_in}
+use Rattle.pres_server.specs.Invariants.{Fitting, Kept, Waits}
+use Rattle.pres_server.specs.Turns.{state_after}
 use Rattle.pres_server.proofs.Heard.{heard_tells}
 use Rattle.pres_server.proofs.Turned.{fitting, kept_after, heard_done, batch_is}
 use Rattle.pres_server.proofs.server.Busy.done.Goals as goal
