@@ -19,6 +19,10 @@ pub option_of_some : {A : Type 0} (v : Rows A) → is_null v ≡ false → optio
 option_of_some [] h = absurd (true≢false h)
 option_of_some (r ∷ v) h = refl
 
+-- null has one form, also where it is made so a second time
+pub one_form : {A : Type 0} (o : Option (Rows A)) (v : Rows A) → o ≡ option_of v → o ≡ option_of (rows_in o)
+one_form o v e = e ∙ ap option_of (sym (rows_of_option v) ∙ ap rows_in (sym e))
+
 -- what was found is none of null
 pub held_is : {B : Type 0} (rows : B → Rows Scalar) (o : Option B) (v : Rows Scalar) → MatchOption o (v ≡ []) (λ t. (is_null (rows t) ≡ false) × IsValue (rows t) × (v ≡ rows t)) → option_map rows o ≡ option_of v
 held_is rows None v h = sym (ap option_of h)

@@ -1,8 +1,7 @@
 //! Basic writes, and how they change the tree.
 
-ghost use Rattle.std.specs.Prelude.{◌≡◌, ◌∷◌, [], All, IfOk, IfErr};
-ghost use Rattle.pres_tree.specs.Rows.{Fits, option_of, rows_in};
-ghost use Rattle.pres_tree.specs.Writes.{write, after};
+ghost use Rattle.std.specs.Prelude.{◌≡◌, ◌+◌, ◌<◌, [], IfOk, IfErr, MatchResult, length, option_copied};
+ghost use Rattle.pres_tree.specs.Rows.{Fits, depth_of, option_of, rows_in};
 ghost use Rattle.pres_tree.specs.declared.fault.TreeFault.TheVariants.{Memory};
 ghost use Rattle.pres_write.specs.Basics.{Apart, basic, FitsThere, AppliesFirst, applied};
 ghost use Rattle.pres_write.specs.Drafts.{settled};
@@ -12,18 +11,72 @@ use crate::draft::{Draft, settle};
 use crate::fault::WriteFault;
 use crate::items::Items;
 use crate::moment::Moment;
-use pres_tree::{Path, Tree};
+use crate::placement::DEEPEST;
+use pres_tree::{Path, Tree, TreeFault};
 use std::alloc::{AllocError, Global};
+use std::marker::Model;
 
 /// One write: a value that takes the place of all that stands at the path, or none, which
-/// removes it.
+/// removes it. No leaf of the value is more than 32 keys from the root, and null has one form,
+/// none. Contracts see it as the record of both.
 #[derive(Drop)]
 pub struct Basic {
-    pub path: Path,
-    pub value: Option<Tree>,
+    path: Path,
+    value: Option<Tree>,
+}
+
+impl Model for Basic {
+    ghost use Rattle.pres_write.specs.Basics.{BasicWrite, IsBasic};
+
+    ghost Value = { BasicWrite };
+
+    ghost view = { λ b. record { path = b.path; value = b.value } };
+
+    ghost invariant = { λ b. IsBasic (record { path = b.path; value = b.value }) };
 }
 
 impl Basic {
+    /// The write of the value at the path, refused as TooDeep where a leaf would stand below 32
+    /// keys. An empty value counts as none.
+    pub fn new(path: Path, value: Option<Tree>) -> Result<Basic, TreeFault>
+        ensures { MatchResult result
+            (λ made. made ≡ basic path (rows_in value))
+            (λ e. (e ≡ TreeFault.TooDeep) × (32 < length path + depth_of (rows_in value))) }
+    {
+        let value = value.unwrap_or(Tree::empty());
+        if path.len() + value.depth() > DEEPEST {
+            return Err(TreeFault::TooDeep);
+        }
+        Ok(Basic {
+            path,
+            value: some_value(value),
+        })
+    }
+
+    /// The path.
+    pub fn path(&self) -> &Path
+        ensures path { result.now ≡ self.now.path }
+        ensures fits { FitsThere self.now }
+    {
+        &self.path
+    }
+
+    /// The value, none where the write removes.
+    pub fn value(&self) -> Option<&Tree>
+        ensures value { option_copied result ≡ self.now.value }
+        ensures one_form { self.now.value ≡ option_of (rows_in self.now.value) }
+    {
+        self.value.as_ref()
+    }
+
+    /// The path and the value, which are moved.
+    pub fn into_parts(self) -> (Path, Option<Tree>)
+        ensures parts { result ≡ (self.path, self.value) }
+        ensures fits { Fits result.0 (rows_in result.1) }
+    {
+        (self.path, self.value)
+    }
+
     /// An equal write.
     pub fn copy(&self, alloc: Global) -> Result<Basic, AllocError>
         ensures { IfOk result (λ made. made ≡ self.now) }
@@ -47,8 +100,7 @@ pub(crate) fn settled_write(
     moment: Moment,
 ) -> Result<Basic, AllocError>
     requires { Fits path draft.now }
-    ensures write { IfOk result (λ made. made ≡ basic path (settled moment draft.now)) }
-    ensures fits { IfOk result (λ made. FitsThere made) }
+    ensures { IfOk result (λ made. made ≡ basic path (settled moment draft.now)) }
 {
     let value = some_value(settle(alloc, draft, moment)?);
     Ok(Basic { path, value })
@@ -64,9 +116,9 @@ fn some_value(value: Tree) -> Option<Tree>
 /// Applies the writes in their order, with copies of their values. At Memory, the one refusal, a
 /// prefix of the writes stands, none of them in part.
 pub fn apply(alloc: Global, tree: &mut Tree, writes: &[Basic]) -> Result<(), WriteFault>
-    requires { All FitsThere writes.now }
     ensures ok { IfOk result (λ _. tree.new ≡ applied tree.old writes.now) }
-    ensures err { IfErr result (λ e. (e ≡ TreeRefused Memory) × AppliesFirst writes.now tree.old tree.new) }
+    ensures err { IfErr result
+        (λ e. (e ≡ TreeRefused Memory) × AppliesFirst writes.now tree.old tree.new) }
 {
     // it ensures that the tree's rows are in order
     let _ = tree.is_empty();
@@ -83,14 +135,14 @@ pub fn apply(alloc: Global, tree: &mut Tree, writes: &[Basic]) -> Result<(), Wri
 /// Applies the writes in their order, and moves their values into the tree. At Memory, the one
 /// refusal, a prefix of the writes stands, none of them in part.
 pub fn apply_owned(alloc: Global, tree: &mut Tree, writes: Items<Basic>) -> Result<(), WriteFault>
-    requires { All FitsThere writes }
     ensures ok { IfOk result (λ _. tree.new ≡ applied tree.old writes) }
-    ensures err { IfErr result (λ e. (e ≡ TreeRefused Memory) × AppliesFirst writes tree.old tree.new) }
+    ensures err { IfErr result
+        (λ e. (e ≡ TreeRefused Memory) × AppliesFirst writes tree.old tree.new) }
 {
     // it ensures that the tree's rows are in order
     let _ = tree.is_empty();
     for write in writes.into_vec() {
-        let Basic { path, value } = write;
+        let (path, value) = write.into_parts();
         tree.set(alloc, &path, value)?;
     }
     Ok(())
@@ -99,8 +151,7 @@ pub fn apply_owned(alloc: Global, tree: &mut Tree, writes: Items<Basic>) -> Resu
 /// Applies writes of which no path is at or above another's, and moves their values into the tree:
 /// all of them or, at Memory, the one refusal, none.
 pub fn apply_all(alloc: Global, tree: &mut Tree, writes: Items<Basic>) -> Result<(), WriteFault>
-    requires fits { All FitsThere writes }
-    requires apart { Apart writes }
+    requires { Apart writes }
     ensures ok { IfOk result (λ _. tree.new ≡ applied tree.old writes) }
     ensures err { IfErr result (λ e. (e ≡ TreeRefused Memory) × (tree.new ≡ tree.old)) }
 {
@@ -111,16 +162,16 @@ pub fn apply_all(alloc: Global, tree: &mut Tree, writes: Items<Basic>) -> Result
 // The writes from the last to the first. A put is taken back where a later one is refused, and
 // what is to be removed is removed once all puts stand, so that no memory is needed to undo.
 fn put_last_first(alloc: Global, tree: &mut Tree, writes: &mut Vec<Basic>) -> Result<(), WriteFault>
-    requires fits { All FitsThere writes.old.items }
-    requires apart { Apart writes.old.items }
+    requires { Apart writes.old.items }
     ensures ok { IfOk result (λ _. tree.new ≡ applied tree.old writes.old.items) }
     ensures err { IfErr result (λ e. (e ≡ TreeRefused Memory) × (tree.new ≡ tree.old)) }
 {
     // it ensures that the tree's rows are in order
     let _ = tree.is_empty();
-    let Some(Basic { path, value }) = writes.pop() else {
+    let Some(write) = writes.pop() else {
         return Ok(());
     };
+    let (path, value) = write.into_parts();
     let value = value.unwrap_or(Tree::empty());
     if value.is_empty() {
         put_last_first(alloc, tree, writes)?;

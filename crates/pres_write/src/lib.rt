@@ -16,7 +16,7 @@ pub use basic::{Basic, apply, apply_all, apply_owned};
 pub use draft::{Draft, FixedForm, Slot, settle};
 pub use fault::WriteFault;
 pub use items::Items;
-pub use moment::Moment;
+pub use moment::{MAX_SAFE_INTEGER, Moment};
 pub use op::Op;
 pub use outcome::{Kept, Outcome};
 pub use placement::Placement;

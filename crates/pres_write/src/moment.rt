@@ -3,14 +3,15 @@
 ghost use Rattle.std.specs.Prelude.{◌≡◌, ◌≤◌, min, max};
 ghost use Rattle.pres_write.specs.Moments.{last_moment};
 
+use std::fmt;
 use std::marker::Model;
 
-// 2^53 - 1, the greatest whole number that JSON programs exchange safely (RFC 8259, section 6).
-const LAST: u64 = 9007199254740991;
+/// The greatest whole number that JSON programs exchange safely, 2^53 - 1 (RFC 8259, section 6).
+pub const MAX_SAFE_INTEGER: u64 = 9_007_199_254_740_991;
 
 /// A moment: milliseconds since the Unix epoch, at most 2^53 - 1. Contracts see it as that
 /// number.
-#[derive(Clone, Copy)]
+#[derive(Clone, Copy, Debug, PartialEq, Eq, PartialOrd, Ord)]
 pub struct Moment {
     millis: u64,
 }
@@ -34,7 +35,7 @@ impl Moment {
         ensures { result ≡ min millis last_moment }
     {
         Moment {
-            millis: millis.min(LAST),
+            millis: millis.min(MAX_SAFE_INTEGER),
         }
     }
 
@@ -53,5 +54,18 @@ impl Moment {
         Moment {
             millis: self.millis.max(other.millis),
         }
+    }
+}
+
+impl fmt::Display for Moment {
+    ghost use Rattle.std.specs.Prelude.{Some};
+    ghost use Rattle.std.specs.Fmt.{decimal};
+
+    ghost output = { λ m. Some (decimal m) };
+
+    /// The number of milliseconds.
+    fn fmt<W: fmt::Write>(&self, f: &mut fmt::Formatter<W>) -> fmt::Result {
+        let millis = self.millis;
+        write!(f, "{millis}")
     }
 }

@@ -1,11 +1,11 @@
 //! Operations, in code and in JSON, and what they come to.
 
-ghost use Rattle.std.specs.Prelude.{◌≡◌, ◌⊎◌, [], All, IfOk, IfErr, Ok, Err, MatchResult, string_bytes};
+ghost use Rattle.std.specs.Prelude.{◌≡◌, ◌⊎◌, [], IfOk, IfErr, Ok, Err, MatchResult, string_bytes};
 ghost use Rattle.serde_json.specs.View.{view};
 ghost use Rattle.pres_tree.specs.declared.fault.TreeFault.TheVariants.{Memory};
 ghost use Rattle.serde_json.specs.Find.{as_object};
 ghost use Rattle.pres_tree.specs.Rows.{Fits};
-ghost use Rattle.pres_write.specs.Basics.{Apart, FitsThere};
+ghost use Rattle.pres_write.specs.Basics.{Apart};
 ghost use Rattle.pres_write.specs.Outcomes.{resolved, writes_in};
 ghost use Rattle.pres_write.specs.OpForms.{op_read, form_read, set_read, update_read, tx_read, with_part, op_json, set_json, remove_form, set_form, update_form, tx_form};
 ghost use Rattle.pres_write.specs.declared.fault.WriteFault.TheVariants.{Tree as TreeRefused};
@@ -105,7 +105,6 @@ fn one_write(
 ) -> Result<Outcome, AllocError>
     requires { Fits path draft.now }
     ensures outcome { IfOk result (λ outcome. outcome ≡ resolved [] moment (Op.Set (path, draft.now))) }
-    ensures fits { IfOk result (λ outcome. All FitsThere (writes_in outcome)) }
     ensures apart { IfOk result (λ outcome. Apart (writes_in outcome)) }
 {
     let write = settled_write(alloc, path, draft, moment)?;
@@ -215,7 +214,6 @@ impl Op {
     /// What the operation comes to on the tree at the moment. Memory is the one refusal.
     pub fn resolve(&self, alloc: Global, tree: &Tree, moment: Moment) -> Result<Outcome, WriteFault>
         ensures outcome { IfOk result (λ outcome. outcome ≡ resolved tree.now moment self.now) }
-        ensures fits { IfOk result (λ outcome. All FitsThere (writes_in outcome)) }
         ensures apart { IfOk result (λ outcome. Apart (writes_in outcome)) }
         ensures err { IfErr result (λ e. e ≡ TreeRefused Memory) }
     {
@@ -237,7 +235,6 @@ impl Op {
         moment: Moment,
     ) -> Result<Outcome, WriteFault>
         ensures outcome { IfOk result (λ outcome. outcome ≡ resolved tree.now moment self) }
-        ensures fits { IfOk result (λ outcome. All FitsThere (writes_in outcome)) }
         ensures apart { IfOk result (λ outcome. Apart (writes_in outcome)) }
         ensures err { IfErr result (λ e. e ≡ TreeRefused Memory) }
     {

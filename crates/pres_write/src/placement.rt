@@ -10,7 +10,7 @@ use std::alloc::{AllocError, Global};
 use std::marker::Model;
 
 // The keys from the root to the deepest leaf.
-const DEEPEST: usize = 32;
+pub(crate) const DEEPEST: usize = 32;
 
 /// A draft and the path that it is to stand at, where no leaf of it is more than 32 keys from
 /// the root. Contracts see the pair of both.

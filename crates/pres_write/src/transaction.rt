@@ -1,9 +1,9 @@
 //! Transactions: a new draft for a place, if that holds the expected value.
 
-ghost use Rattle.std.specs.Prelude.{◌≡◌, ◌↔◌, ◌+◌, ◌<◌, ◌⊎◌, All, IfOk, IsTrue, MatchResult, length, option_copied};
+ghost use Rattle.std.specs.Prelude.{◌≡◌, ◌↔◌, ◌+◌, ◌<◌, ◌⊎◌, IfOk, IsTrue, MatchResult, length, option_copied};
 ghost use Rattle.pres_tree.specs.Paths.{IsPath};
 ghost use Rattle.pres_tree.specs.Rows.{Fits, depth_of, rows_in};
-ghost use Rattle.pres_write.specs.Basics.{Apart, FitsThere};
+ghost use Rattle.pres_write.specs.Basics.{Apart};
 ghost use Rattle.pres_write.specs.Outcomes.{compared, writes_in};
 
 use crate::basic::settled_write;
@@ -100,7 +100,6 @@ impl Transaction {
     /// What it comes to on the tree at the moment.
     pub fn compare(&self, alloc: Global, tree: &Tree, moment: Moment) -> Result<Outcome, AllocError>
         ensures outcome { IfOk result (λ outcome. outcome ≡ compared tree.now moment self.now) }
-        ensures fits { IfOk result (λ outcome. All FitsThere (writes_in outcome)) }
         ensures apart { IfOk result (λ outcome. Apart (writes_in outcome)) }
     {
         let held = tree.at(&self.path);

@@ -1,13 +1,13 @@
 //! Updates: drafts at several places, written all or none.
 
-ghost use Rattle.std.specs.Prelude.{◌≡◌, ◌⊎◌, ◌≤◌, ◌++◌, All, IfOk, MatchResult, Ok, Err, Some, None, length};
+ghost use Rattle.std.specs.Prelude.{◌≡◌, ◌⊎◌, ◌≤◌, ◌++◌, IfOk, MatchResult, Ok, Err, Some, None, length};
 ghost use Rattle.std.specs.BTreeMap.{IsOrdered};
 ghost use Rattle.std.specs.Map.{keys_of};
 ghost use Rattle.serde_json.specs.View.{view, members_view};
 ghost use Rattle.pres_tree.specs.Paths.{IsPath, segments, path_cmp, overlap};
 ghost use Rattle.pres_tree.specs.Reading.{rows_of};
 ghost use Rattle.pres_tree.specs.declared.fault.TreeFault.TheVariants.{Memory};
-ghost use Rattle.pres_write.specs.Basics.{Apart, FitsThere};
+ghost use Rattle.pres_write.specs.Basics.{Apart};
 ghost use Rattle.pres_write.specs.Drafts.{slot_reading};
 ghost use Rattle.pres_write.specs.OpForms.{below_read, place_fault, values_json};
 ghost use Rattle.pres_write.specs.Updates.{FitsBelow, update_writes};
@@ -109,7 +109,6 @@ impl Update {
     /// Its writes at the moment, in path order.
     pub fn writes(&self, alloc: Global, moment: Moment) -> Result<Items<Basic>, AllocError>
         ensures writes { IfOk result (λ writes. writes ≡ update_writes moment self.now) }
-        ensures fits { IfOk result (λ writes. All FitsThere writes) }
         ensures apart { IfOk result (λ writes. Apart writes) }
     {
         let mut writes = Vec::new(alloc);

@@ -1,8 +1,11 @@
-use Rattle.std.proofs.Common.{◌≡◌, ◌∷◌, [], length, sym, ap, ◌∙◌, arith}
+use Rattle.std.proofs.Common.{◌≡◌, ◌∷◌, [], length, Option, sym, ap, ◌∙◌, arith}
 use Rattle.std.proofs.lemmas.Iterator.Adapters.{YieldsList-from_vec}
 use Rattle.std.proofs.lemmas.Iterator.Consumers.{YieldsList-so_far, YieldsList-turn}
 use Rattle.std.specs.declared.alloc.Global.{Global}
-use Rattle.pres_tree.specs.Writes.{after}
+use Rattle.pres_tree.specs.declared.scalar.Scalar.{Scalar}
+use Rattle.pres_tree.specs.Paths.{Path}
+use Rattle.pres_tree.specs.Rows.{Rows, rows_in}
+use Rattle.pres_tree.specs.Writes.{write, after}
 use Rattle.pres_write.specs.Basics.{write_of}
 use Rattle.pres_write.proofs.Applied.{applied_nothing, applied_then, first_stand, refused}
 use Rattle.pres_write.proofs.basic.apply_owned.Goals as goal
@@ -15,6 +18,7 @@ loop-write-preserved c = (
   tt,
   tt,
   c.in_ok-set.ensures.ok
+      ∙ ap (λ (p : Path × Option (Rows Scalar)). after c.loop-write.tree (write p.0 (rows_in p.1) ∷ [])) c.into_parts-path.ensures.parts
       ∙ ap (λ t. after t (write_of c.in-Some.write ∷ [])) c.loop-write.invariant.2
       ∙ sym (applied_then c.args.tree.now c.loop-write.yielded c.in-Some.write),
 )

@@ -28,5 +28,5 @@ returns-clause-outcome c =
     let rows : rows_in (option_copied c.at-held.result) ≡ v = ap rows_in held ∙ rows_of_option v in
     let test : IsTrue c.is_expected.result ↔ (v ≡ t.expect) = (λ h. sym rows ∙ c.is_expected.ensures.0 h, λ e. c.is_expected.ensures.1 (rows ∙ e)) in
     let yes : c.is_expected.result ≡ true = search rules in
-    ap Wrote (c.in_ok-one.ensures ∙ ap (λ w. w ∷ []) (c.in_ok-write.ensures.write ∙ (λ i. basic (c.in_ok-path.ensures i) (settled c.args.moment c.self.inside.new)) ∙ ap (λ s. basic s.path (settled c.args.moment s.new)) c.self.view_is))
+    ap Wrote (c.in_ok-one.ensures ∙ ap (λ w. w ∷ []) (c.in_ok-write.ensures ∙ (λ i. basic (c.in_ok-path.ensures i) (settled c.args.moment c.self.inside.new)) ∙ ap (λ s. basic s.path (settled c.args.moment s.new)) c.self.view_is))
     ∙ sym (compared_as c.args.tree.now c.args.moment t c.is_expected.result test ∙ ap (λ b. cond b (Wrote (basic t.path (settled c.args.moment t.new) ∷ [])) (Stale (option_of v))) yes)

@@ -1,11 +1,10 @@
 use Rattle.std.proofs.Common.{◌≡◌, ◌∷◌, [], ◌++◌, List, ℕ, false, map, append_assoc, append-nil, sym, ap, subst, ◌∙◌, refl}
-use Rattle.std.proofs.lemmas.List.Elements.{All-push, All-same}
 use Rattle.std.specs.Map.{keys_of}
 use Rattle.pres_tree.specs.Paths.{Path, overlap}
 use Rattle.pres_tree.specs.Rows.{Rows}
 use Rattle.pres_write.specs.declared.basic.Basic.{Basic}
 use Rattle.pres_write.specs.declared.draft.Slot.{Slot}
-use Rattle.pres_write.specs.Basics.{FitsThere, basic}
+use Rattle.pres_write.specs.Basics.{basic}
 use Rattle.pres_write.specs.Drafts.{settled}
 use Rattle.pres_write.specs.Updates.{Places, update_writes}
 use Rattle.pres_write.proofs.Overlaps.{overlap-joined, paths_of_writes}
@@ -25,13 +24,12 @@ loop-place-preserved c =
     let p = c.args.self.now.path in
     let all : c.args.self.now.places ≡ done ++ e ∷ left = l.invariant.1 ∙ ap (λ es. done ++ es) c.in-Some.ensures.steps in
     let made = c.in_ok-settled_write.field-0 in
-    let is : made ≡ basic (p ++ e.0) (settled c.args.moment e.1) = c.in_ok-settled_write.ensures.write ∙ ap (λ q. basic q (settled c.args.moment e.1)) (c.in_ok-path.ensures ∙ ap (λ u. u.path ++ e.0) c.self.view_is) in (
+    let is : made ≡ basic (p ++ e.0) (settled c.args.moment e.1) = c.in_ok-settled_write.ensures ∙ ap (λ q. basic q (settled c.args.moment e.1)) (c.in_ok-path.ensures ∙ ap (λ u. u.path ++ e.0) c.self.view_is) in (
       done ++ e ∷ [],
       all ∙ sym (append_assoc done (e ∷ []) left),
       c.in_ok-push.ensures.items
           ∙ (λ i. l.invariant.2 i ++ is i ∷ [])
           ∙ sym (writes_more p c.args.moment done e),
-      All-same FitsThere _ _ c.in_ok-push.ensures.items (All-push FitsThere l.writes.items made l.invariant.3 c.in_ok-settled_write.ensures.fits),
     )
 
 pub returns-clause-apart : goal.returns-clause-apart
