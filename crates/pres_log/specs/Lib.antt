@@ -1,3 +1,4 @@
+pub mod Batches
 pub mod Faults
 pub mod Logs
 pub mod Plains

@@ -1,10 +1,12 @@
 //! Entries of the log, and the batches in which they are made.
 
-ghost use Rattle.std.specs.Prelude.{◌≡◌, IfOk};
+ghost use Rattle.std.specs.Prelude.{◌≡◌, IsTrue, IfOk};
+ghost use Rattle.pres_log.specs.Batches.{may_hold};
 
 use pres_wire::{Number, SessionId, Why};
 use pres_write::{Basic, Items, Moment, Op, Outcome};
 use std::alloc::{AllocError, Global};
+use std::marker::Model;
 
 /// What happened on the server.
 #[derive(Drop)]
@@ -92,15 +94,68 @@ fn copy_writes(alloc: Global, writes: &[Basic]) -> Result<Items<Basic>, AllocErr
 }
 
 /// Entries that are made at one moment: one, or the end of a session and the opening of the
-/// next one of its client. Its first entry has the number `first` in the log.
+/// next one of its client. Its first entry has the number `first` in the log. Contracts see it as
+/// the record of the three.
 #[derive(Drop)]
 pub struct Batch {
-    pub first: Number,
-    pub moment: Moment,
-    pub entries: Items<Entry>,
+    first: Number,
+    moment: Moment,
+    entries: Items<Entry>,
+}
+
+impl Model for Batch {
+    ghost use Rattle.std.specs.Prelude.{IsTrue};
+    ghost use Rattle.pres_log.specs.Batches.{MadeTogether, may_hold};
+
+    ghost Value = { MadeTogether };
+
+    ghost view = { λ b. record { first = b.first; moment = b.moment; entries = b.entries } };
+
+    ghost invariant = { λ b. IsTrue (may_hold b.entries) };
 }
 
 impl Batch {
+    /// Whether a batch may hold the entries: one, or the end of a session and the opening of one.
+    pub fn may_hold(entries: &[Entry]) -> bool
+        ensures { result ≡ may_hold entries.now }
+    {
+        matches!(entries, [_] | [Entry::Ended { .. }, Entry::Open { .. }])
+    }
+
+    /// The batch of the entries at the moment, of which the first has the number.
+    pub fn new(first: Number, moment: Moment, entries: Items<Entry>) -> Batch
+        requires { IsTrue (may_hold entries) }
+        ensures { result ≡ record { first = first; moment = moment; entries = entries } }
+    {
+        Batch {
+            first,
+            moment,
+            entries,
+        }
+    }
+
+    /// The number of its first entry.
+    pub fn first(&self) -> Number
+        ensures { result ≡ self.now.first }
+    {
+        self.first
+    }
+
+    /// The moment of all its entries.
+    pub fn moment(&self) -> Moment
+        ensures { result ≡ self.now.moment }
+    {
+        self.moment
+    }
+
+    /// Its entries.
+    pub fn entries(&self) -> &[Entry]
+        ensures entries { result.now ≡ self.now.entries }
+        ensures together { IsTrue (may_hold self.now.entries) }
+    {
+        self.entries.as_slice()
+    }
+
     /// An equal batch.
     pub fn copy(&self, alloc: Global) -> Result<Batch, AllocError>
         ensures { IfOk result (λ made. made ≡ self.now) }

@@ -56,7 +56,7 @@ impl Log {
         ensures { result ≡ number self.now }
     {
         match self.batches.last() {
-            Some(batch) => batch.first.get() - 1 + batch.entries.as_slice().len() as u64,
+            Some(batch) => batch.first().get() - 1 + batch.entries().len() as u64,
             None => 0,
         }
     }
@@ -74,8 +74,8 @@ impl Log {
     {
         let begun = self.begun(number);
         let batch = self.batches.get(begun.checked_sub(1)?)?;
-        let place = number - batch.first.get();
-        batch.entries.as_slice().get(place as usize)
+        let place = number - batch.first().get();
+        batch.entries().get(place as usize)
     }
 
     // How many batches begin at the number or before it.
@@ -88,7 +88,7 @@ impl Log {
         self.batches.as_slice().partition_point(
             |batch: &Batch| -> bool
                 ensures { result ≡ nat_le batch.now.first number }
-            { batch.first.get() <= number },
+            { batch.first().get() <= number },
         )
     }
 

@@ -63,23 +63,23 @@ fn superseded(alloc: Global) -> Result<Items<Entry>, Fail> {
     Ok(Items::of(entries))
 }
 
+// The batch of entries that one may hold.
+fn batch(first: Number, moment: u64, entries: Items<Entry>) -> Result<Batch, Fail> {
+    if !Batch::may_hold(entries.as_slice()) {
+        return Err("no batch")?;
+    }
+    Ok(Batch::new(first, Moment::at(moment), entries))
+}
+
 // A log of both sessions.
 fn log_of_two(alloc: Global) -> Result<Log, Fail> {
     let mut log = Log::new(alloc);
-    log.push(Batch {
-        first: Number::first(),
-        moment: Moment::at(1000),
-        entries: Items::one(alloc, opened(alloc, 1)?)?,
-    })?;
+    let one = Items::one(alloc, opened(alloc, 1)?)?;
+    log.push(batch(Number::first(), 1000, one)?)?;
     let Some(first) = Number::new(log.len() + 1) else {
         return Err("no number")?;
     };
-    let batch = Batch {
-        first,
-        moment: Moment::at(2000),
-        entries: superseded(alloc)?,
-    };
-    log.push(batch.copy(alloc)?)?;
+    log.push(batch(first, 2000, superseded(alloc)?)?.copy(alloc)?)?;
     Ok(log)
 }
 

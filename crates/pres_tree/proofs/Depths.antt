@@ -5,7 +5,7 @@ use Rattle.std.specs.Ordering.{is_eq, eq_by_cmp}
 use Rattle.std.specs.Cmp.{tied_itself}
 use Rattle.std.specs.FinMap.Entries.{put, by_order}
 use Rattle.pres_tree.specs.Keys.{Key}
-use Rattle.pres_tree.specs.Paths.{Path, path_cmp, sorted_by}
+use Rattle.pres_tree.specs.Paths.{Path, max_depth, path_cmp, sorted_by}
 use Rattle.pres_tree.specs.Rows.{Rows, IsValue, Holds, is_null, leaf_at, depth_of, height, placed}
 use Rattle.pres_tree.specs.Layer.{Children, child_rows, deepest_of, rows_of_node}
 use Rattle.pres_tree.specs.declared.nested.Node.{Node}
@@ -24,8 +24,8 @@ pub depth-bound : {A : Type 0} (n : ℕ) (v : Rows A) → ((x : Path) → Holds 
 depth-bound n [] h = omega arith
 depth-bound n (r ∷ v) h = omega (arith, h r.0 (holds_head r v), depth-bound n v (λ x g. h x (holds_tail r v x g)))
 
-pub depth-small : {A : Type 0} (v : Rows A) → IsValue v → depth_of v ≤ 32
-depth-small v h = depth-bound 32 v (λ x g. (h.paths x g).0)
+pub depth-small : {A : Type 0} (v : Rows A) → IsValue v → depth_of v ≤ max_depth
+depth-small v h = depth-bound max_depth v (λ x g. (h.paths x g).0)
 
 -- ---- the depth of an object
 

@@ -13,7 +13,7 @@ use Rattle.serde_json.specs.Data.{Data, Items, no_items, item, Members, no_membe
 use Rattle.std.specs.Fmt.{decimal}
 use Rattle.pres_tree.specs.declared.fault.TreeFault.{TreeFault}
 use Rattle.pres_tree.specs.Keys.{Key, key_cmp, is_key, same_key}
-use Rattle.pres_tree.specs.Paths.{Path, path_cmp, sorted_by}
+use Rattle.pres_tree.specs.Paths.{Path, max_depth, path_cmp, sorted_by}
 use Rattle.pres_tree.specs.Rows.{Rows, IsValue, Holds, is_null, leaf_at, placed}
 use Rattle.pres_tree.specs.Layer.{Children, child_rows}
 use Rattle.pres_tree.specs.Reading.{Reading, Shallow, rows_of, items_rows, members_rows}
@@ -70,7 +70,7 @@ module _ {A : Type 0} (n : ℕ) (es : List (Key × Rows A)) (kids : Kids n es) (
       let deep = kid.shallow x there in
       (omega (arith, deep.0), (λ i. kid.key i && deep.1 i))
 
-  pub IsValue-object : n ≤ 32 → IsValue (object_of es)
+  pub IsValue-object : n ≤ max_depth → IsValue (object_of es)
   IsValue-object few = record { in_order = in_order (child_rows es); apart = apart; paths = λ x held. let deep = Shallow-object x held in (omega (arith, deep.0), deep.1) }
     where
       apart : (x z : Path) → Holds (object_of es) x → Holds (object_of es) (x ++ z) → z ≡ []

@@ -9,7 +9,7 @@ use Rattle.std.proofs.lemmas.List.Folds.{list_all-append}
 use Rattle.std.proofs.lemmas.List.{length-take, take_all, take-append-le}
 use borrow.Author.Tests.{eqb-true}
 use Rattle.pres_tree.specs.Keys.{Key, is_banned, is_key, key_fault}
-use Rattle.pres_tree.specs.Paths.{Path, IsPath, segments, keys_fault, path_fault, keys_text, path_text}
+use Rattle.pres_tree.specs.Paths.{Path, max_depth, IsPath, segments, keys_fault, path_fault, keys_text, path_text}
 use Rattle.pres_tree.specs.declared.fault.TreeFault.{TreeFault}
 use Rattle.pres_tree.specs.declared.fault.TreeFault.TheVariants.{EmptyKey, LongKey, BadKey, TooDeep}
 
@@ -121,8 +121,8 @@ segments-path_text (k ∷ p) h = ap (filter has_bytes) (ap (λ ps. [] ∷ ps) (p
 -- a text of these pieces is a path without a fault
 sound : (text : List ℕ) (p : Path) → IsPath p → segments text ≡ p → path_fault text ≡ None
 sound text p h is =
-    let few : nat_lt 32 (length p) ≡ false = grind (arith, nat_tests) in
-    ap (λ q. option_or (keys_fault q) (cond (nat_lt 32 (length q)) (Some TooDeep) None)) is
+    let few : nat_lt max_depth (length p) ≡ false = grind (arith, nat_tests) in
+    ap (λ q. option_or (keys_fault q) (cond (nat_lt max_depth (length q)) (Some TooDeep) None)) is
     ∙ (λ i. option_or (keys_fault-none p h.1 i) (cond (few i) (Some TooDeep) None))
 
 pub path_fault-path_text : (p : Path) → IsPath p → path_fault (path_text p) ≡ None
@@ -138,7 +138,7 @@ path_fault-name p h = sound (drop 1 (path_text p)) p h (segments-name p h)
 
 -- ---- paths of parts
 
-pub path_append : (p q : Path) → IsPath p → IsPath q → length p + length q ≤ 32 → IsPath (p ++ q)
+pub path_append : (p q : Path) → IsPath p → IsPath q → length p + length q ≤ max_depth → IsPath (p ++ q)
 path_append p q h g low = (omega (arith, length-append p q), rw (list_all-append is_key p q) (both_yes (list_all is_key p) (list_all is_key q) h.1 g.1))
 
 pub path_rest : (p q : Path) → IsPath (p ++ q) → IsPath q
@@ -150,8 +150,8 @@ pub record Parsed (all rest : List (List ℕ)) (keys : Path) (deep : Bool) : Typ
   pub done : Path
   pub is : filter has_bytes all ≡ done ++ filter has_bytes rest
   pub good : keys_fault done ≡ None
-  pub kept : keys ≡ take 32 done
-  pub is_deep : deep ≡ nat_lt 32 (length done)
+  pub kept : keys ≡ take max_depth done
+  pub is_deep : deep ≡ nat_lt max_depth (length done)
 
 pub parsed_start : (all : List (List ℕ)) → Parsed all all [] false
 parsed_start all = record { done = []; is = refl; good = refl; kept = refl; is_deep = refl }
@@ -176,31 +176,31 @@ next {rest = rest} piece some good w = record {
   good = keys_fault-append w.done (piece ∷ []) ∙ (λ i. option_or (w.good i) (option_or (good i) None));
 }
 
-pub parsed_push : {all rest : List (List ℕ)} {keys : Path} {deep : Bool} (piece : List ℕ) → has_bytes piece ≡ true → key_fault piece ≡ None → length keys < 32 → Parsed all (piece ∷ rest) keys deep → Parsed all rest (keys ++ piece ∷ []) deep
+pub parsed_push : {all rest : List (List ℕ)} {keys : Path} {deep : Bool} (piece : List ℕ) → has_bytes piece ≡ true → key_fault piece ≡ None → length keys < max_depth → Parsed all (piece ∷ rest) keys deep → Parsed all rest (keys ++ piece ∷ []) deep
 parsed_push {keys = keys} piece some good few w =
-    let short : length w.done < 32 = omega (arith, ap length w.kept, length-take 32 w.done) in
-    let more : length (w.done ++ piece ∷ []) ≤ 32 = omega (arith, length-append w.done (piece ∷ [])) in
+    let short : length w.done < max_depth = omega (arith, ap length w.kept, length-take max_depth w.done) in
+    let more : length (w.done ++ piece ∷ []) ≤ max_depth = omega (arith, length-append w.done (piece ∷ [])) in
     let here = next piece some good w in
-    let a : nat_lt 32 (length w.done) ≡ false = grind (arith, nat_tests) in
-    let b : nat_lt 32 (length (w.done ++ piece ∷ [])) ≡ false = grind (arith, nat_tests) in
+    let a : nat_lt max_depth (length w.done) ≡ false = grind (arith, nat_tests) in
+    let b : nat_lt max_depth (length (w.done ++ piece ∷ [])) ≡ false = grind (arith, nat_tests) in
     record {
       done = w.done ++ piece ∷ [];
       is = here.is;
       good = here.good;
-      kept = ap (λ ks. ks ++ piece ∷ []) (w.kept ∙ take_all 32 w.done (omega arith)) ∙ sym (take_all 32 (w.done ++ piece ∷ []) more);
+      kept = ap (λ ks. ks ++ piece ∷ []) (w.kept ∙ take_all max_depth w.done (omega arith)) ∙ sym (take_all max_depth (w.done ++ piece ∷ []) more);
       is_deep = w.is_deep ∙ a ∙ sym b;
     }
 
-pub parsed_deep : {all rest : List (List ℕ)} {keys : Path} {deep : Bool} (piece : List ℕ) → has_bytes piece ≡ true → key_fault piece ≡ None → 32 ≤ length keys → Parsed all (piece ∷ rest) keys deep → Parsed all rest keys true
+pub parsed_deep : {all rest : List (List ℕ)} {keys : Path} {deep : Bool} (piece : List ℕ) → has_bytes piece ≡ true → key_fault piece ≡ None → max_depth ≤ length keys → Parsed all (piece ∷ rest) keys deep → Parsed all rest keys true
 parsed_deep piece some good full w =
-    let long : 32 ≤ length w.done = omega (arith, ap length w.kept, length-take 32 w.done) in
-    let more : 32 < length (w.done ++ piece ∷ []) = omega (arith, length-append w.done (piece ∷ [])) in
+    let long : max_depth ≤ length w.done = omega (arith, ap length w.kept, length-take max_depth w.done) in
+    let more : max_depth < length (w.done ++ piece ∷ []) = omega (arith, length-append w.done (piece ∷ [])) in
     let here = next piece some good w in
     record {
       done = w.done ++ piece ∷ [];
       is = here.is;
       good = here.good;
-      kept = w.kept ∙ sym (take-append-le 32 w.done (piece ∷ []) long);
+      kept = w.kept ∙ sym (take-append-le max_depth w.done (piece ∷ []) long);
       is_deep = grind (arith, nat_tests);
     }
 
@@ -209,14 +209,14 @@ pub parsed_fault : (text : List ℕ) {rest : List (List ℕ)} {keys : Path} {dee
 parsed_fault text {rest = rest} piece some bad w =
     let all : segments text ≡ w.done ++ (piece ∷ filter has_bytes rest) = w.is ∙ (λ i. w.done ++ cond (some i) (piece ∷ filter has_bytes rest) (filter has_bytes rest)) in
     let fault = ap keys_fault all ∙ keys_fault-append w.done (piece ∷ filter has_bytes rest) ∙ (λ i. option_or (w.good i) (option_or (bad i) (keys_fault (filter has_bytes rest)))) in
-    λ i. option_or (fault i) (cond (nat_lt 32 (length (segments text))) (Some TooDeep) None)
+    λ i. option_or (fault i) (cond (nat_lt max_depth (length (segments text))) (Some TooDeep) None)
 
 parsed_all : (text : List ℕ) {keys : Path} {deep : Bool} (w : Parsed (pieces text) [] keys deep) → segments text ≡ w.done
 parsed_all text w = w.is ∙ append-nil w.done
 
 parsed_path_fault : (text : List ℕ) {keys : Path} {deep : Bool} → Parsed (pieces text) [] keys deep → path_fault text ≡ cond deep (Some TooDeep) None
 parsed_path_fault text w =
-    ap (λ p. option_or (keys_fault p) (cond (nat_lt 32 (length p)) (Some TooDeep) None)) (parsed_all text w)
+    ap (λ p. option_or (keys_fault p) (cond (nat_lt max_depth (length p)) (Some TooDeep) None)) (parsed_all text w)
     ∙ (λ i. option_or (w.good i) (cond (sym w.is_deep i) (Some TooDeep) None))
 
 pub parsed_too_deep : (text : List ℕ) {keys : Path} {deep : Bool} → deep ≡ true → Parsed (pieces text) [] keys deep → path_fault text ≡ Some TooDeep
@@ -229,9 +229,9 @@ pub record ParsedAs (text : List ℕ) (keys : Path) : Type 0 where
 
 pub parsed_end : (text : List ℕ) {keys : Path} {deep : Bool} → deep ≡ false → Parsed (pieces text) [] keys deep → ParsedAs text keys
 parsed_end text {keys = keys} h w =
-    let few : nat_lt 32 (length w.done) ≡ false = sym w.is_deep ∙ h in
-    let short : length w.done ≤ 32 = grind (arith, nat_tests) in
-    let all : keys ≡ w.done = w.kept ∙ take_all 32 w.done short in
+    let few : nat_lt max_depth (length w.done) ≡ false = sym w.is_deep ∙ h in
+    let short : length w.done ≤ max_depth = grind (arith, nat_tests) in
+    let all : keys ≡ w.done = w.kept ∙ take_all max_depth w.done short in
     record {
       path = (omega (arith, ap length all), ap (list_all is_key) all ∙ keys_fault-keys w.done w.good);
       is = all ∙ sym (parsed_all text w);

@@ -13,9 +13,13 @@ use Rattle.pres_tree.specs.declared.fault.TreeFault.TheVariants.{TooDeep}
 abbrev pub Path : Type 0
 Path = List Key
 
--- a path has at most 32 keys
+-- the keys from the root to the deepest scalar: Firebase Realtime Database nests data at most 32 levels
+abbrev pub max_depth : ℕ
+max_depth = 32
+
+-- a path has no more keys than that
 abbrev pub IsPath : Path → Type 0
-IsPath p = (length p ≤ 32) × IsTrue (list_all is_key p)
+IsPath p = (length p ≤ max_depth) × IsTrue (list_all is_key p)
 
 abbrev pub path_cmp : Path → Path → Ordering
 path_cmp = slice_cmp key_cmp
@@ -57,7 +61,7 @@ keys_fault (k ∷ p) = option_or (key_fault k) (keys_fault p)
 
 -- what is wrong with a text as a path: its keys first, then its depth
 abbrev pub path_fault : List ℕ → Option TreeFault
-path_fault text = option_or (keys_fault (segments text)) (if nat_lt 32 (length (segments text)) then Some TooDeep else None)
+path_fault text = option_or (keys_fault (segments text)) (if nat_lt max_depth (length (segments text)) then Some TooDeep else None)
 
 abbrev pub keys_text : Path → List ℕ
 keys_text [] = []

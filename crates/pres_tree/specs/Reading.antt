@@ -8,7 +8,7 @@ use Rattle.serde_json.specs.Data.{Data, null, boolean, number, string, array, ob
 use Rattle.pres_tree.specs.declared.fault.TreeFault.{TreeFault}
 use Rattle.pres_tree.specs.declared.fault.TreeFault.TheVariants.{TooDeep}
 use Rattle.pres_tree.specs.Keys.{Key, key_cmp, key_fault, is_key}
-use Rattle.pres_tree.specs.Paths.{Path, path_cmp, sorted_by}
+use Rattle.pres_tree.specs.Paths.{Path, max_depth, path_cmp, sorted_by}
 use Rattle.pres_tree.specs.Rows.{Rows, Holds, placed}
 
 -- what a JSON value is to a kind of leaf: no leaf, a leaf, or refused where a leaf would stand
@@ -71,6 +71,10 @@ abbrev mutual
   pub members_rows : {A : Type 0} → (Data → Reading A) → Members → Rows A
   members_rows f no_members = []
   members_rows f (member k d ms) = placed (k ∷ []) (rows_of f d) ++ members_rows f ms
+
+-- the levels for the leaves of a value at the path: one for each key that may follow, and its own
+abbrev pub levels_below : Path → ℕ
+levels_below p = max_depth + 1 - length p
 
 -- what is wrong first, with n levels left
 abbrev mutual

@@ -31,7 +31,7 @@ pub record IsValue {A : Type 0} (v : Rows A) : Type 0 where
   pub in_order : InOrder v
   -- no leaf stands above another
   pub apart : (x z : Path) → Holds v x → Holds v (x ++ z) → z ≡ []
-  -- each place is a path: at most 32 keys, and each a key
+  -- each place is a path: few enough keys, and each a key
   pub paths : (x : Path) → Holds v x → IsPath x
 
 -- the value may stand at the path: each of its places is a path there

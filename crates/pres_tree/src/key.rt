@@ -7,8 +7,9 @@ ghost use Rattle.pres_tree.specs.Keys.{is_key, is_banned, key_fault};
 ghost use Rattle.pres_tree.specs.declared.fault.TreeFault.TheVariants.{Memory};
 
 use crate::fault::TreeFault;
+use crate::text::Text;
 use std::alloc::{AllocError, Global};
-use std::cmp::Ordering;
+use std::fmt;
 use std::marker::Model;
 
 // The bytes of the longest key.
@@ -16,20 +17,22 @@ const LONGEST: usize = 768;
 
 /// A key: 1 to 768 bytes of UTF-8, without control characters, byte 127 and `.` `$` `#` `[` `]`
 /// `/`. Contracts see it as its bytes.
-#[derive(Drop)]
+#[derive(Drop, PartialEq, Eq, PartialOrd, Ord)]
 pub struct Key {
-    text: String,
+    text: Text,
 }
 
 impl Model for Key {
-    ghost use Rattle.std.specs.Prelude.{ℕ, List, IsTrue, string_bytes};
+    ghost use Rattle.std.specs.Prelude.{ℕ, List, IsTrue};
     ghost use Rattle.pres_tree.specs.Keys.{is_key};
 
     ghost Value = { List ℕ };
 
-    ghost view = { λ k. string_bytes k.text };
+    ghost view = { λ k. k.text };
 
-    ghost invariant = { λ k. IsTrue (is_key (string_bytes k.text)) };
+    ghost invariant = { λ k. IsTrue (is_key k.text) };
+
+    ghost inverse = { λ bytes. record { text = bytes } };
 }
 
 // Whether no key has the byte.
@@ -66,12 +69,12 @@ impl Key {
     pub fn parse(alloc: Global, text: &str) -> Result<Key, TreeFault>
         ensures key { MatchResult result
             (λ k. (k ≡ text.now) × (key_fault text.now ≡ None))
-            (λ e. (e ≡ Memory) ⊎ (key_fault text.now ≡ Some e)) }
+            (λ e. ((e ≡ Memory) × (key_fault text.now ≡ None)) ⊎ (key_fault text.now ≡ Some e)) }
     {
         if let Some(fault) = fault_of(text) {
             return Err(fault);
         }
-        let text = String::from_str(alloc, text)?;
+        let text = Text::of(String::from_str(alloc, text)?);
         Ok(Key { text })
     }
 
@@ -92,7 +95,9 @@ impl Key {
         ensures { IfOk result (λ k. k ≡ decimal index) }
     {
         let text = format!(in alloc; "{index}")?;
-        Ok(Key { text })
+        Ok(Key {
+            text: Text::of(text),
+        })
     }
 
     /// Its text.
@@ -108,64 +113,13 @@ impl Key {
         ensures { IfOk result (λ k. k ≡ self.now) }
     {
         Ok(Key {
-            text: String::from_str(alloc, self.text.as_str())?,
+            text: self.text.copy(alloc)?,
         })
     }
 }
 
-impl PartialEq for Key {
-    ghost use Rattle.std.specs.Prelude.{◌==◌};
-    ghost use Rattle.std.specs.Cmp.Lexicographic.{pointwise};
-    ghost use Rattle.std.proofs.Common.{rules};
-    ghost use Rattle.std.specs.Cmp.Rules.{comparing};
-
-    ghost eq = { pointwise ◌==◌ };
-
-    ghost laws = { Prim.search (comparing, rules) };
-
-    fn eq(&self, other: &Key) -> bool {
-        self.text == other.text
-    }
-}
-
-impl Eq for Key {
-    ghost use Rattle.std.proofs.Common.{rules};
-    ghost use Rattle.std.specs.Cmp.Rules.{comparing};
-
-    ghost laws = { Prim.search (comparing, rules) };
-}
-
-impl PartialOrd for Key {
-    ghost use Rattle.std.specs.Ordering.{nat_cmp, as_partial_cmp};
-    ghost use Rattle.std.specs.Cmp.Lexicographic.{slice_cmp};
-    ghost use Rattle.std.specs.Cmp.{partial_order_from_own_ties};
-    ghost use Rattle.std.proofs.Common.{rules};
-    ghost use Rattle.std.specs.Cmp.Rules.{comparing};
-
-    ghost partial_cmp = { as_partial_cmp (slice_cmp nat_cmp) };
-
-    ghost laws = { partial_order_from_own_ties (Prim.search (comparing, rules)) (Prim.search (comparing, rules)) };
-
-    fn partial_cmp(&self, other: &Key) -> Option<Ordering> {
-        Some(self.cmp(other))
-    }
-}
-
-impl Ord for Key {
-    ghost use Rattle.std.specs.Ordering.{nat_cmp};
-    ghost use Rattle.std.specs.Cmp.Lexicographic.{slice_cmp};
-    ghost use Rattle.std.proofs.Common.{rules};
-    ghost use Rattle.std.specs.Cmp.Rules.{comparing};
-
-    ghost cmp = { slice_cmp nat_cmp };
-
-    ghost total = { Prim.search (comparing, rules) };
-
-    ghost matches_partial_cmp = { Prim.search (comparing, rules) };
-
-    ghost matches_eq = { Prim.search (comparing, rules) };
-
-    fn cmp(&self, other: &Key) -> Ordering {
-        self.text.cmp(&other.text)
+impl fmt::Display for Key {
+    fn fmt<W: fmt::Write>(&self, f: &mut fmt::Formatter<W>) -> fmt::Result {
+        f.write_str(self.text())
     }
 }

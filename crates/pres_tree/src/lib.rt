@@ -13,15 +13,15 @@ mod path;
 mod print;
 mod read;
 mod scalar;
-#[cfg(test)]
-mod tests;
+mod text;
 
 pub use fault::TreeFault;
 pub use key::Key;
 pub use nested::{Change, Leaf, Nested};
-pub use path::Path;
-pub use read::{Form, OwnForm};
-pub use scalar::{Scalar, Text};
+pub use path::{MAX_DEPTH, Path};
+pub use read::Form;
+pub use scalar::Scalar;
+pub use text::Text;
 
 /// A value: null, a scalar, or an object of values under keys.
 pub type Tree = Nested<Scalar>;

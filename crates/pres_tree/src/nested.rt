@@ -12,21 +12,19 @@ ghost use Rattle.pres_tree.specs.Writes.{Undoes, write, after};
 use crate::fault::TreeFault;
 use crate::key::Key;
 use crate::path::Path;
+use crate::read::Form;
 use serde_json::Value;
 use std::alloc::{AllocError, Global};
 use std::collections::BTreeMap;
 use std::marker::Model;
 use std::mem::replace;
 
-/// What may stand at a place of a value, and how JSON tells it.
-pub trait Leaf: Drop {
-    ghost use Rattle.std.specs.Prelude.{◌≡◌, ◌⊎◌, ◌↔◌, true, IsTrue, IfOk, MatchResult};
+/// What may stand at a place of a value, and how JSON tells it: a leaf is a form of its own.
+pub trait Leaf: Form<Self> + Drop {
+    ghost use Rattle.std.specs.Prelude.{◌≡◌, ◌↔◌, IsTrue, IfOk};
     ghost use Rattle.serde_json.specs.Data.{Data, Members, null, object};
     ghost use Rattle.serde_json.specs.View.{view};
-    ghost use Rattle.pres_tree.specs.Reading.{Reading, HasKeys, branch, leaf, bad, is_leaf};
-    ghost use Rattle.pres_tree.specs.declared.fault.TreeFault.TheVariants.{Memory};
-
-    ghost reading: { Data → Reading Self };
+    ghost use Rattle.pres_tree.specs.Reading.{HasKeys, branch, leaf};
 
     ghost printing: { Self → Data };
 
@@ -38,26 +36,16 @@ pub trait Leaf: Drop {
     fn equal(&self, other: &Self) -> bool
         ensures { IsTrue result ↔ (self.now ≡ other.now) };
 
-    /// Whether the JSON value is a leaf, or refused as one.
-    fn is_leaf(value: &Value) -> bool
-        ensures { result ≡ is_leaf (reading (view value.now)) };
-
-    /// The leaf of a JSON value.
-    fn read(alloc: Global, value: &Value) -> Result<Self, TreeFault>
-        requires { is_leaf (reading (view value.now)) ≡ true }
-        ensures { MatchResult result
-            (λ made. reading (view value.now) ≡ leaf made)
-            (λ e. (e ≡ Memory) ⊎ (reading (view value.now) ≡ bad e)) };
-
     /// The JSON value of the leaf.
     fn print(&self, alloc: Global) -> Result<Value, AllocError>
         ensures json { IfOk result (λ made. view made ≡ printing self.now) }
-        ensures reads_back { IfOk result (λ made. reading (view made) ≡ leaf self.now) };
+        ensures reads_back { IfOk result (λ made. Self.reading (view made) ≡ leaf self.now) };
 
     // Null is no leaf, and neither is an object whose names are keys.
-    ghost null_is_branch: { reading null ≡ branch };
+    ghost null_is_branch: { Self.reading null ≡ branch };
 
-    ghost object_is_branch: { (members : Members) → HasKeys members → reading (object members) ≡ branch };
+    ghost object_is_branch: { (members : Members) → HasKeys members
+        → Self.reading (object members) ≡ branch };
 }
 
 /// A value over leaves of the type `L`: null, one leaf, or values under keys. Null has one form:
@@ -218,7 +206,8 @@ impl<L: Drop> Nested<L> {
         value: Option<Nested<L>>,
     ) -> Result<(), TreeFault>
         requires { Fits path.now (rows_in value) }
-        ensures ok { IfOk result (λ _. self.new ≡ after self.old (write path.now (rows_in value) ∷ [])) }
+        ensures ok { IfOk result (λ _.
+            self.new ≡ after self.old (write path.now (rows_in value) ∷ [])) }
         ensures err { IfErr result (λ e. (e ≡ Memory) × (self.new ≡ self.old)) }
     {
         match value {
@@ -253,7 +242,8 @@ impl<L: Drop> Nested<L> {
         requires some { is_null value ≡ false }
         requires fits { Fits path.now value }
         ensures ok { IfOk result (λ _. self.new ≡ after self.old (write path.now value ∷ [])) }
-        ensures back { IfOk result (λ place. Undoes (take place.0 path.now) place.1 self.old self.new) }
+        ensures back { IfOk result (λ place.
+            Undoes (take place.0 path.now) place.1 self.old self.new) }
         ensures err { IfErr result (λ e. (e ≡ Memory) × (self.new ≡ self.old)) }
     {
         // it ensures that the value is one
@@ -330,7 +320,8 @@ impl<L: Drop> Nested<L> {
         requires fits { Fits keys.now value }
         ensures ok { IfOk result (λ _. self.new ≡ after self.old (write keys.now value ∷ [])) }
         ensures depth { IfOk result (λ place. place.0 ≤ length keys.now) }
-        ensures back { IfOk result (λ place. Undoes (take place.0 keys.now) place.1 self.old self.new) }
+        ensures back { IfOk result (λ place.
+            Undoes (take place.0 keys.now) place.1 self.old self.new) }
         ensures err { IfErr result (λ _. self.new ≡ self.old) }
     {
         let Some((key, rest)) = keys.split_first() else {
@@ -435,7 +426,8 @@ fn changed_children<L, M: Drop, C: Change<L, M>>(
     children: &BTreeMap<Key, Nested<L>>,
     how: &C,
 ) -> Result<BTreeMap<Key, Nested<M>>, AllocError>
-    ensures entries { IfOk result (λ m. m.entries ≡ children_with (C.makes how.now) children.now.entries) }
+    ensures entries { IfOk result (λ m.
+        m.entries ≡ children_with (C.makes how.now) children.now.entries) }
     ensures ordered { IfOk result (λ m. IsOrdered key_cmp m) }
 {
     let mut changed = BTreeMap::new(alloc);

@@ -2,20 +2,22 @@
 
 ghost use Rattle.std.specs.Prelude.{◌≡◌, ◌⊎◌, ◌↔◌, ◌+◌, ◌<◌, ◌++◌, [], length, drop, IsTrue, IfOk, IfErr, IsErrOf, OnOk, MatchResult, Some, None, option_map, string_bytes};
 ghost use Rattle.pres_tree.specs.Keys.{key_cmp};
-ghost use Rattle.pres_tree.specs.Paths.{IsPath, below, is_prefix, segments, path_fault, path_text, keys_text};
+ghost use Rattle.pres_tree.specs.Paths.{max_depth, IsPath, below, is_prefix, segments, path_fault, path_text, keys_text};
 ghost use Rattle.pres_tree.specs.declared.fault.TreeFault.TheVariants.{Memory, TooDeep};
 
 use crate::fault::TreeFault;
 use crate::key::Key;
 use std::alloc::{AllocError, Global};
 use std::cmp::Ordering;
+use std::fmt;
 use std::marker::Model;
 
-// The keys of the deepest path.
-const DEEPEST: usize = 32;
+/// The keys from the root to the deepest scalar: Firebase Realtime Database nests data at most 32
+/// levels.
+pub const MAX_DEPTH: usize = 32;
 
-/// A path: at most 32 keys from the root to a place. Contracts see it as the list of its keys.
-/// Paths are ordered key by key in byte order, a prefix first.
+/// A path: at most `MAX_DEPTH` keys from the root to a place. Contracts see it as the list of its
+/// keys. Paths are ordered key by key in byte order, a prefix first.
 #[derive(Drop)]
 pub struct Path {
     keys: Vec<Key>,
@@ -44,7 +46,7 @@ impl Path {
 
     /// The path of a text, its keys after slashes. The leading slash is optional and empty
     /// pieces are skipped. Refused where a key is (LongKey, BadKey), all keys in their order, and
-    /// then where there are more than 32 (TooDeep).
+    /// then where there are more than `MAX_DEPTH` (TooDeep).
     pub fn parse(alloc: Global, text: &str) -> Result<Path, TreeFault>
         ensures path { MatchResult result
             (λ p. (p ≡ segments text.now) × (path_fault text.now ≡ None))
@@ -56,7 +58,7 @@ impl Path {
             if piece.is_empty() {
                 continue;
             }
-            if keys.len() < DEEPEST {
+            if keys.len() < MAX_DEPTH {
                 keys.push(Key::parse(alloc, piece)?)?;
             } else {
                 Key::check(piece)?;
@@ -73,7 +75,8 @@ impl Path {
     /// path.
     pub fn text(&self, alloc: Global) -> Result<String, AllocError>
         ensures text { IfOk result (λ t. string_bytes t ≡ path_text self.now) }
-        ensures reads_back { IfOk result (λ t. (segments (string_bytes t) ≡ self.now) × (path_fault (string_bytes t) ≡ None)) }
+        ensures reads_back { IfOk result (λ t.
+            (segments (string_bytes t) ≡ self.now) × (path_fault (string_bytes t) ≡ None)) }
     {
         if self.keys.is_empty() {
             return String::from_str(alloc, "/");
@@ -87,7 +90,8 @@ impl Path {
     /// path.
     pub fn name(&self, alloc: Global) -> Result<String, AllocError>
         ensures name { IfOk result (λ t. string_bytes t ≡ drop 1 (path_text self.now)) }
-        ensures reads_back { IfOk result (λ t. (segments (string_bytes t) ≡ self.now) × (path_fault (string_bytes t) ≡ None)) }
+        ensures reads_back { IfOk result (λ t.
+            (segments (string_bytes t) ≡ self.now) × (path_fault (string_bytes t) ≡ None)) }
     {
         let Some((first, rest)) = self.keys.split_first() else {
             return Ok(String::new(alloc));
@@ -127,13 +131,14 @@ impl Path {
     }
 
     /// The path that goes on with the keys of the other one. Refused as TooDeep where both have
-    /// more than 32 keys together.
+    /// more than `MAX_DEPTH` keys together.
     pub fn join(&self, alloc: Global, other: &Path) -> Result<Path, TreeFault>
         ensures path { IfOk result (λ p. p ≡ self.now ++ other.now) }
-        ensures deep { IsErrOf result TreeFault.TooDeep ↔ (32 < length self.now + length other.now) }
+        ensures deep { IsErrOf result TreeFault.TooDeep
+            ↔ (max_depth < length self.now + length other.now) }
         ensures err { IfErr result (λ e. (e ≡ TooDeep) ⊎ (e ≡ Memory)) }
     {
-        if self.keys.len() + other.keys.len() > DEEPEST {
+        if self.keys.len() + other.keys.len() > MAX_DEPTH {
             return Err(TreeFault::TooDeep);
         }
         let mut keys = copies(alloc, &self.keys)?;
@@ -232,7 +237,8 @@ impl PartialOrd for Path {
 
     ghost partial_cmp = { as_partial_cmp (slice_cmp (slice_cmp nat_cmp)) };
 
-    ghost laws = { partial_order_from_own_ties (Prim.search (comparing, rules)) (lists_ties (slice_cmp nat_cmp) texts_ties) };
+    ghost laws = { partial_order_from_own_ties (Prim.search (comparing, rules))
+        (lists_ties (slice_cmp nat_cmp) texts_ties) };
 
     fn partial_cmp(&self, other: &Path) -> Option<Ordering> {
         Some(self.cmp(other))
@@ -255,5 +261,17 @@ impl Ord for Path {
 
     fn cmp(&self, other: &Path) -> Ordering {
         self.keys.cmp(&other.keys)
+    }
+}
+
+impl fmt::Display for Path {
+    fn fmt<W: fmt::Write>(&self, f: &mut fmt::Formatter<W>) -> fmt::Result {
+        if self.is_root() {
+            return f.write_str("/");
+        }
+        for key in self.keys() {
+            write!(f, "/{key}")?;
+        }
+        Ok(())
     }
 }

@@ -31,8 +31,10 @@ fn printed<L: Leaf>(
     alloc: Global,
     children: &BTreeMap<Key, Nested<L>>,
 ) -> Result<Map<String, Value>, AllocError>
-    ensures json { IfOk result (λ made. members_view made.entries ≡ members_of L.printing children.now.entries) }
-    ensures reads_back { IfOk result (λ made. MembersReadBack L.reading children.now.entries (members_view made.entries)) }
+    ensures json { IfOk result (λ made.
+        members_view made.entries ≡ members_of L.printing children.now.entries) }
+    ensures reads_back { IfOk result (λ made.
+        MembersReadBack L.reading children.now.entries (members_view made.entries)) }
 {
     let mut members = Map::new(alloc);
     for (key, child) in children.iter() {

@@ -3,20 +3,20 @@
 ghost use Rattle.std.specs.Prelude.{◌≡◌, ◌+◌, ◌-◌, ◌≤◌, ◌⊎◌, MatchResult, IfOk, Some, None, length, option_map};
 ghost use Rattle.serde_json.specs.View.{view, items_view, members_view};
 ghost use Rattle.pres_tree.specs.declared.fault.TreeFault.TheVariants.{Memory};
-ghost use Rattle.pres_tree.specs.Paths.{path_cmp, sorted_by};
+ghost use Rattle.pres_tree.specs.Paths.{max_depth, path_cmp, sorted_by};
 ghost use Rattle.pres_tree.specs.Rows.{Fits};
-ghost use Rattle.pres_tree.specs.Reading.{rows_of, fault_of, items_rows, items_fault, members_rows, members_fault, first_of, fault_in, Shallow};
+ghost use Rattle.pres_tree.specs.Reading.{levels_below, rows_of, fault_of, items_rows, items_fault, members_rows, members_fault, first_of, fault_in, Shallow};
 
 use crate::fault::TreeFault;
 use crate::key::Key;
 use crate::nested::{Leaf, Nested};
-use crate::path::Path;
+use crate::path::{MAX_DEPTH, Path};
 use serde_json::{Map, Value};
 use std::alloc::Global;
 use std::collections::BTreeMap;
 
-// The keys from the root to a leaf, and one more.
-const LEVELS: usize = 33;
+// The places on the way from the root to the deepest leaf.
+const LEVELS: usize = MAX_DEPTH + 1;
 
 // A fault, and the key of the item that has it.
 type KeyedFault = (Key, TreeFault);
@@ -43,31 +43,17 @@ pub trait Form<L> {
             (λ e. (e ≡ Memory) ⊎ (reading (view value.now) ≡ bad e)) };
 }
 
-/// The form in which leaves are told as their own type says.
-pub struct OwnForm {}
-
-impl<L: Leaf> Form<L> for OwnForm {
-    ghost reading = { L.reading };
-
-    fn is_leaf(value: &Value) -> bool {
-        L::is_leaf(value)
-    }
-
-    fn read(alloc: Global, value: &Value) -> Result<L, TreeFault> {
-        L::read(alloc, value)
-    }
-}
-
 impl<L: Leaf> Nested<L> {
     /// The value of a JSON value: arrays under their indexes, nulls and objects without
     /// children left out. The first fault of a depth-first walk in byte order of keys is
     /// answered: at a key EmptyKey, LongKey, BadKey, at a leaf TooDeep, NotWhole, Range.
     pub fn from_value(alloc: Global, value: &Value) -> Result<Nested<L>, TreeFault>
         ensures { MatchResult result
-            (λ t. (fault_of L.reading 33 (view value.now) ≡ None) × (t ≡ rows_of L.reading (view value.now)))
-            (λ e. (e ≡ Memory) ⊎ (fault_of L.reading 33 (view value.now) ≡ Some e)) }
+            (λ t. (fault_of L.reading (max_depth + 1) (view value.now) ≡ None)
+            × (t ≡ rows_of L.reading (view value.now)))
+            (λ e. (e ≡ Memory) ⊎ (fault_of L.reading (max_depth + 1) (view value.now) ≡ Some e)) }
     {
-        read_at::<L, OwnForm>(alloc, value, LEVELS)
+        read_at::<L, L>(alloc, value, LEVELS)
     }
 
     /// The same for a value that is to stand at the path, whose keys count as depth.
@@ -77,11 +63,13 @@ impl<L: Leaf> Nested<L> {
         path: &Path,
     ) -> Result<Nested<L>, TreeFault>
         ensures read { MatchResult result
-            (λ t. (fault_of L.reading (33 - length path.now) (view value.now) ≡ None) × (t ≡ rows_of L.reading (view value.now)))
-            (λ e. (e ≡ Memory) ⊎ (fault_of L.reading (33 - length path.now) (view value.now) ≡ Some e)) }
+            (λ t. (fault_of L.reading (levels_below path.now) (view value.now) ≡ None)
+            × (t ≡ rows_of L.reading (view value.now)))
+            (λ e. (e ≡ Memory)
+            ⊎ (fault_of L.reading (levels_below path.now) (view value.now) ≡ Some e)) }
         ensures fits { IfOk result (λ t. Fits path.now t) }
     {
-        Nested::from_value_as::<OwnForm>(alloc, value, path)
+        Nested::from_value_as::<L>(alloc, value, path)
     }
 }
 
@@ -93,8 +81,10 @@ impl<L: Drop> Nested<L> {
         path: &Path,
     ) -> Result<Nested<L>, TreeFault>
         ensures read { MatchResult result
-            (λ t. (fault_of F.reading (33 - length path.now) (view value.now) ≡ None) × (t ≡ rows_of F.reading (view value.now)))
-            (λ e. (e ≡ Memory) ⊎ (fault_of F.reading (33 - length path.now) (view value.now) ≡ Some e)) }
+            (λ t. (fault_of F.reading (levels_below path.now) (view value.now) ≡ None)
+            × (t ≡ rows_of F.reading (view value.now)))
+            (λ e. (e ≡ Memory)
+            ⊎ (fault_of F.reading (levels_below path.now) (view value.now) ≡ Some e)) }
         ensures fits { IfOk result (λ t. Fits path.now t) }
     {
         read_at::<L, F>(alloc, value, LEVELS - path.len())
@@ -108,9 +98,10 @@ fn read_at<L: Drop, F: Form<L>>(
     value: &Value,
     left: usize,
 ) -> Result<Nested<L>, TreeFault>
-    requires { left ≤ 33 }
+    requires { left ≤ max_depth + 1 }
     ensures read { MatchResult result
-        (λ t. (fault_of F.reading left (view value.now) ≡ None) × (t ≡ rows_of F.reading (view value.now)))
+        (λ t. (fault_of F.reading left (view value.now) ≡ None)
+        × (t ≡ rows_of F.reading (view value.now)))
         (λ e. (e ≡ Memory) ⊎ (fault_of F.reading left (view value.now) ≡ Some e)) }
     ensures shallow { IfOk result (λ t. Shallow left t) }
 {
@@ -133,10 +124,12 @@ fn read_items<L: Drop, F: Form<L>>(
     items: &Vec<Value>,
     left: usize,
 ) -> Result<Nested<L>, TreeFault>
-    requires { left ≤ 32 }
+    requires { left ≤ max_depth }
     ensures read { MatchResult result
-        (λ t. (items_fault F.reading left 0 (items_view items.now.items) ≡ None) × (t ≡ sorted_by path_cmp (items_rows F.reading 0 (items_view items.now.items))))
-        (λ e. (e ≡ Memory) ⊎ (fault_in (items_fault F.reading left 0 (items_view items.now.items)) ≡ Some e)) }
+        (λ t. (items_fault F.reading left 0 (items_view items.now.items) ≡ None)
+        × (t ≡ sorted_by path_cmp (items_rows F.reading 0 (items_view items.now.items))))
+        (λ e. (e ≡ Memory)
+        ⊎ (fault_in (items_fault F.reading left 0 (items_view items.now.items)) ≡ Some e)) }
     ensures shallow { IfOk result (λ t. Shallow (left + 1) t) }
 {
     let mut children = BTreeMap::new(alloc);
@@ -177,10 +170,12 @@ fn read_members<L: Drop, F: Form<L>>(
     members: &Map<String, Value>,
     left: usize,
 ) -> Result<Nested<L>, TreeFault>
-    requires { left ≤ 32 }
+    requires { left ≤ max_depth }
     ensures read { MatchResult result
-        (λ t. (members_fault F.reading left (members_view members.now.entries) ≡ None) × (t ≡ sorted_by path_cmp (members_rows F.reading (members_view members.now.entries))))
-        (λ e. (e ≡ Memory) ⊎ (members_fault F.reading left (members_view members.now.entries) ≡ Some e)) }
+        (λ t. (members_fault F.reading left (members_view members.now.entries) ≡ None)
+        × (t ≡ sorted_by path_cmp (members_rows F.reading (members_view members.now.entries))))
+        (λ e. (e ≡ Memory)
+        ⊎ (members_fault F.reading left (members_view members.now.entries) ≡ Some e)) }
     ensures shallow { IfOk result (λ t. Shallow (left + 1) t) }
 {
     let mut children = BTreeMap::new(alloc);

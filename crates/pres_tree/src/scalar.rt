@@ -1,51 +1,11 @@
 //! What a place of a tree holds.
 
-ghost use Rattle.std.specs.Prelude.{◌≡◌, IfOk, string_bytes};
-
 use crate::fault::TreeFault;
 use crate::nested::Leaf;
+use crate::read::Form;
+use crate::text::Text;
 use serde_json::Value;
 use std::alloc::{AllocError, Global};
-use std::marker::Model;
-
-/// A text that contracts see as its bytes.
-#[derive(Drop)]
-pub struct Text {
-    text: String,
-}
-
-impl Model for Text {
-    ghost use Rattle.std.specs.Prelude.{List, ℕ, string_bytes};
-
-    ghost Value = { List ℕ };
-
-    ghost view = { λ a. string_bytes a.text };
-}
-
-impl Text {
-    /// The text of a string, which is moved.
-    pub fn of(text: String) -> Text
-        ensures { result ≡ string_bytes text }
-    {
-        Text { text }
-    }
-
-    /// The characters.
-    pub fn as_str(&self) -> &str
-        ensures { result.now ≡ self.now }
-    {
-        self.text.as_str()
-    }
-
-    /// An equal text.
-    pub fn copy(&self, alloc: Global) -> Result<Text, AllocError>
-        ensures { IfOk result (λ t. t ≡ self.now) }
-    {
-        Ok(Text {
-            text: String::from_str(alloc, self.text.as_str())?,
-        })
-    }
-}
 
 /// What a place of a tree holds: a truth, a whole number of 64 bits, or a text.
 #[derive(Drop)]
@@ -55,29 +15,10 @@ pub enum Scalar {
     Text(Text),
 }
 
-impl Leaf for Scalar {
-    ghost use Rattle.pres_tree.specs.Scalars.{scalar_reading, scalar_printing};
+impl Form<Scalar> for Scalar {
+    ghost use Rattle.pres_tree.specs.Scalars.{scalar_reading};
 
     ghost reading = { scalar_reading };
-
-    ghost printing = { scalar_printing };
-
-    fn copy(&self, alloc: Global) -> Result<Scalar, AllocError> {
-        match self {
-            Scalar::Bool(truth) => Ok(Scalar::Bool(*truth)),
-            Scalar::Int(number) => Ok(Scalar::Int(*number)),
-            Scalar::Text(text) => Ok(Scalar::Text(text.copy(alloc)?)),
-        }
-    }
-
-    fn equal(&self, other: &Scalar) -> bool {
-        match (self, other) {
-            (Scalar::Bool(truth), Scalar::Bool(other)) => truth == other,
-            (Scalar::Int(number), Scalar::Int(other)) => number == other,
-            (Scalar::Text(text), Scalar::Text(other)) => text.as_str() == other.as_str(),
-            _ => false,
-        }
-    }
 
     fn is_leaf(value: &Value) -> bool {
         matches!(value, Value::Bool(_) | Value::Number(_) | Value::String(_))
@@ -100,7 +41,30 @@ impl Leaf for Scalar {
                     }
                 }
             },
-            _ => Err(TreeFault::Memory),
+            _ => unreachable!(),
+        }
+    }
+}
+
+impl Leaf for Scalar {
+    ghost use Rattle.pres_tree.specs.Scalars.{scalar_printing};
+
+    ghost printing = { scalar_printing };
+
+    fn copy(&self, alloc: Global) -> Result<Scalar, AllocError> {
+        match self {
+            Scalar::Bool(truth) => Ok(Scalar::Bool(*truth)),
+            Scalar::Int(number) => Ok(Scalar::Int(*number)),
+            Scalar::Text(text) => Ok(Scalar::Text(text.copy(alloc)?)),
+        }
+    }
+
+    fn equal(&self, other: &Scalar) -> bool {
+        match (self, other) {
+            (Scalar::Bool(truth), Scalar::Bool(other)) => truth == other,
+            (Scalar::Int(number), Scalar::Int(other)) => number == other,
+            (Scalar::Text(text), Scalar::Text(other)) => text == other,
+            _ => false,
         }
     }
 

@@ -36,27 +36,10 @@ fn is_timestamp(value: &Value) -> bool
     }
 }
 
-impl Leaf for Slot {
-    ghost use Rattle.pres_write.specs.Drafts.{slot_reading, slot_printing};
+impl Form<Slot> for Slot {
+    ghost use Rattle.pres_write.specs.Drafts.{slot_reading};
 
     ghost reading = { slot_reading };
-
-    ghost printing = { slot_printing };
-
-    fn copy(&self, alloc: Global) -> Result<Slot, AllocError> {
-        match self {
-            Slot::Fixed(scalar) => Ok(Slot::Fixed(scalar.copy(alloc)?)),
-            Slot::Timestamp => Ok(Slot::Timestamp),
-        }
-    }
-
-    fn equal(&self, other: &Slot) -> bool {
-        match (self, other) {
-            (Slot::Fixed(scalar), Slot::Fixed(other)) => scalar.equal(other),
-            (Slot::Timestamp, Slot::Timestamp) => true,
-            _ => false,
-        }
-    }
 
     fn is_leaf(value: &Value) -> bool {
         match value {
@@ -75,9 +58,30 @@ impl Leaf for Slot {
                         Err(TreeFault::Placeholder)
                     }
                 }
-                None => Err(TreeFault::Memory),
+                None => unreachable!(),
             },
             _ => Ok(Slot::Fixed(Scalar::read(alloc, value)?)),
+        }
+    }
+}
+
+impl Leaf for Slot {
+    ghost use Rattle.pres_write.specs.Drafts.{slot_printing};
+
+    ghost printing = { slot_printing };
+
+    fn copy(&self, alloc: Global) -> Result<Slot, AllocError> {
+        match self {
+            Slot::Fixed(scalar) => Ok(Slot::Fixed(scalar.copy(alloc)?)),
+            Slot::Timestamp => Ok(Slot::Timestamp),
+        }
+    }
+
+    fn equal(&self, other: &Slot) -> bool {
+        match (self, other) {
+            (Slot::Fixed(scalar), Slot::Fixed(other)) => scalar.equal(other),
+            (Slot::Timestamp, Slot::Timestamp) => true,
+            _ => false,
         }
     }
 

@@ -1,4 +1,4 @@
--- The words that ask for `apply` are taken, and name it.
+-- The words that ask for `apply` are taken.
 use Rattle.std.proofs.Common.{◌≡◌, ap, sym, refl, ◌∙◌, true, List, [], ◌∷◌, codes, Option, Some, None, option_map}
 use Rattle.std.specs.Prelude.{◌&&◌}
 use Rattle.clap.specs.Simple.{built, is_simple, names_of, entered, subcommand_of}
@@ -25,27 +25,6 @@ taken_alone = refl
 
 pub asked_is_taken : (words : List Text) → AsksApply words → takes program words ≡ true
 asked_is_taken words e = ap (λ ws. is_simple program && built_takes (built program) nothing_held ws) e ∙ taken_alone
-
-abbrev name_at : List Text → Option Text
-name_at ws = option_map (λ p. p.0) (entered (built program) (stop_after (built program).top.rules (names_of (built program)) ws))
-
-named_alone : name_at apply_alone ≡ Some (codes "apply")
-unfolding clap_on_literals
-named_alone = refl
-
-asked_is_named : (words : List Text) → AsksApply words → option_map (λ p. p.0) (subcommand_of program words) ≡ Some (codes "apply")
-asked_is_named words e = ap name_at e ∙ named_alone
-
-map_of_map : {A B C : Type 0} (g : B → C) (f : A → B) (o : Option A) → option_map g (option_map f o) ≡ option_map (λ x. g (f x)) o
-map_of_map g f None = refl
-map_of_map g f (Some x) = refl
-
-names_apply : (m : ArgMatches) (words : List Text) → subcommand_rows_of m ≡ subcommand_of program words → AsksApply words → subcommand_name_of m ≡ Some (codes "apply")
-names_apply m words rows e = sym (map_of_map (λ p. p.0) _ (out-ArgMatches m).subcommand) ∙ ap (option_map (λ p. p.0)) rows ∙ asked_is_named words e
-
--- what a parse of such words names
-pub asked_name : (app : App) (m : ArgMatches) (words : List Text) → app ≡ program → HasMatchesOf app words m → AsksApply words → subcommand_name_of m ≡ Some (codes "apply")
-asked_name app m words same has e = names_apply m words ((has (ap is_simple same ∙ simple)).1 ∙ ap (λ a. subcommand_of a words) same) e
 
 -- ---- words that are taken
 

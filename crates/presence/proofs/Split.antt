@@ -2,7 +2,7 @@
 use Rattle.std.proofs.Common.{◌≡◌, ◌==◌, ℕ, Bool, true, false, List, [], ◌∷◌, ◌++◌, refl, sym, ap, ◌∙◌, append_assoc, append-nil, ◌||◌}
 use Rattle.presence.specs.Replies.{State}
 use Rattle.presence.specs.Replies.{reply, next}
-use Rattle.presence.specs.Lines.{lines_of, replies, end_of, IsFeedless, Holds, Takes, Midway}
+use Rattle.presence.specs.Lines.{lines_of, replies, end_of, IsFeedless, Holds, Takes, Midway, AnswersSome}
 use Rattle.std.specs.List.{onto_first}
 use Rattle.std.proofs.lemmas.List.Folds.{list_any-append}
 
@@ -136,40 +136,63 @@ replies_end : (old mid : State) (done : List (List ℕ)) (line : List ℕ) → m
 unfolding replies
 replies_end old mid done line e = ap (λ x. replies old done ++ reply x line) e ∙ ap (λ x. replies old done ++ x) (sym (append-nil _)) ∙ sym (replies_more old done (line ∷ []))
 
-pub midway_starts : (m : State) (line rest bytes : List ℕ) (cut : Bool) (out : List ℕ) → IsFeedless line → Holds line bytes cut → Midway m m (line ++ rest) rest bytes cut out out
+pub midway_starts : (m : State) (line piece bytes : List ℕ) (cut : Bool) (out : List ℕ) → IsFeedless line → Holds line bytes cut → Midway m m line piece piece bytes cut out out
 unfolding end_of replies
-midway_starts m line rest bytes cut out f h = record { done = []; last = line; whole_is = refl; feedless = f; holds = h; state = refl; text = sym (append-nil out) }
+midway_starts m line piece bytes cut out f h = record {
+  front = [];
+  done = [];
+  last = line;
+  split = refl;
+  lines = ap lines_of (append-nil line) ∙ lines_last line f;
+  feedless = f;
+  holds = h;
+  state = refl;
+  text = sym (append-nil out);
+}
 
 -- a line ends
-pub midway_goes : (old mid new : State) (whole rest head tail bytes bytes' : List ℕ) (cut cut' : Bool) (before out out' : List ℕ)
-    → Midway old mid whole rest bytes cut before out → rest ≡ head ++ 10 ∷ tail → IsFeedless head → Holds [] bytes' cut'
+pub midway_goes : (old mid new : State) (begun piece rest head tail bytes bytes' : List ℕ) (cut cut' : Bool) (before out out' : List ℕ)
+    → Midway old mid begun piece rest bytes cut before out → rest ≡ head ++ 10 ∷ tail → IsFeedless head → Holds [] bytes' cut'
     → ((line : List ℕ) → Holds line bytes cut → (new ≡ next mid (line ++ head)) × (out' ≡ out ++ reply mid (line ++ head)))
-    → Midway old new whole tail bytes' cut' before out'
+    → Midway old new begun piece tail bytes' cut' before out'
 unfolding end_of replies
-midway_goes old mid new whole rest head tail bytes bytes' cut cut' before out out' m split f h step =
+midway_goes old mid new begun piece rest head tail bytes bytes' cut cut' before out out' m split f h step =
     let line = m.last ++ head in
+    let ending = head ++ 10 ∷ [] in
     let one = feedless_append m.last head m.feedless f in
     let now = step m.last m.holds in
-    let cells : m.last ++ rest ≡ line ++ 10 ∷ tail = ap (λ r. m.last ++ r) split ∙ sym (append_assoc m.last head (10 ∷ tail)) in
-    let lines : lines_of (m.last ++ rest) ≡ line ∷ lines_of tail = ap lines_of cells ∙ lines_line line tail one in
+    let ended : lines_of (m.last ++ ending) ≡ line ∷ [] ∷ [] =
+    ap lines_of (sym (append_assoc m.last head (10 ∷ []))) ∙ lines_line line [] one ∙ ap (λ ls. line ∷ ls) lines_none in
     record {
+      front = m.front ++ ending;
       done = m.done ++ line ∷ [];
       last = [];
-      whole_is = m.whole_is ∙ ap (λ ls. m.done ++ ls) lines ∙ sym (append_assoc m.done (line ∷ []) (lines_of tail));
+      split = m.split ∙ ap (λ r. m.front ++ r) (split ∙ sym (append_assoc head (10 ∷ []) tail)) ∙ sym (append_assoc m.front ending tail);
+      lines = ap lines_of (sym (append_assoc begun m.front ending)) ∙ lines_more (begun ++ m.front) m.done m.last ending m.lines
+          ∙ ap (λ ls. m.done ++ ls) ended ∙ sym (append_assoc m.done (line ∷ []) ([] ∷ []));
       feedless = feedless_none;
       holds = h;
       state = now.0 ∙ ap (λ x. next x line) m.state ∙ sym (end_more old m.done (line ∷ []));
       text = now.1 ∙ ap (λ x. x ++ reply mid line) m.text ∙ append_assoc before _ _ ∙ ap (λ x. before ++ x) (replies_end old mid m.done line m.state);
     }
 
+-- what has been answered so far
+pub midway_stops : (old mid : State) (begun piece rest bytes : List ℕ) (cut : Bool) (before out : List ℕ)
+    → Midway old mid begun piece rest bytes cut before out
+    → (said : List ℕ) × (out ≡ before ++ said) × AnswersSome old begun piece said
+midway_stops old mid begun piece rest bytes cut before out m =
+    (replies old m.done, m.text, record { front = m.front; back = rest; done = m.done; last = m.last; split = m.split; lines = m.lines; text = refl })
+
 -- no line feed is left
-pub midway_ends : (old new : State) (whole rest bytes bytes' : List ℕ) (cut cut' : Bool) (before out : List ℕ)
-    → Midway old new whole rest bytes cut before out → IsFeedless rest
+pub midway_ends : (old new : State) (begun piece rest bytes bytes' : List ℕ) (cut cut' : Bool) (before out : List ℕ)
+    → Midway old new begun piece rest bytes cut before out → IsFeedless rest
     → ((line : List ℕ) → Holds line bytes cut → Holds (line ++ rest) bytes' cut')
-    → (said : List ℕ) × (out ≡ before ++ said) × Takes old new whole bytes' cut' said
-midway_ends old new whole rest bytes bytes' cut cut' before out m f push =
+    → (said : List ℕ) × (out ≡ before ++ said) × Takes old new (begun ++ piece) bytes' cut' said
+midway_ends old new begun piece rest bytes bytes' cut cut' before out m f push =
     let one = feedless_append m.last rest m.feedless f in
-    let is : lines_of whole ≡ m.done ++ (m.last ++ rest) ∷ [] = m.whole_is ∙ ap (λ ls. m.done ++ ls) (lines_last (m.last ++ rest) one) in
+    let is : lines_of (begun ++ piece) ≡ m.done ++ (m.last ++ rest) ∷ [] =
+    ap (λ p. lines_of (begun ++ p)) m.split ∙ ap lines_of (sym (append_assoc begun m.front rest)) ∙ lines_more (begun ++ m.front) m.done m.last rest m.lines
+    ∙ ap (λ ls. m.done ++ ls) (lines_last (m.last ++ rest) one) in
     (replies old m.done, m.text, record { done = m.done; last = m.last ++ rest; whole_is = is; feedless = one; holds = push m.last m.holds; state = m.state; text = refl })
 
 -- a text and a further piece of it

@@ -1,5 +1,5 @@
 -- Lines of a text, and what is answered to all of them.
-use Rattle.std.specs.Prelude.{◌≡◌, ◌==◌, ℕ, Bool, false, nat_lt, List, [], ◌∷◌, ◌++◌, length, Option, IfSome}
+use Rattle.std.specs.Prelude.{◌≡◌, ◌==◌, ◌≤◌, ℕ, Bool, false, nat_lt, List, [], ◌∷◌, ◌++◌, length, Option, IfSome}
 use Rattle.std.specs.Io.KnownBytes.{Appends, Consumes}
 use Rattle.std.specs.List.{list_any, slice_split}
 use Rattle.presence.specs.Replies.{State, start, limit, reply, next, tree_line}
@@ -37,9 +37,26 @@ pub record Reached (input rest before after : Option (List ℕ)) : Type 0 where
   pub lines : lines_of seen ≡ done ++ last ∷ []
   pub written : Appends before after (replies start done)
 
--- What was written is the replies to the lines that some first part of the input ends.
-abbrev pub Stopped : Option (List ℕ) → Option (List ℕ) → Option (List ℕ) → Type 0
-Stopped input before after = (rest : Option (List ℕ)) × Reached input rest before after
+-- The same, where so many bytes at least were read.
+pub record ReachedPast (least : ℕ) (input rest before after : Option (List ℕ)) : Type 0 where
+  pub reached : Reached input rest before after
+  pub long : least ≤ length reached.seen
+
+-- the bytes that one read may bring
+abbrev pub room : ℕ
+room = 65536
+
+-- What was written is the replies to the lines that ended in all that was read, but for what is left
+-- over of the last read.
+pub record Stopped (input rest before after : Option (List ℕ)) : Type 0 where
+  pub seen : List ℕ
+  pub left_over : List ℕ
+  pub done : List (List ℕ)
+  pub last : List ℕ
+  pub read : Consumes input rest (seen ++ left_over)
+  pub short : length left_over ≤ room
+  pub lines : lines_of seen ≡ done ++ last ∷ []
+  pub written : Appends before after (replies start done)
 
 -- ---- inside a run
 
@@ -61,20 +78,33 @@ pub record Takes (old new : State) (whole bytes : List ℕ) (cut : Bool) (said :
   pub state : new ≡ end_of old done
   pub text : said ≡ replies old done
 
--- The same with more of the text to come.
-pub record Midway (old new : State) (whole rest bytes : List ℕ) (cut : Bool) (before out : List ℕ) : Type 0 where
+-- The replies are those to the lines that end in the line so far and a first part of the piece.
+pub record AnswersSome (old : State) (line piece said : List ℕ) : Type 0 where
+  pub front : List ℕ
+  pub back : List ℕ
   pub done : List (List ℕ)
   pub last : List ℕ
-  pub whole_is : lines_of whole ≡ done ++ lines_of (last ++ rest)
+  pub split : piece ≡ front ++ back
+  pub lines : lines_of (line ++ front) ≡ done ++ last ∷ []
+  pub text : said ≡ replies old done
+
+-- The lines that end in the line so far and the piece but for its rest have been taken.
+pub record Midway (old new : State) (line piece rest bytes : List ℕ) (cut : Bool) (before out : List ℕ) : Type 0 where
+  pub front : List ℕ
+  pub done : List (List ℕ)
+  pub last : List ℕ
+  pub split : piece ≡ front ++ rest
+  pub lines : lines_of (line ++ front) ≡ done ++ last ∷ []
   pub feedless : IsFeedless last
   pub holds : Holds last bytes cut
   pub state : new ≡ end_of old done
   pub text : out ≡ before ++ replies old done
 
--- What was read and written so far, and the state then.
-pub record Going (input rest before after : Option (List ℕ)) (s : State) (bytes : List ℕ) (cut : Bool) : Type 0 where
+-- What was read, so many bytes at least, and written so far, and the state then.
+pub record Going (input rest before after : Option (List ℕ)) (s : State) (bytes : List ℕ) (cut : Bool) (least : ℕ) : Type 0 where
   pub seen : List ℕ
   pub said : List ℕ
   pub read : Consumes input rest seen
+  pub long : least ≤ length seen
   pub written : Appends before after said
   pub takes : Takes start s seen bytes cut said

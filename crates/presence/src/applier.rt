@@ -1,6 +1,6 @@
 //! What the lines of operations do, and what is answered to each.
 
-ghost use Rattle.std.specs.Prelude.{◌≡◌, ◌++◌, OnOk, IfOk, IfErr, option_map, string_bytes};
+ghost use Rattle.std.specs.Prelude.{◌≡◌, ◌++◌, OnOk, OnErr, IfOk, IfErr, option_map, string_bytes};
 ghost use Rattle.serde_json.specs.View.{view};
 ghost use Rattle.presence.specs.Replies.{start, refuse, carry_out, taken, tree_line, value_text, kept_line, data_of, moment_in};
 ghost use Rattle.pres_tree.specs.Rows.{rows_in};
@@ -57,6 +57,7 @@ impl Applier {
         ensures text { OnOk result (out.new.items ≡ out.old.items ++ (taken self.old line.now).0) }
         ensures state { OnOk result (self.new ≡ (taken self.old line.now).1) }
         ensures err { IfErr result (EndsAt self.old.log.number) }
+        ensures silent { OnErr result (out.new.items ≡ out.old.items) }
     {
         let Some(value) = json_of(self.alloc, line)? else {
             return self.refuse(LineFault::NotJson, out);
@@ -75,6 +76,7 @@ impl Applier {
         ensures text { OnOk result (out.new.items ≡ out.old.items ++ (carry_out self.old op now).0) }
         ensures state { OnOk result (self.new ≡ (carry_out self.old op now).1) }
         ensures err { IfErr result (EndsAt self.old.log.number) }
+        ensures silent { OnErr result (out.new.items ≡ out.old.items) }
     {
         let (number, kept) = match self.plain.apply_owned(op, now) {
             Ok(answer) => answer,
@@ -91,6 +93,7 @@ impl Applier {
         ensures text { OnOk result (out.new.items ≡ out.old.items ++ (refuse self.old fault).0) }
         ensures state { OnOk result (self.new ≡ (refuse self.old fault).1) }
         ensures err { IfErr result (λ e. e ≡ RunFault.Memory) }
+        ensures silent { OnErr result (out.new.items ≡ out.old.items) }
     {
         let number = fault.number();
         let name = fault.name();

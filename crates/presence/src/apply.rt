@@ -1,8 +1,8 @@
 //! `presence apply`: lines of operations in, lines of replies and the tree out.
 
-ghost use Rattle.std.specs.Prelude.{◌≡◌, IfOk, IfSome, IfErr, IsErrOf, OnOk, vec_len};
+ghost use Rattle.std.specs.Prelude.{◌≡◌, ◌-◌, ◌^◌, IfOk, IfSome, IfErr, IsErrOf, OnOk, vec_len};
 ghost use Rattle.std.specs.Io.KnownBytes.{Appends};
-ghost use Rattle.presence.specs.Lines.{output_of, end_state, Reached, Stopped};
+ghost use Rattle.presence.specs.Lines.{output_of, end_state, Reached, ReachedPast, Stopped};
 
 use crate::faults::RunFault;
 use crate::feeder::Feeder;
@@ -16,7 +16,8 @@ const MOST_READS: u64 = 4294967295;
 const ROOM: usize = 65536;
 
 /// Answers each line of the input with a line, and writes the tree at its end. Replies are
-/// written before each further read. Says whether a line was refused.
+/// written before each further read, and where memory is refused before the run ends. Says whether
+/// a line was refused.
 pub fn apply_run<R: Read, W: Write>(
     alloc: Global,
     input: &mut R,
@@ -28,10 +29,11 @@ pub fn apply_run<R: Read, W: Write>(
         refused ≡ (end_state bytes).refused)) }
     ensures read { IsErrOf result RunFault.Read → Reached (R.remaining input.old)
         (R.remaining input.new) (W.contents output.old) (W.contents output.new) }
-    ensures endless { IsErrOf result RunFault.Endless → Reached (R.remaining input.old)
-        (R.remaining input.new) (W.contents output.old) (W.contents output.new) }
-    ensures memory { IsErrOf result RunFault.Memory → Stopped (R.remaining input.old)
+    ensures endless { IsErrOf result RunFault.Endless → ReachedPast (2 ^ 32 - 1)
+        (R.remaining input.old) (R.remaining input.new)
         (W.contents output.old) (W.contents output.new) }
+    ensures memory { IsErrOf result RunFault.Memory → Stopped (R.remaining input.old)
+        (R.remaining input.new) (W.contents output.old) (W.contents output.new) }
     ensures unspent { ¬ IsErrOf result RunFault.Spent }
 {
     let mut feeder = Feeder::new(alloc);
@@ -48,8 +50,9 @@ pub fn apply_run<R: Read, W: Write>(
             put(output, &out)?;
             return Ok(feeder.has_refused());
         }
-        feeder.feed(&piece[..count], &mut out)?;
+        let fed = feeder.feed(&piece[..count], &mut out);
         put(output, &out)?;
+        fed?;
     }
     Err(RunFault::Endless)
 }

@@ -1,9 +1,9 @@
 //! Lines out of pieces of any size.
 
-ghost use Rattle.std.specs.Prelude.{◌≡◌, ◌++◌, ◌∷◌, [], List, ℕ, OnOk, IfErr, MatchOption, length, ◌+◌, ◌≤◌};
+ghost use Rattle.std.specs.Prelude.{◌≡◌, ◌++◌, ◌∷◌, [], List, ℕ, OnOk, OnErr, IfErr, MatchOption, length, ◌+◌, ◌≤◌};
 ghost use Rattle.presence.specs.Replies.{start, reply, next, tree_line};
 ghost use Rattle.presence.specs.Faults.{EndsAt};
-ghost use Rattle.presence.specs.Lines.{Holds, IsFeedless, Takes};
+ghost use Rattle.presence.specs.Lines.{AnswersSome, Holds, IsFeedless, Takes};
 
 use crate::applier::Applier;
 use crate::faults::{LineFault, RunFault};
@@ -50,6 +50,7 @@ impl Feeder {
         ensures count { OnOk result
             (self.new.applier.log.number ≤ self.old.applier.log.number + 1) }
         ensures err { IfErr result (EndsAt self.old.applier.log.number) }
+        ensures silent { OnErr result (out.new.items ≡ out.old.items) }
     {
         if self.pending.is_cut() {
             self.applier.refuse(LineFault::TooLong, out)?;
@@ -60,7 +61,8 @@ impl Feeder {
         Ok(())
     }
 
-    /// A piece of the input, answered as far as its lines have ended.
+    /// A piece of the input, answered as far as its lines have ended. Where a line can't be
+    /// answered, the replies to those before it stand.
     pub fn feed(&mut self, piece: &[u8], out: &mut Vec<u8>) -> Result<(), RunFault>
         ensures taken { OnOk result ((line : List ℕ) → IsFeedless line
             → Holds line self.old.pending.bytes.items self.old.pending.cut
@@ -71,6 +73,10 @@ impl Feeder {
             (self.new.applier.log.number ≤ self.old.applier.log.number + length piece.now) }
         ensures err { IfErr result
             (EndsAt (self.old.applier.log.number + length piece.now)) }
+        ensures stopped { OnErr result ((line : List ℕ) → IsFeedless line
+            → Holds line self.old.pending.bytes.items self.old.pending.cut
+            → (said : List ℕ) × (out.new.items ≡ out.old.items ++ said)
+            × AnswersSome self.old.applier line piece.now said) }
     {
         let mut rest = piece;
         'lines: while let Some((line, more)) = split_line(rest) {

@@ -41,16 +41,15 @@ pub fn presence_run<R: Read, W: Write, F: Write>(
     ensures done { result ≡ 0 → Finished (R.remaining input.old)
         (W.contents output.old) (W.contents output.new) ⊎ (input.new ≡ input.old) }
     ensures words { result ≡ 2 → (input.new ≡ input.old) × (output.new ≡ output.old) }
-    ensures memory { result ≡ 5 → Stopped (R.remaining input.old)
+    ensures memory { result ≡ 5 → Stopped (R.remaining input.old) (R.remaining input.new)
         (W.contents output.old) (W.contents output.new) }
 {
     match read_words(alloc, words) {
-        Ok(Some(Request::Apply)) => {
+        Ok(Request::Apply) => {
             let status = apply_status(alloc, input, output);
             tell(status, faults);
             status
         }
-        Ok(None) => BAD_WORDS,
         Err(error) => explain(&error, output, faults),
     }
 }
@@ -61,7 +60,7 @@ fn apply_status<R: Read, W: Write>(alloc: Global, input: &mut R, output: &mut W)
     ensures words { result ≢ 2 }
     ensures done { result ≡ 0 → Finished (R.remaining input.old)
         (W.contents output.old) (W.contents output.new) }
-    ensures memory { result ≡ 5 → Stopped (R.remaining input.old)
+    ensures memory { result ≡ 5 → Stopped (R.remaining input.old) (R.remaining input.new)
         (W.contents output.old) (W.contents output.new) }
 {
     match apply_run(alloc, input, output) {

@@ -1,6 +1,6 @@
 //! The words of the command line.
 
-ghost use Rattle.std.specs.Prelude.{◌≡◌, IfOk, MatchResult, Some, map};
+ghost use Rattle.std.specs.Prelude.{◌≡◌, IfOk, MatchResult, map};
 ghost use Rattle.clap.specs.Words.{app_of, kind_of};
 ghost use Rattle.clap.specs.declared.error.kind.ErrorKind.TheVariants.{OutOfMemory};
 ghost use Rattle.presence.specs.Words.{AreTaken, AsksApply, program};
@@ -29,22 +29,21 @@ fn command<'a>(alloc: Global) -> Result<Command<'a>, AllocError>
         .subcommand(apply)
 }
 
-/// Reads the words of the command line, the program's name first. `None` stands for words that
-/// `clap` took and no request has, which it never answers.
-pub fn read_words<'a>(alloc: Global, words: &'a [&'a str]) -> Result<Option<Request>, Error>
+/// Reads the words of the command line, the program's name first.
+pub fn read_words<'a>(alloc: Global, words: &'a [&'a str]) -> Result<Request, Error>
     ensures apply { AsksApply (map (λ word. word.now) words.now) → MatchResult result
-        (λ request. request ≡ Some Request.Apply)
+        (λ request. request ≡ Request.Apply)
         (λ e. kind_of e ≡ OutOfMemory) }
     ensures taken { IfOk result (λ _. AreTaken (map (λ word. word.now) words.now)) }
 {
     let command = command(alloc)?;
     let matches = command.try_get_matches_from(words)?;
     let Some((name, _)) = matches.subcommand() else {
-        return Ok(None);
+        unreachable!()
     };
-    Ok(if name == "apply" {
-        Some(Request::Apply)
+    if name == "apply" {
+        Ok(Request::Apply)
     } else {
-        None
-    })
+        unreachable!()
+    }
 }

@@ -25,7 +25,7 @@ pub nested::Nested::to_value-returns-in-Leaf-clause-reads_back :
     goal.nested::Nested::to_value-returns-in-Leaf-clause-reads_back
 nested::Nested::to_value-returns-in-Leaf-clause-reads_back g t c =
     let is = sym (ap rows_of_node c.in-Leaf.is) ∙ c.self.view_is in
-    leaf_printed view g.L.Leaf.reading c.print.result c.in-Leaf.leaf c.args.self.now is c.print.ensures.reads_back
+    leaf_printed view g.L.Form.reading c.print.result c.in-Leaf.leaf c.args.self.now is c.print.ensures.reads_back
 
 pub nested::Nested::to_value-returns-in_ok-printed-in-Object-clause-json :
     goal.nested::Nested::to_value-returns-in_ok-printed-in-Object-clause-json
@@ -39,7 +39,7 @@ pub nested::Nested::to_value-returns-in_ok-printed-in-Object-clause-reads_back :
     goal.nested::Nested::to_value-returns-in_ok-printed-in-Object-clause-reads_back
 nested::Nested::to_value-returns-in_ok-printed-in-Object-clause-reads_back g t c =
     let at = at_object {n = c.self.inside.node} c.in-Object.children c.self.invariant c.self.view_is c.in-Object.is in
-    let f = g.L.Leaf.reading in
+    let f = g.L.Form.reading in
     let ms = members_view c.in_ok-printed-in-Object.field-0.entries in
     let back = c.in_ok-printed-in-Object.ensures.reads_back in
     let is = view-Object c.in_ok-printed-in-Object.field-0 in
@@ -57,7 +57,7 @@ print::printed-loop-key-init g t c =
     let none = c.new-members.ensures.empty in (
       [],
       sym same,
-      subst (Printed g.L.Leaf.printing g.L.Leaf.reading []) (sym none) (printed-none g.L.Leaf.printing g.L.Leaf.reading),
+      subst (Printed g.L.Leaf.printing g.L.Form.reading []) (sym none) (printed-none g.L.Leaf.printing g.L.Form.reading),
       subst (λ ms. IsStrictlySortedBy key_cmp (texts ms ++ keys_of all)) (sym none) (subst (λ es. IsStrictlySortedBy key_cmp (keys_of es)) (sym same) c.iter-key-items.ensures.ordered),
     )
 
@@ -77,8 +77,8 @@ print::printed-loop-key-preserved g t c =
     let inserted = c.in_ok-insert.ensures.entries ∙ text_end l.members.entries name made (keys_of left) rise in (
       done ++ e ∷ [],
       l.invariant.1 ∙ ap (λ es. done ++ es) c.in-Some.ensures.steps ∙ sym (append_assoc done (e ∷ []) left),
-      subst (Printed g.L.Leaf.printing g.L.Leaf.reading (done ++ e ∷ [])) (sym inserted)
-          (printed-more g.L.Leaf.printing g.L.Leaf.reading done l.members.entries key child name made l.invariant.2 named c.text.ensures.key c.in_ok-to_value.ensures.json c.in_ok-to_value.ensures.reads_back),
+      subst (Printed g.L.Leaf.printing g.L.Form.reading (done ++ e ∷ [])) (sym inserted)
+          (printed-more g.L.Leaf.printing g.L.Form.reading done l.members.entries key child name made l.invariant.2 named c.text.ensures.key c.in_ok-to_value.ensures.json c.in_ok-to_value.ensures.reads_back),
       subst (λ ms. IsStrictlySortedBy key_cmp (texts ms ++ keys_of left)) (sym inserted) (texts_rise l.members.entries name made (keys_of left) rise),
     )
 
@@ -86,14 +86,14 @@ pub print::printed-returns-clause-json : goal.print::printed-returns-clause-json
 print::printed-returns-clause-json g t c =
     let l = c.loop-key in
     let all : c.args.children.now.entries ≡ l.invariant.0 = l.invariant.1 ∙ ap (λ es. l.invariant.0 ++ es) c.in-None.ensures.steps.0 ∙ append-nil l.invariant.0 in
-    printed-json g.L.Leaf.printing g.L.Leaf.reading l.invariant.0 l.members.entries l.invariant.2 ∙ ap (members_of g.L.Leaf.printing) (sym all)
+    printed-json g.L.Leaf.printing g.L.Form.reading l.invariant.0 l.members.entries l.invariant.2 ∙ ap (members_of g.L.Leaf.printing) (sym all)
 
 pub print::printed-returns-clause-reads_back : goal.print::printed-returns-clause-reads_back
 print::printed-returns-clause-reads_back g t c =
     let l = c.loop-key in
     let all : c.args.children.now.entries ≡ l.invariant.0 = l.invariant.1 ∙ ap (λ es. l.invariant.0 ++ es) c.in-None.ensures.steps.0 ∙ append-nil l.invariant.0 in
-    subst (λ es. MembersReadBack g.L.Leaf.reading es (members_view l.members.entries)) (sym all)
-    (printed-reads_back g.L.Leaf.printing g.L.Leaf.reading l.invariant.0 l.members.entries l.invariant.2)
+    subst (λ es. MembersReadBack g.L.Form.reading es (members_view l.members.entries)) (sym all)
+    (printed-reads_back g.L.Leaf.printing g.L.Form.reading l.invariant.0 l.members.entries l.invariant.2)
 
 pub print::printed-to_value-requires : goal.print::printed-to_value-requires
 print::printed-to_value-requires g t c κs within =

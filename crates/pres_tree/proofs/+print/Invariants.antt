@@ -16,5 +16,5 @@ decreases-print::printed g l = 2 * tallest l.children.now.entries
 abbrev pub invariant-print::printed-loop-key : goal.invariant-print::printed-loop-key
 invariant-print::printed-loop-key g l =
     (done : List (Key × Rows g.row.L.Denot)) × (l.children.entries ≡ done ++ l.key-iterator)
-    × Printed g.L.Leaf.printing g.L.Leaf.reading done l.members.entries
+    × Printed g.L.Leaf.printing g.L.Form.reading done l.members.entries
     × IsStrictlySortedBy key_cmp (texts l.members.entries ++ keys_of l.key-iterator)

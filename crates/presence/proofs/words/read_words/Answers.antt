@@ -1,10 +1,9 @@
-use Rattle.std.proofs.Common.{rules, ap, subst, sym, ◌∙◌, ◌≡◌, true, List, map, codes, Result, Ok, Err, MatchResult}
+use Rattle.std.proofs.Common.{rules, refl, ap, subst, sym, ◌∙◌, ◌≡◌, true, List, map, codes, Result, Ok, Err, MatchResult}
 use Rattle.std.specs.Result.{IsErrAnd}
 use Rattle.clap.specs.Words.{app_of, kind_of}
 use Rattle.clap.specs.Walk.{Text}
 use Rattle.clap.specs.Takes.{takes}
 use Rattle.presence.proofs.Asked.{asked_name, asked_is_taken, parsed_is_taken}
-use Rattle.presence.proofs.words.read_words.Goals.{then-eq, else-eq}
 use Rattle.presence.proofs.words.read_words.Goals as goal
 
 -- what `?` passes up
@@ -21,14 +20,8 @@ returns-in_err-matches c = record {
   taken = search rules;
 }
 
-pub returns : goal.returns
-returns c = record {
-  taken = parsed_is_taken _ _ c.in_ok-command.ensures c.in_ok-matches.ensures.kinds;
-  apply = λ asks.
-      let name = asked_name _ _ _ c.in_ok-command.ensures c.in_ok-matches.ensures.matches asks in
-      let said = c.in-Some.ensures.name in
-      elim c.if-eq.branch [
-        | then-eq w ↦ w.result-is
-        | else-eq w ↦ let same : c.in-Some.name.now ≡ codes "apply" = cc in let t : c.eq.result ≡ true = search rules in let f = w.if-eq.false in cc
-      ];
-}
+pub returns-clause-taken : goal.returns-clause-taken
+returns-clause-taken c = parsed_is_taken _ _ c.in_ok-command.ensures c.in_ok-matches.ensures.kinds
+
+pub returns-clause-apply : goal.returns-clause-apply
+returns-clause-apply c = λ _. refl

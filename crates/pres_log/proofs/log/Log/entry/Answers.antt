@@ -29,7 +29,7 @@ overflow_sub-place c =
     let lookup = c.in_ok-batch.ensures.lookup in
     let at = batch_at c.deref.result.now c.args.self.now i batch (c.deref.ensures.value ∙ c.self.view_is) lookup.3.0 lookup.1 in
     let low = c.begun-begun.ensures.begun i batch (omega (arith, c.in_ok-checked_sub.ensures)) at in
-    omega (arith, low, c.get-2.ensures.value)
+    omega (arith, low, c.get-2.ensures.value, c.first.ensures)
 
 pub returns : goal.returns
 returns c =
@@ -42,5 +42,5 @@ returns c =
     let begun : c.begun-begun.result ≡ suc i = omega (arith, c.in_ok-checked_sub.ensures) in
     let is : IsNumbered log = subst IsNumbered c.self.view_is c.self.invariant in
     let found = entry_found log i c.args.number batch is at low (λ b next. c.begun-begun.ensures.rest b (ap (slice_get log) begun ∙ next)) in
-    let got : option_copied c.get-3.result ≡ slice_get c.as_slice.result.now (c.args.number - c.get-2.result) = lent_item c.as_slice.result.now (c.args.number - c.get-2.result) c.get-3.result c.get-3.ensures.lookup.3 in
-    got ∙ ap (λ es. slice_get es (c.args.number - c.get-2.result)) c.as_slice.ensures ∙ ap (λ n. slice_get batch.entries (c.args.number - n)) c.get-2.ensures.value ∙ sym found
+    let got : option_copied c.get-3.result ≡ slice_get c.entries.result.now (c.args.number - c.get-2.result) = lent_item c.entries.result.now (c.args.number - c.get-2.result) c.get-3.result c.get-3.ensures.lookup.3 in
+    got ∙ ap (λ es. slice_get es (c.args.number - c.get-2.result)) c.entries.ensures.entries ∙ ap (λ n. slice_get batch.entries (c.args.number - n)) (c.get-2.ensures.value ∙ c.first.ensures) ∙ sym found

@@ -58,7 +58,7 @@ returns-in_err-parse c =
     let walked = turn (goal.at.returns-in_err-parse c).In-Some in
     record {
       path = rw (p.1, p.2) (elim c.in_err-parse.ensures.key [
-        | inl e ↦ inl e
+        | inl e ↦ inl e.0
         | inr e ↦ inr (parsed_fault c.args.text.now piece (some_bytes piece (sym c.if-is_empty.ensures)) e walked)
       ]);
     }
