@@ -27,7 +27,7 @@ use Rattle.pres_server.specs.Outcomes.{rows_for, ops}
 use Rattle.pres_server.specs.Streams.{stream}
 use Rattle.pres_server.specs.LegalLog.{MayCome, MayComeTogether, IsPlain, Supersedes, LeavesRoom, IsEndNumber}
 use Rattle.pres_server.specs.Turns.{Decision, refused, quiet, makes, op_by, in_order, if_open, ends_if_open, ends_first, hello, limited, wanted}
-use Rattle.pres_server.specs.Invariants.{Fits}
+use Rattle.pres_server.specs.Invariants.{MayComeUncounted}
 use Rattle.pres_server.specs.Parts.{LivePart, part_of, live_in, open_step, Sound, listed, session_with, same_stamp, is_live, said_by, hello_by, client_in, ends_live, wanted_by, open_steps, limited_by}
 use Rattle.pres_server.proofs.Since.{client_itself, session_itself}
 use Rattle.pres_server.proofs.Steps.{In, or_false, open_listed, in_open}
@@ -105,13 +105,13 @@ wanted_is es m (input.Slow s) sound = ends_is es why.Slow s sound
 wanted_is es m (input.Restart c) sound = ap (ends_first why.Restart) (sound.one_open c)
 
 -- entries that may come together, but for the limit on open sessions
-abbrev pub Together : List Entry → ℕ → List Entry → Type 0
-Together es m (e ∷ []) = IsPlain e × Fits es m e
-Together es m (e ∷ f ∷ []) = Supersedes e f × Fits es m e × Fits (es ++ e ∷ []) m f
-Together es m _ = ⊥
+abbrev pub MayComeTogetherUncounted : List Entry → ℕ → List Entry → Type 0
+MayComeTogetherUncounted es m (e ∷ []) = IsPlain e × MayComeUncounted es m e
+MayComeTogetherUncounted es m (e ∷ f ∷ []) = Supersedes e f × MayComeUncounted es m e × MayComeUncounted (es ++ e ∷ []) m f
+MayComeTogetherUncounted es m _ = ⊥
 
 abbrev pub Allowed : List Entry → ℕ → Decision → Type 0
-Allowed es m (makes xs) = Together es m xs
+Allowed es m (makes xs) = MayComeTogetherUncounted es m xs
 Allowed es m other = Unit {0}
 
 hello_allowed : (es : List Entry) (m : ℕ) (s : SessionId) → Sound es → Allowed es m (hello es s)
@@ -119,14 +119,14 @@ hello_allowed es m s sound = elim (is_newest s es) as (λ b. is_newest s es ≡ 
   | true ↦ λ new. by new (live_in (open_sessions_of s.client es) es) (sound.one_open s.client)
   | false ↦ λ _. tt
 ] refl where
-  by : is_newest s es ≡ true → (l : Option LivePart) → open_sessions_of s.client es ≡ listed s.client l → Together es m (map (λ t. entry.Ended t None why.Superseded []) (open_sessions_of s.client es) ++ entry.Open s ∷ [])
-  by new None e = subst (λ xs. Together es m (map (λ t. entry.Ended t None why.Superseded []) xs ++ entry.Open s ∷ [])) (sym e) (tt, (new, e))
+  by : is_newest s es ≡ true → (l : Option LivePart) → open_sessions_of s.client es ≡ listed s.client l → MayComeTogetherUncounted es m (map (λ t. entry.Ended t None why.Superseded []) (open_sessions_of s.client es) ++ entry.Open s ∷ [])
+  by new None e = subst (λ xs. MayComeTogetherUncounted es m (map (λ t. entry.Ended t None why.Superseded []) xs ++ entry.Open s ∷ [])) (sym e) (tt, (new, e))
   by new (Some l) e =
       let t : SessionId = session_with s.client l.stamp in
       let here : In t (open_sessions_of s.client es) = ap (list_any (same_session t)) e ∙ ap (λ b. b || false) (session_itself t) in
       let o : is_open t es ≡ true = (in_open t s.client es here).1 in
       let ss = no_more s.client es (entry.Ended t None why.Superseded []) refl in
-      subst (λ xs. Together es m (map (λ t. entry.Ended t None why.Superseded []) xs ++ entry.Open s ∷ [])) (sym e)
+      subst (λ xs. MayComeTogetherUncounted es m (map (λ t. entry.Ended t None why.Superseded []) xs ++ entry.Open s ∷ [])) (sym e)
       ((refl, refl), (o, refl, refl), (newest_still s t new, ended_own es t None why.Superseded [] sound o)) where
         newest_still : (s t : SessionId) → is_newest s es ≡ true → is_newest s (es ++ entry.Ended t None why.Superseded [] ∷ []) ≡ true
         newest_still s t new = ap (list_all (λ x. is_earlier (stamp_of x) (stamp_of s))) (no_more s.client es (entry.Ended t None why.Superseded []) refl) ∙ new
@@ -182,7 +182,7 @@ wanted_allowed es m (input.Slow s) sound = ends_allowed es m why.Slow s (λ e. a
 wanted_allowed es m (input.Restart c) sound = restart_allowed es m c sound
 
 -- the open sessions after several entries
-pub opens_are : (es : List Entry) (m : ℕ) (xs : List Entry) → Sound es → Together es m xs → length (open_sessions (es ++ xs)) ≡ open_steps xs (length (open_sessions es))
+pub opens_are : (es : List Entry) (m : ℕ) (xs : List Entry) → Sound es → MayComeTogetherUncounted es m xs → length (open_sessions (es ++ xs)) ≡ open_steps xs (length (open_sessions es))
 opens_are es m [] sound t = absurd t
 opens_are es m (e ∷ []) sound t = open_after es m e sound t.1
 opens_are es m (e ∷ f ∷ []) sound t =
@@ -197,22 +197,22 @@ limited_is es m (makes xs) sound t =
 limited_is es m quiet sound t = refl
 limited_is es m (refused c) sound t = refl
 
-pub together : (es : List Entry) (m : ℕ) (xs : List Entry) → Together es m xs → length (open_sessions (es ++ xs)) ≤ 1024 → MayComeTogether es m xs
+pub together : (es : List Entry) (m : ℕ) (xs : List Entry) → MayComeTogetherUncounted es m xs → length (open_sessions (es ++ xs)) ≤ 1024 → MayComeTogether es m xs
 together es m [] t h = absurd t
 together es m (e ∷ []) t h = (t.0, full es e t.1 h) where
-  full : (bs : List Entry) (x : Entry) → Fits bs m x → length (open_sessions (bs ++ x ∷ [])) ≤ 1024 → MayCome bs m x
+  full : (bs : List Entry) (x : Entry) → MayComeUncounted bs m x → length (open_sessions (bs ++ x ∷ [])) ≤ 1024 → MayCome bs m x
   full bs (entry.Open s) g k = (g.0, g.1, k)
   full bs (entry.Op s q n op outcome) g k = g
   full bs (entry.Again s q n) g k = g
   full bs (entry.Ended s q w rows) g k = g
 together es m (e ∷ f ∷ []) t h = (t.0, first_of e f t.0 t.1, full (es ++ e ∷ []) f t.2 (subst (λ l. length (open_sessions l) ≤ 1024) (sym (append_assoc es (e ∷ []) (f ∷ []))) h)) where
-  full : (bs : List Entry) (x : Entry) → Fits bs m x → length (open_sessions (bs ++ x ∷ [])) ≤ 1024 → MayCome bs m x
+  full : (bs : List Entry) (x : Entry) → MayComeUncounted bs m x → length (open_sessions (bs ++ x ∷ [])) ≤ 1024 → MayCome bs m x
   full bs (entry.Open s) g k = (g.0, g.1, k)
   full bs (entry.Op s q n op outcome) g k = g
   full bs (entry.Again s q n) g k = g
   full bs (entry.Ended s q w rows) g k = g
 
-  first_of : (x y : Entry) → Supersedes x y → Fits es m x → MayCome es m x
+  first_of : (x y : Entry) → Supersedes x y → MayComeUncounted es m x → MayCome es m x
   first_of (entry.Open s) y p g = absurd p
   first_of (entry.Op s q n op outcome) y p g = g
   first_of (entry.Again s q n) y p g = g
@@ -221,7 +221,7 @@ together es m (e ∷ f ∷ g ∷ more) t h = absurd t
 
 -- what a turn makes may come, and leaves room
 abbrev pub AllowedFully : List Entry → ℕ → Decision → Type 0
-AllowedFully es m (makes xs) = MayComeTogether es m xs × LeavesRoom (es ++ xs) × Together es m xs
+AllowedFully es m (makes xs) = MayComeTogether es m xs × LeavesRoom (es ++ xs) × MayComeTogetherUncounted es m xs
 AllowedFully es m other = Unit {0}
 
 pub limited_allowed : (es : List Entry) (m : ℕ) (d : Decision) → Allowed es m d → AllowedFully es m (limited es d)

@@ -4,7 +4,6 @@ use Rattle.pres_log.specs.declared.entry.Entry.{Entry}
 use Rattle.pres_log.specs.declared.entry.Entry.TheVariants as entry
 use Rattle.pres_log.specs.Logs.{Log, entries, last_moment}
 use Rattle.pres_server.specs.Sessions.{is_newest, open_sessions_of}
-use Rattle.pres_server.specs.Turns.{WritesFit}
 use Rattle.pres_server.specs.LegalLog.{MayCome, IsLegal, MayFollow}
 use Rattle.std.specs.BTreeMap.{IsOrdered}
 use Rattle.pres_wire.specs.Ids.{client_cmp}
@@ -14,26 +13,26 @@ use Rattle.pres_server.specs.Index.{Indexed}
 use Rattle.pres_log.specs.declared.entry.Batch.{Batch}
 
 -- what the log asks of an entry, but for the limit on open sessions
-abbrev pub Fits : List Entry → ℕ → Entry → Type 0
-Fits before moment (entry.Open s) = IsTrue (is_newest s before) × (open_sessions_of s.client before ≡ [])
-Fits before moment e = MayCome before moment e
+abbrev pub MayComeUncounted : List Entry → ℕ → Entry → Type 0
+MayComeUncounted before moment (entry.Open s) = IsTrue (is_newest s before) × (open_sessions_of s.client before ≡ [])
+MayComeUncounted before moment e = MayCome before moment e
 
-abbrev pub AllFit : List Entry → ℕ → List Entry → Type 0
-AllFit es m [] = Unit {0}
-AllFit es m (e ∷ more) = Fits es m e × AllFit (es ++ e ∷ []) m more
+-- each of them, one after another
+abbrev pub MayComeInTurn : List Entry → ℕ → List Entry → Type 0
+MayComeInTurn es m [] = Unit {0}
+MayComeInTurn es m (e ∷ more) = MayComeUncounted es m e × MayComeInTurn (es ++ e ∷ []) m more
 
 -- entries that may come one after another, from entry number z on, behind those of a sound log
-pub record Fitting (es : List Entry) (z moment : ℕ) (more : List Entry) (index : Index) : Type 0 where
+pub record MayTakeAll (es : List Entry) (z moment : ℕ) (more : List Entry) (index : Index) : Type 0 where
   pub indexed : Indexed es index
   pub sound : Sound es
   pub next : z ≡ length es + 1
-  pub fits : AllFit es moment more
-  pub writes : WritesFit more
+  pub in_turn : MayComeInTurn es moment more
   pub room : length es + length more < 2 ^ 52
 
 -- ---- what holds of every server
 
-pub record Kept (log : Log) (moment : ℕ) (index : Index) : Type 0 where
+pub record Holds (log : Log) (moment : ℕ) (index : Index) : Type 0 where
   pub legal : IsLegal log
   pub indexed : Indexed (entries log) index
   pub last : moment ≡ last_moment log
@@ -43,4 +42,3 @@ pub record Kept (log : Log) (moment : ℕ) (index : Index) : Type 0 where
 pub record Waits (log : Log) (batch : Batch) : Type 0 where
   pub follows : MayFollow log batch
   pub legal : IsLegal (log ++ batch ∷ [])
-  pub fits : WritesFit batch.entries

@@ -1,5 +1,5 @@
 -- What the log says of each client: plain data, changed by one entry, and what an input asks for by it.
-use Rattle.std.specs.Prelude.{ℕ, ◌+◌, ◌-◌, ◌≡◌, Bool, true, List, [], ◌∷◌, ◌++◌, length, Option, Some, None, slice_get, ◌^◌, false, ◌&&◌, map, if◌then◌else◌, nat_lt, nat_le, ◌==◌, unwrap_or, Result, Ok, Err}
+use Rattle.std.specs.Prelude.{ℕ, ◌+◌, ◌-◌, ◌≡◌, Bool, true, List, [], ◌∷◌, ◌++◌, length, Option, Some, None, slice_get, ◌^◌, false, ◌&&◌, if◌then◌else◌, nat_lt, nat_le, ◌==◌, unwrap_or, Result, Ok, Err}
 use Rattle.std.specs.List.{list_any}
 use Rattle.std.specs.Option.{option_map}
 use Rattle.pres_write.specs.Outcomes.{kept_of}
@@ -26,7 +26,7 @@ use Rattle.pres_log.specs.declared.fault.Fault.{Fault}
 use Rattle.pres_log.specs.declared.fault.Fault.TheVariants as fault
 use Rattle.pres_server.specs.declared.input.Input.{Input}
 use Rattle.pres_server.specs.declared.input.Input.TheVariants as input
-use Rattle.pres_server.specs.Turns.{Decision, refused, quiet, makes, ends_first, op_by}
+use Rattle.pres_server.specs.Turns.{Decision, refused, quiet, makes, end_of, opening, ends_first, op_by}
 
 -- of an open session: its stamp, its last q and its last r
 pub record LivePart : Type 0 where
@@ -48,10 +48,6 @@ live_in (s ∷ more) es = Some (record { stamp = stamp_of s; count = count s es;
 abbrev pub part_of : ClientId → List Entry → Part
 part_of c es = record { last = last_of c es; rows = rows_for c es; live = live_in (open_sessions_of c es) es }
 
--- what it says of a stranger
-abbrev pub no_part : Part
-no_part = record { last = None; rows = []; live = None }
-
 abbrev pub one_more : LivePart → LivePart
 one_more l = record { stamp = l.stamp; count = l.count + 1; sent = l.sent + 1 }
 
@@ -68,20 +64,20 @@ open_step (entry.Open s) n = n + 1
 open_step (entry.Ended s q why rows) n = n - 1
 open_step _ n = n
 
-abbrev pub told : Option LivePart → (ℕ → Down) → List Down
-told None m = []
-told (Some l) m = m (l.sent + 1) ∷ []
+abbrev pub message_next : Option LivePart → (ℕ → Down) → List Down
+message_next None m = []
+message_next (Some l) m = m (l.sent + 1) ∷ []
 
-abbrev pub told_row : SessionId → ℕ → ℕ → ℕ → Option LivePart → Option Row → List Down
-told_row s z q n live None = []
-told_row s z q n live (Some row) = told live (λ r. Reply s r z q n row.done row.kept)
+abbrev pub reply_next : SessionId → ℕ → ℕ → ℕ → Option LivePart → Option Row → List Down
+reply_next s z q n live None = []
+reply_next s z q n live (Some row) = message_next live (λ r. Reply s r z q n row.done row.kept)
 
 -- what entry number z answers, by the part before it
 abbrev pub answer_by : ℕ → Entry → Part → List Down
 answer_by z (entry.Open s) p = Welcome s z (length p.rows) ∷ []
-answer_by z (entry.Op s q n op outcome) p = told p.live (λ r. Reply s r z q n z (kept_of outcome))
-answer_by z (entry.Again s q n) p = told_row s z q n p.live (slice_get p.rows (n - 1))
-answer_by z (entry.Ended s q why rows) p = told p.live (λ r. Gone s r z why)
+answer_by z (entry.Op s q n op outcome) p = message_next p.live (λ r. Reply s r z q n z (kept_of outcome))
+answer_by z (entry.Again s q n) p = reply_next s z q n p.live (slice_get p.rows (n - 1))
+answer_by z (entry.Ended s q why rows) p = message_next p.live (λ r. Gone s r z why)
 
 abbrev pub comes_after : Option Stamp → Stamp → Bool
 comes_after None t = true
@@ -129,13 +125,13 @@ said_by (Some l) s q accepted =
 abbrev pub hello_by : Part → SessionId → Decision
 hello_by p s =
     if comes_after p.last (stamp_of s)
-    then makes (map (λ t. entry.Ended t None why.Superseded []) (listed s.client p.live) ++ entry.Open s ∷ [])
+    then opening (listed s.client p.live) s
     else refused (fault.Old (unwrap_or p.last (stamp_of s)))
 
 abbrev pub message_by : Part → Rows Scalar → ℕ → Up → Decision
 message_by p tree moment (up.Hello s) = hello_by p s
 message_by p tree moment (up.Op s q n op) = said_by p.live s q (op_by (verdict n p.rows) tree moment s q n op)
-message_by p tree moment (up.Bye s q) = said_by p.live s q (makes (entry.Ended s (Some q) why.Bye [] ∷ []))
+message_by p tree moment (up.Bye s q) = said_by p.live s q (end_of s (Some q) why.Bye)
 
 -- the client of an input
 abbrev pub client_in : Input → ClientId
@@ -145,7 +141,7 @@ client_in (input.Slow s) = s.client
 client_in (input.Restart c) = c
 
 abbrev pub ends_live : Option LivePart → Why → SessionId → Decision
-ends_live live why s = if is_live live (stamp_of s) then makes (entry.Ended s None why [] ∷ []) else quiet
+ends_live live why s = if is_live live (stamp_of s) then end_of s None why else quiet
 
 abbrev pub wanted_by : Part → Rows Scalar → ℕ → Input → Decision
 wanted_by p tree moment (input.Up m) = message_by p tree moment m

@@ -1,6 +1,6 @@
 -- One turn of the server: what an input does to the log, as a function of the log, the input and the moment that
 -- is handed in, and what the calls of a server answer.
-use Rattle.std.specs.Prelude.{ℕ, ◌+◌, ◌-◌, ◌^◌, min, max, List, [], ◌∷◌, ◌++◌, map, length, Some, None, if◌then◌else◌, nat_lt, nat_le, ◌==◌, unwrap_or, ◌≡◌, ◌⊎◌, Bool, true, false, All, Option, Result, MatchResult}
+use Rattle.std.specs.Prelude.{ℕ, ◌+◌, ◌-◌, ◌^◌, min, max, List, [], ◌∷◌, ◌++◌, map, length, Some, None, if◌then◌else◌, nat_lt, nat_le, ◌==◌, unwrap_or, ◌≡◌, ◌⊎◌, Bool, true, false, Option, Result, MatchResult}
 use Rattle.pres_tree.specs.declared.scalar.Scalar.{Scalar}
 use Rattle.pres_tree.specs.Rows.{Rows}
 use Rattle.pres_write.specs.declared.op.Op.{Op}
@@ -17,7 +17,7 @@ use Rattle.pres_log.specs.declared.entry.Entry.{Entry}
 use Rattle.pres_log.specs.declared.entry.Entry.TheVariants as entry
 use Rattle.pres_log.specs.declared.fault.Fault.{Fault}
 use Rattle.pres_log.specs.declared.fault.Fault.TheVariants as fault
-use Rattle.pres_log.specs.Logs.{Log, last_moment, tree, entries, number, writes_of}
+use Rattle.pres_log.specs.Logs.{Log, last_moment, tree, entries, number}
 use Rattle.pres_server.specs.Sessions.{is_open, is_newest, open_sessions, open_sessions_of, last_of, count}
 use Rattle.pres_server.specs.Outcomes.{rows_for}
 use Rattle.pres_log.specs.declared.entry.Batch.{Batch}
@@ -28,7 +28,6 @@ use Rattle.pres_server.specs.declared.turn.Step.{Step}
 use Rattle.pres_server.specs.declared.turn.Step.TheVariants as step
 use Rattle.pres_server.specs.declared.server.Turn.{Turn}
 use Rattle.pres_server.specs.declared.server.Turn.TheVariants as turn_is
-use Rattle.pres_write.specs.Basics.{FitsThere}
 
 -- ---- what a message asks for: entries, nothing, or a refusal
 
@@ -42,14 +41,22 @@ pub data Decision : Type 0 where
 abbrev pub moment_of : Log → ℕ → ℕ
 moment_of log now = max (min now moments.last_moment) (last_moment log)
 
+-- the end of a session, which owes nothing
+abbrev pub end_of : SessionId → Option ℕ → Why → Decision
+end_of s q why = makes (entry.Ended s q why [] ∷ [])
+
+-- the opening of a session, after the ends of these
+abbrev pub opening : List SessionId → SessionId → Decision
+opening older s = makes (map (λ t. entry.Ended t None why.Superseded []) older ++ entry.Open s ∷ [])
+
 -- the end of a session where it is open
 abbrev pub ends_if_open : List Entry → Why → SessionId → Decision
-ends_if_open before why s = if is_open s before then makes (entry.Ended s None why [] ∷ []) else quiet
+ends_if_open before why s = if is_open s before then end_of s None why else quiet
 
 -- the end of the first of these sessions, where there is one
 abbrev pub ends_first : Why → List SessionId → Decision
 ends_first why [] = quiet
-ends_first why (s ∷ more) = makes (entry.Ended s None why [] ∷ [])
+ends_first why (s ∷ more) = end_of s None why
 
 -- what write n of a client makes, by what it is
 abbrev pub op_by : Told → Rows Scalar → ℕ → SessionId → ℕ → ℕ → Op → Decision
@@ -70,13 +77,13 @@ if_open before s said = if is_open s before then said else refused fault.Session
 abbrev pub hello : List Entry → SessionId → Decision
 hello before s =
     if is_newest s before
-    then makes (map (λ t. entry.Ended t None why.Superseded []) (open_sessions_of s.client before) ++ entry.Open s ∷ [])
+    then opening (open_sessions_of s.client before) s
     else refused (fault.Old (unwrap_or (last_of s.client before) (stamp_of s)))
 
 abbrev pub message : List Entry → ℕ → Up → Decision
 message before moment (up.Hello s) = hello before s
 message before moment (up.Op s q n op) = if_open before s (in_order before s q (op_by (verdict n (rows_for s.client before)) (tree before) moment s q n op))
-message before moment (up.Bye s q) = if_open before s (in_order before s q (makes (entry.Ended s (Some q) why.Bye [] ∷ [])))
+message before moment (up.Bye s q) = if_open before s (in_order before s q (end_of s (Some q) why.Bye))
 
 -- refused where no number would be left for the ends, or where there would be more than 1,024 sessions
 abbrev pub limited : List Entry → Decision → Decision
@@ -133,16 +140,6 @@ Makes decision result = MatchResult result (λ es. decision ≡ makes es) (IsRef
 abbrev pub IsStep : Option SessionId → Decision → Step → Type 0
 IsStep from decision (step.Makes es) = decision ≡ makes es
 IsStep from decision (step.Quiet heard) = (decision ≡ quiet) × (heard ≡ from)
-
--- the values that each entry writes may stand at their paths
-abbrev pub WritesFit : List Entry → Type 0
-WritesFit [] = Unit {0}
-WritesFit (e ∷ later) = All FitsThere (writes_of e) × WritesFit later
-
--- the values that are written may stand at their paths
-abbrev pub StepFits : Step → Type 0
-StepFits (step.Makes es) = WritesFit es
-StepFits (step.Quiet heard) = Unit {0}
 
 -- the step that an input asks for, or its refusal
 abbrev pub Decides : Option SessionId → Decision → Result Step Fault → Type 0
