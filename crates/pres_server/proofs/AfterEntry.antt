@@ -1,5 +1,5 @@
 -- What one entry more keeps and changes of the whole log.
-use Rattle.std.proofs.Common.{refl, sym, ◌∙◌, ap, subst, ◌≡◌, ℕ, ◌+◌, ◌-◌, suc, List, [], ◌∷◌, ◌++◌, length, drop, map, Bool, true, false, not, cond, ◌||◌, ◌&&◌, append-nil, true≢false, arith, IsTrue, length-append, Option, Some, None, T, is_some, Ordering, Less, Equal, Greater, is_eq}
+use Rattle.std.proofs.Common.{refl, sym, ◌∙◌, ap, subst, ◌≡◌, ℕ, ◌+◌, ◌-◌, ◌≤◌, suc, List, [], ◌∷◌, ◌++◌, length, drop, map, Bool, true, false, not, cond, ◌||◌, ◌&&◌, append-nil, true≢false, arith, IsTrue, length-append, Option, Some, None, T, is_some, Ordering, Less, Equal, Greater, is_eq}
 use Rattle.std.specs.List.{list_any, list_all, filter, last_or}
 use Rattle.std.specs.Option.{option_map}
 use Rattle.std.specs.Cmp.{IsTotalOrder, tied_itself}
@@ -20,10 +20,9 @@ use Rattle.pres_log.specs.declared.entry.Entry.TheVariants as entry
 use Rattle.pres_tree.specs.Paths.{sorted_by}
 use Rattle.pres_wire.specs.Ids.{ClientId, client_cmp, same_client, is_earlier, stamp_of}
 use Rattle.pres_server.specs.Sessions.{session_of, opened_by, opened, opens, ends, is_open, sessions_of, open_entries, open_sessions_of, open_sessions, is_newest, last_of}
-use Rattle.pres_server.specs.Streams.{Unnumbered, stream, sent_for, own_answer, numbered_from}
-use Rattle.pres_server.specs.Answers.{added, answers_to}
-use Rattle.pres_server.specs.Fits.{Fits}
-use Rattle.pres_server.specs.Parts.{LivePart, session_with, part_of, live_in, open_step, told, told_row, answer_by, Sound, listed, comes_after}
+use Rattle.pres_server.specs.Streams.{Unnumbered, stream, sent_for, own_answer, numbered_from, added, answers_to}
+use Rattle.pres_server.specs.Invariants.{MayComeUncounted}
+use Rattle.pres_server.specs.Parts.{LivePart, session_with, part_of, live_in, open_step, message_next, reply_next, answer_by, Sound, listed, comes_after}
 use Rattle.pres_server.proofs.Since.{client_same, client_itself, session_same, session_itself, any-append}
 use Rattle.pres_server.proofs.StreamSteps.{stream_step}
 use Rattle.pres_server.proofs.Steps.{is_open-same, filter_alike, filter-filter}
@@ -63,7 +62,7 @@ one_open_from c xs es (Some l) e = subst (λ ys. ys ≡ listed c (live_in ys es)
 one_open_same : (c : ClientId) (es fs : List Entry) → Sound es → open_sessions_of c fs ≡ open_sessions_of c es → open_sessions_of c fs ≡ listed c (live_in (open_sessions_of c fs) fs)
 one_open_same c es fs sound e = one_open_from c (open_sessions_of c fs) fs (live_in (open_sessions_of c es) es) (e ∙ sound.one_open c)
 
-one_open_after : (es : List Entry) (m : ℕ) (e : Entry) → Sound es → Fits es m e → (c : ClientId) → open_sessions_of c (es ++ e ∷ []) ≡ listed c (live_in (open_sessions_of c (es ++ e ∷ [])) (es ++ e ∷ []))
+one_open_after : (es : List Entry) (m : ℕ) (e : Entry) → Sound es → MayComeUncounted es m e → (c : ClientId) → open_sessions_of c (es ++ e ∷ []) ≡ listed c (live_in (open_sessions_of c (es ++ e ∷ [])) (es ++ e ∷ []))
 one_open_after es m (entry.Open s) sound f c =
     let e = entry.Open s in
     let opened_now = open_of_opened c es s (not_ended s es sound f.0) in
@@ -94,7 +93,7 @@ last_or-append : (o : Option SessionId) (xs : List SessionId) (x : SessionId) �
 last_or-append o [] x = refl
 last_or-append o (y ∷ xs) x = last_or-append (Some y) xs x
 
-newest_after : (es : List Entry) (m : ℕ) (e : Entry) → Sound es → Fits es m e → (s : SessionId) → is_newest s (es ++ e ∷ []) ≡ comes_after (last_of s.client (es ++ e ∷ [])) (stamp_of s)
+newest_after : (es : List Entry) (m : ℕ) (e : Entry) → Sound es → MayComeUncounted es m e → (s : SessionId) → is_newest s (es ++ e ∷ []) ≡ comes_after (last_of s.client (es ++ e ∷ [])) (stamp_of s)
 newest_after es m (entry.Open h) sound f s =
     let e = entry.Open h in
     elim (same_client h.client s.client) as (λ b. same_client h.client s.client ≡ b → is_newest s (es ++ e ∷ []) ≡ comes_after (last_of s.client (es ++ e ∷ [])) (stamp_of s)) [
@@ -118,10 +117,10 @@ any_then true b c d f g e = ap (λ x. x || (d || false)) (f refl)
 any_then false true c d f g e = ap (λ x. x || (d || false)) (g refl)
 any_then false false c d f g e = absurd (true≢false (sym e))
 
-ended_after : (es : List Entry) (m : ℕ) (e : Entry) → Sound es → Fits es m e → (s : SessionId) → list_any (ends s) (es ++ e ∷ []) ≡ true → list_any (opens s) (es ++ e ∷ []) ≡ true
+ended_after : (es : List Entry) (m : ℕ) (e : Entry) → Sound es → MayComeUncounted es m e → (s : SessionId) → list_any (ends s) (es ++ e ∷ []) ≡ true → list_any (opens s) (es ++ e ∷ []) ≡ true
 ended_after es m e sound f s h =
     any-append (opens s) es (e ∷ []) ∙ any_then (list_any (ends s) es) (ends s e) (list_any (opens s) es) (opens s e) (sound.ended s) (by e f) (sym (any-append (ends s) es (e ∷ [])) ∙ h) where
-      by : (x : Entry) → Fits es m x → ends s x ≡ true → list_any (opens s) es ≡ true
+      by : (x : Entry) → MayComeUncounted es m x → ends s x ≡ true → list_any (opens s) es ≡ true
       by (entry.Open t) g k = absurd (true≢false (sym k))
       by (entry.Op t q n op outcome) g k = absurd (true≢false (sym k))
       by (entry.Again t q n) g k = absurd (true≢false (sym k))
@@ -130,7 +129,7 @@ ended_after es m e sound f s h =
 pub sound_start : Sound []
 sound_start = record { one_open = λ c. refl; newest = λ s. refl; ended = λ s h. absurd (true≢false (sym h)) }
 
-pub sound_after : (es : List Entry) (m : ℕ) (e : Entry) → Sound es → Fits es m e → Sound (es ++ e ∷ [])
+pub sound_after : (es : List Entry) (m : ℕ) (e : Entry) → Sound es → MayComeUncounted es m e → Sound (es ++ e ∷ [])
 sound_after es m e sound f = record { one_open = one_open_after es m e sound f; newest = newest_after es m e sound f; ended = ended_after es m e sound f }
 
 -- the open sessions in order, looked up
@@ -213,7 +212,18 @@ length_open es = by (open_entries es) where
   by [] = refl
   by (x ∷ xs) = ap suc (by xs)
 
-pub open_after : (es : List Entry) (m : ℕ) (e : Entry) → Sound es → Fits es m e → length (open_sessions (es ++ e ∷ [])) ≡ open_step e (length (open_sessions es))
+-- where a session of a client is open, some are
+some_found : (c : ClientId) (xs : List (ClientId × SessionId)) (s : SessionId) → find client_cmp c xs ≡ Some s → 1 ≤ length xs
+some_found c [] s h = absurd (cc)
+some_found c (x ∷ xs) s h = omega arith
+
+pub open_counted : (c : ClientId) (es : List Entry) → is_some (live_in (open_sessions_of c es) es) ≡ true → 1 ≤ length (open_sessions es)
+open_counted c es h = by (open_sessions_of c es) (find_open c es) h where
+  by : (xs : List SessionId) → find client_cmp c (open_entries es) ≡ first_of_list xs → is_some (live_in xs es) ≡ true → 1 ≤ length (open_sessions es)
+  by [] f k = absurd (true≢false (sym k))
+  by (s ∷ more) f k = let n = some_found c (open_entries es) s f in let l = length_open es in omega arith
+
+pub open_after : (es : List Entry) (m : ℕ) (e : Entry) → Sound es → MayComeUncounted es m e → length (open_sessions (es ++ e ∷ [])) ≡ open_step e (length (open_sessions es))
 open_after es m (entry.Open s) sound f =
     length_open (es ++ entry.Open s ∷ [])
     ∙ ap length (open_entries_opened es s sound f.0 f.1)
@@ -236,15 +246,15 @@ drop_first : {A : Type 0} (xs ys : List A) → drop (length xs) (xs ++ ys) ≡ y
 drop_first [] ys = refl
 drop_first (x ∷ xs) ys = drop_first xs ys
 
-added_one : (s : SessionId) (es : List Entry) (e : Entry) (msg : Unnumbered) → Sound es → is_open s es ≡ true → sent_for s (es ++ e ∷ []) e ≡ msg ∷ [] → added s es e ≡ told (live_in (open_sessions_of s.client es) es) msg
+added_one : (s : SessionId) (es : List Entry) (e : Entry) (msg : Unnumbered) → Sound es → is_open s es ≡ true → sent_for s (es ++ e ∷ []) e ≡ msg ∷ [] → added s es e ≡ message_next (live_in (open_sessions_of s.client es) es) msg
 added_one s es e msg sound o one =
     ap (drop (length (stream s es))) (stream_step s es e o)
     ∙ drop_first (stream s es) (numbered_from (length (stream s es) + 1) (sent_for s (es ++ e ∷ []) e))
     ∙ ap (numbered_from (length (stream s es) + 1)) one
-    ∙ ap (λ l. told (live_in l es) msg) (sym (only_open s es sound o))
+    ∙ ap (λ l. message_next (live_in l es) msg) (sym (only_open s es sound o))
 
 -- the answers of an entry are those that the part of its client gives
-pub answers_are : (es : List Entry) (m : ℕ) (e : Entry) → Sound es → Fits es m e → answers_to es e ≡ answer_by (length es + 1) e (part_of (session_of e).client es)
+pub answers_are : (es : List Entry) (m : ℕ) (e : Entry) → Sound es → MayComeUncounted es m e → answers_to es e ≡ answer_by (length es + 1) e (part_of (session_of e).client es)
 answers_are es m (entry.Open s) sound f = λ i. Welcome s (length-append es (entry.Open s ∷ []) i) (length (no_row s.client es (entry.Open s) refl i)) ∷ []
 answers_are es m (entry.Op s q n op outcome) sound f =
     let e = entry.Op s q n op outcome in
@@ -254,7 +264,7 @@ answers_are es m (entry.Again s q n) sound f =
     let e = entry.Again s q n in
     let row = row_there es s.client n f.1 f.2 in
     added_one s es e (λ r. Reply s r (length es + 1) q n row.0.done row.0.kept) sound f.0.0 (sent_again es s q n row.0 row.1)
-    ∙ ap (told_row s (length es + 1) q n (live_in (open_sessions_of s.client es) es)) (sym row.1)
+    ∙ ap (reply_next s (length es + 1) q n (live_in (open_sessions_of s.client es) es)) (sym row.1)
 answers_are es m (entry.Ended s q why rows) sound f =
     let e = entry.Ended s q why rows in
     added_one s es e (λ r. Gone s r (length es + 1) why) sound f.0

@@ -15,7 +15,7 @@ use Rattle.pres_wire.specs.declared.id.Why.TheVariants as why
 use Rattle.pres_wire.specs.declared.up.Up.TheVariants as up
 use Rattle.pres_wire.specs.Ids.{ClientId, same_session, is_earlier, stamp_of}
 use Rattle.pres_retry.specs.declared.table.Row.{Row}
-use Rattle.pres_retry.specs.Verdicts.{fresh, verdict, told_row}
+use Rattle.pres_retry.specs.Verdicts.{fresh, gap, verdict, told_row}
 use Rattle.pres_log.specs.declared.entry.Entry.{Entry}
 use Rattle.pres_log.specs.declared.entry.Entry.TheVariants as entry
 use Rattle.pres_log.specs.declared.fault.Fault.TheVariants as fault
@@ -26,15 +26,17 @@ use Rattle.pres_server.specs.Sessions.{is_open, is_newest, count, open_sessions_
 use Rattle.pres_server.specs.Outcomes.{rows_for, ops}
 use Rattle.pres_server.specs.Streams.{stream}
 use Rattle.pres_server.specs.LegalLog.{MayCome, MayComeTogether, IsPlain, Supersedes, LeavesRoom, IsEndNumber}
-use Rattle.pres_server.specs.Messages.{Decision, refused, quiet, makes, op_by, in_order, if_open, ends_if_open, ends_first, hello, limited}
-use Rattle.pres_server.specs.Turns.{wanted, CountsWrites}
-use Rattle.pres_server.specs.Fits.{Fits}
-use Rattle.pres_server.specs.Parts.{LivePart, part_of, live_in, open_step, Sound, listed, session_with}
-use Rattle.pres_server.specs.Decide.{same_stamp, is_live, said_by, hello_by, client_in, ends_live, wanted_by, open_steps, limited_by}
+use Rattle.pres_server.specs.Turns.{Decision, refused, quiet, makes, op_by, in_order, if_open, ends_if_open, ends_first, hello, limited, wanted}
+use Rattle.pres_server.specs.Invariants.{MayComeUncounted}
+use Rattle.pres_server.specs.Parts.{LivePart, part_of, live_in, open_step, Sound, listed, session_with, same_stamp, is_live, said_by, hello_by, client_in, ends_live, wanted_by, open_steps, limited_by}
 use Rattle.pres_server.proofs.Since.{client_itself, session_itself}
 use Rattle.pres_server.proofs.Steps.{In, or_false, open_listed, in_open}
 use Rattle.pres_server.proofs.Parts.{only_open, ended_own, no_more}
 use Rattle.pres_server.proofs.AfterEntry.{sound_after, open_after}
+
+-- a number that isn't 0
+pub from_one : (n : ℕ) → (n == 0) ≡ false → 1 ≤ n
+from_one n h = grind (arith, nat_tests)
 
 pub stamp_itself : (s : Stamp) → same_stamp s s ≡ true
 stamp_itself s = and_from _ _ (eq-eqb s.incarnation s.incarnation refl) (eq-eqb s.attempt s.attempt refl)
@@ -61,23 +63,27 @@ said_is s q d es sound = elim (is_open s es) as (λ b. is_open s es ≡ b → co
   by None e = refl
   by (Some l) e = ap (λ b. cond b (cond (nat_le q l.count) quiet (cond (q == l.count + 1) d (refused fault.Order))) (refused fault.Session)) (sym e)
 
--- write n, counted from 1, of a client that has made so many
+-- write n of a client that has made so many
 abbrev op_by_count : ℕ → Rows Scalar → ℕ → SessionId → ℕ → ℕ → Op → Decision
 op_by_count ops tree m s q n op =
-    cond (n == ops + 1) (makes (entry.Op s q n op (resolved tree m op) ∷ [])) (cond (nat_lt ops n) (refused fault.Order) (makes (entry.Again s q n ∷ [])))
+    cond (n == 0) (refused fault.Order) (cond (n == ops + 1) (makes (entry.Op s q n op (resolved tree m op) ∷ [])) (cond (nat_lt ops n) (refused fault.Order) (makes (entry.Again s q n ∷ []))))
 
-op_is : (rows : List Row) (t : Rows Scalar) (m : ℕ) (s : SessionId) (q n : ℕ) (op : Op) → 1 ≤ n → op_by (verdict n rows) t m s q n op ≡ op_by_count (length rows) t m s q n op
-op_is rows t m s q n op low = elim (n == length rows + 1) as (λ b. op_by (cond b fresh (told_row (slice_get rows (n - 1)))) t m s q n op
-    ≡ cond b (makes (entry.Op s q n op (resolved t m op) ∷ [])) (cond (nat_lt (length rows) n) (refused fault.Order) (makes (entry.Again s q n ∷ [])))) [
-      | true ↦ refl
-      | false ↦ elim (nat_lt (length rows) n) as (λ b. nat_lt (length rows) n ≡ b → op_by (told_row (slice_get rows (n - 1))) t m s q n op ≡ cond b (refused fault.Order) (makes (entry.Again s q n ∷ []))) [
-        | true ↦ λ h. ap (λ o. op_by (told_row o) t m s q n op) (slice_get_past rows (n - 1) (past (length rows) n h))
-        | false ↦ λ h. elim (slice_get_cases rows (n - 1)).1 [
-          | inl here ↦ ap (λ o. op_by (told_row o) t m s q n op) here.2
-          | inr end ↦ absurd (within (length rows) n h low end.0)
-        ]
-      ] refl
-    ] where
+op_is : (rows : List Row) (t : Rows Scalar) (m : ℕ) (s : SessionId) (q n : ℕ) (op : Op) → op_by (verdict n rows) t m s q n op ≡ op_by_count (length rows) t m s q n op
+op_is rows t m s q n op = elim (n == 0) as (λ z. (n == 0) ≡ z → op_by (cond z gap (cond (n == length rows + 1) fresh (told_row (slice_get rows (n - 1))))) t m s q n op
+    ≡ cond z (refused fault.Order) (cond (n == length rows + 1) (makes (entry.Op s q n op (resolved t m op) ∷ [])) (cond (nat_lt (length rows) n) (refused fault.Order) (makes (entry.Again s q n ∷ []))))) [
+      | true ↦ λ _. refl
+      | false ↦ λ z. elim (n == length rows + 1) as (λ b. op_by (cond b fresh (told_row (slice_get rows (n - 1)))) t m s q n op
+          ≡ cond b (makes (entry.Op s q n op (resolved t m op) ∷ [])) (cond (nat_lt (length rows) n) (refused fault.Order) (makes (entry.Again s q n ∷ [])))) [
+            | true ↦ refl
+            | false ↦ elim (nat_lt (length rows) n) as (λ b. nat_lt (length rows) n ≡ b → op_by (told_row (slice_get rows (n - 1))) t m s q n op ≡ cond b (refused fault.Order) (makes (entry.Again s q n ∷ []))) [
+              | true ↦ λ h. ap (λ o. op_by (told_row o) t m s q n op) (slice_get_past rows (n - 1) (past (length rows) n h))
+              | false ↦ λ h. elim (slice_get_cases rows (n - 1)).1 [
+                | inl here ↦ ap (λ o. op_by (told_row o) t m s q n op) here.2
+                | inr end ↦ absurd (within (length rows) n h (from_one n z) end.0)
+              ]
+            ] refl
+          ]
+    ] refl where
       past : (k n : ℕ) → nat_lt k n ≡ true → k ≤ n - 1
       past k n h = grind (arith, nat_tests)
 
@@ -99,13 +105,13 @@ wanted_is es m (input.Slow s) sound = ends_is es why.Slow s sound
 wanted_is es m (input.Restart c) sound = ap (ends_first why.Restart) (sound.one_open c)
 
 -- entries that may come together, but for the limit on open sessions
-abbrev pub Together : List Entry → ℕ → List Entry → Type 0
-Together es m (e ∷ []) = IsPlain e × Fits es m e
-Together es m (e ∷ f ∷ []) = Supersedes e f × Fits es m e × Fits (es ++ e ∷ []) m f
-Together es m _ = ⊥
+abbrev pub MayComeTogetherUncounted : List Entry → ℕ → List Entry → Type 0
+MayComeTogetherUncounted es m (e ∷ []) = IsPlain e × MayComeUncounted es m e
+MayComeTogetherUncounted es m (e ∷ f ∷ []) = Supersedes e f × MayComeUncounted es m e × MayComeUncounted (es ++ e ∷ []) m f
+MayComeTogetherUncounted es m _ = ⊥
 
 abbrev pub Allowed : List Entry → ℕ → Decision → Type 0
-Allowed es m (makes xs) = Together es m xs
+Allowed es m (makes xs) = MayComeTogetherUncounted es m xs
 Allowed es m other = Unit {0}
 
 hello_allowed : (es : List Entry) (m : ℕ) (s : SessionId) → Sound es → Allowed es m (hello es s)
@@ -113,14 +119,14 @@ hello_allowed es m s sound = elim (is_newest s es) as (λ b. is_newest s es ≡ 
   | true ↦ λ new. by new (live_in (open_sessions_of s.client es) es) (sound.one_open s.client)
   | false ↦ λ _. tt
 ] refl where
-  by : is_newest s es ≡ true → (l : Option LivePart) → open_sessions_of s.client es ≡ listed s.client l → Together es m (map (λ t. entry.Ended t None why.Superseded []) (open_sessions_of s.client es) ++ entry.Open s ∷ [])
-  by new None e = subst (λ xs. Together es m (map (λ t. entry.Ended t None why.Superseded []) xs ++ entry.Open s ∷ [])) (sym e) (tt, (new, e))
+  by : is_newest s es ≡ true → (l : Option LivePart) → open_sessions_of s.client es ≡ listed s.client l → MayComeTogetherUncounted es m (map (λ t. entry.Ended t None why.Superseded []) (open_sessions_of s.client es) ++ entry.Open s ∷ [])
+  by new None e = subst (λ xs. MayComeTogetherUncounted es m (map (λ t. entry.Ended t None why.Superseded []) xs ++ entry.Open s ∷ [])) (sym e) (tt, (new, e))
   by new (Some l) e =
       let t : SessionId = session_with s.client l.stamp in
       let here : In t (open_sessions_of s.client es) = ap (list_any (same_session t)) e ∙ ap (λ b. b || false) (session_itself t) in
       let o : is_open t es ≡ true = (in_open t s.client es here).1 in
       let ss = no_more s.client es (entry.Ended t None why.Superseded []) refl in
-      subst (λ xs. Together es m (map (λ t. entry.Ended t None why.Superseded []) xs ++ entry.Open s ∷ [])) (sym e)
+      subst (λ xs. MayComeTogetherUncounted es m (map (λ t. entry.Ended t None why.Superseded []) xs ++ entry.Open s ∷ [])) (sym e)
       ((refl, refl), (o, refl, refl), (newest_still s t new, ended_own es t None why.Superseded [] sound o)) where
         newest_still : (s t : SessionId) → is_newest s es ≡ true → is_newest s (es ++ entry.Ended t None why.Superseded [] ∷ []) ≡ true
         newest_still s t new = ap (list_all (λ x. is_earlier (stamp_of x) (stamp_of s))) (no_more s.client es (entry.Ended t None why.Superseded []) refl) ∙ new
@@ -137,12 +143,15 @@ said_allowed es m s q d h = elim (is_open s es) as (λ b. is_open s es ≡ b →
   | false ↦ λ _. tt
 ] refl
 
-op_allowed : (es : List Entry) (m : ℕ) (s : SessionId) (q n : ℕ) (op : Op) → 1 ≤ n → is_open s es ≡ true → q ≡ count s es + 1 → Allowed es m (op_by_count (ops s.client es) (tree es) m s q n op)
-op_allowed es m s q n op low o k = elim (n == ops s.client es + 1) as (λ b. (n == ops s.client es + 1) ≡ b → Allowed es m (cond b (makes (entry.Op s q n op (resolved (tree es) m op) ∷ [])) (cond (nat_lt (ops s.client es) n) (refused fault.Order) (makes (entry.Again s q n ∷ []))))) [
-  | true ↦ λ e. (tt, ((o, k), eqb-true n (ops s.client es + 1) e, refl))
-  | false ↦ λ _. elim (nat_lt (ops s.client es) n) as (λ b. nat_lt (ops s.client es) n ≡ b → Allowed es m (cond b (refused fault.Order) (makes (entry.Again s q n ∷ [])))) [
-    | true ↦ λ _. tt
-    | false ↦ λ e. (tt, ((o, k), low, high n (ops s.client es) e))
+op_allowed : (es : List Entry) (m : ℕ) (s : SessionId) (q n : ℕ) (op : Op) → is_open s es ≡ true → q ≡ count s es + 1 → Allowed es m (op_by_count (ops s.client es) (tree es) m s q n op)
+op_allowed es m s q n op o k = elim (n == 0) as (λ z. (n == 0) ≡ z → Allowed es m (cond z (refused fault.Order) (cond (n == ops s.client es + 1) (makes (entry.Op s q n op (resolved (tree es) m op) ∷ [])) (cond (nat_lt (ops s.client es) n) (refused fault.Order) (makes (entry.Again s q n ∷ [])))))) [
+  | true ↦ λ _. tt
+  | false ↦ λ z. elim (n == ops s.client es + 1) as (λ b. (n == ops s.client es + 1) ≡ b → Allowed es m (cond b (makes (entry.Op s q n op (resolved (tree es) m op) ∷ [])) (cond (nat_lt (ops s.client es) n) (refused fault.Order) (makes (entry.Again s q n ∷ []))))) [
+    | true ↦ λ e. (tt, ((o, k), eqb-true n (ops s.client es + 1) e, refl))
+    | false ↦ λ _. elim (nat_lt (ops s.client es) n) as (λ b. nat_lt (ops s.client es) n ≡ b → Allowed es m (cond b (refused fault.Order) (makes (entry.Again s q n ∷ [])))) [
+      | true ↦ λ _. tt
+      | false ↦ λ e. (tt, ((o, k), from_one n z, high n (ops s.client es) e))
+    ] refl
   ] refl
 ] refl where
   high : (a b : ℕ) → nat_lt b a ≡ false → a ≤ b
@@ -163,17 +172,17 @@ restart_allowed es m c sound = by (live_in (open_sessions_of c es) es) (sound.on
       let here : In t (open_sessions_of c es) = ap (list_any (same_session t)) e ∙ ap (λ b. b || false) (session_itself t) in
       subst (λ xs. Allowed es m (ends_first why.Restart xs)) (sym e) ((λ e. absurd (cc)), ((in_open t c es here).1, refl, refl))
 
-pub wanted_allowed : (es : List Entry) (m : ℕ) (i : Input) → Sound es → CountsWrites i → Allowed es m (wanted es m i)
-wanted_allowed es m (input.Up (up.Hello s)) sound low = hello_allowed es m s sound
-wanted_allowed es m (input.Up (up.Op s q n op)) sound low =
-    said_allowed es m s q (op_by (verdict n (rows_for s.client es)) (tree es) m s q n op) (λ o k. subst (Allowed es m) (sym (op_is (rows_for s.client es) (tree es) m s q n op low)) (op_allowed es m s q n op low o k))
-wanted_allowed es m (input.Up (up.Bye s q)) sound low = said_allowed es m s q (makes (entry.Ended s (Some q) why.Bye [] ∷ [])) (λ o k. ((λ e. absurd (cc)), (o, ap Some k, refl)))
-wanted_allowed es m (input.Lost s) sound low = ends_allowed es m why.Lost s (λ e. absurd (cc)) refl
-wanted_allowed es m (input.Slow s) sound low = ends_allowed es m why.Slow s (λ e. absurd (cc)) refl
-wanted_allowed es m (input.Restart c) sound low = restart_allowed es m c sound
+pub wanted_allowed : (es : List Entry) (m : ℕ) (i : Input) → Sound es → Allowed es m (wanted es m i)
+wanted_allowed es m (input.Up (up.Hello s)) sound = hello_allowed es m s sound
+wanted_allowed es m (input.Up (up.Op s q n op)) sound =
+    said_allowed es m s q (op_by (verdict n (rows_for s.client es)) (tree es) m s q n op) (λ o k. subst (Allowed es m) (sym (op_is (rows_for s.client es) (tree es) m s q n op)) (op_allowed es m s q n op o k))
+wanted_allowed es m (input.Up (up.Bye s q)) sound = said_allowed es m s q (makes (entry.Ended s (Some q) why.Bye [] ∷ [])) (λ o k. ((λ e. absurd (cc)), (o, ap Some k, refl)))
+wanted_allowed es m (input.Lost s) sound = ends_allowed es m why.Lost s (λ e. absurd (cc)) refl
+wanted_allowed es m (input.Slow s) sound = ends_allowed es m why.Slow s (λ e. absurd (cc)) refl
+wanted_allowed es m (input.Restart c) sound = restart_allowed es m c sound
 
 -- the open sessions after several entries
-pub opens_are : (es : List Entry) (m : ℕ) (xs : List Entry) → Sound es → Together es m xs → length (open_sessions (es ++ xs)) ≡ open_steps xs (length (open_sessions es))
+pub opens_are : (es : List Entry) (m : ℕ) (xs : List Entry) → Sound es → MayComeTogetherUncounted es m xs → length (open_sessions (es ++ xs)) ≡ open_steps xs (length (open_sessions es))
 opens_are es m [] sound t = absurd t
 opens_are es m (e ∷ []) sound t = open_after es m e sound t.1
 opens_are es m (e ∷ f ∷ []) sound t =
@@ -188,22 +197,22 @@ limited_is es m (makes xs) sound t =
 limited_is es m quiet sound t = refl
 limited_is es m (refused c) sound t = refl
 
-pub together : (es : List Entry) (m : ℕ) (xs : List Entry) → Together es m xs → length (open_sessions (es ++ xs)) ≤ 1024 → MayComeTogether es m xs
+pub together : (es : List Entry) (m : ℕ) (xs : List Entry) → MayComeTogetherUncounted es m xs → length (open_sessions (es ++ xs)) ≤ 1024 → MayComeTogether es m xs
 together es m [] t h = absurd t
 together es m (e ∷ []) t h = (t.0, full es e t.1 h) where
-  full : (bs : List Entry) (x : Entry) → Fits bs m x → length (open_sessions (bs ++ x ∷ [])) ≤ 1024 → MayCome bs m x
+  full : (bs : List Entry) (x : Entry) → MayComeUncounted bs m x → length (open_sessions (bs ++ x ∷ [])) ≤ 1024 → MayCome bs m x
   full bs (entry.Open s) g k = (g.0, g.1, k)
   full bs (entry.Op s q n op outcome) g k = g
   full bs (entry.Again s q n) g k = g
   full bs (entry.Ended s q w rows) g k = g
 together es m (e ∷ f ∷ []) t h = (t.0, first_of e f t.0 t.1, full (es ++ e ∷ []) f t.2 (subst (λ l. length (open_sessions l) ≤ 1024) (sym (append_assoc es (e ∷ []) (f ∷ []))) h)) where
-  full : (bs : List Entry) (x : Entry) → Fits bs m x → length (open_sessions (bs ++ x ∷ [])) ≤ 1024 → MayCome bs m x
+  full : (bs : List Entry) (x : Entry) → MayComeUncounted bs m x → length (open_sessions (bs ++ x ∷ [])) ≤ 1024 → MayCome bs m x
   full bs (entry.Open s) g k = (g.0, g.1, k)
   full bs (entry.Op s q n op outcome) g k = g
   full bs (entry.Again s q n) g k = g
   full bs (entry.Ended s q w rows) g k = g
 
-  first_of : (x y : Entry) → Supersedes x y → Fits es m x → MayCome es m x
+  first_of : (x y : Entry) → Supersedes x y → MayComeUncounted es m x → MayCome es m x
   first_of (entry.Open s) y p g = absurd p
   first_of (entry.Op s q n op outcome) y p g = g
   first_of (entry.Again s q n) y p g = g
@@ -212,7 +221,7 @@ together es m (e ∷ f ∷ g ∷ more) t h = absurd t
 
 -- what a turn makes may come, and leaves room
 abbrev pub AllowedFully : List Entry → ℕ → Decision → Type 0
-AllowedFully es m (makes xs) = MayComeTogether es m xs × LeavesRoom (es ++ xs) × Together es m xs
+AllowedFully es m (makes xs) = MayComeTogether es m xs × LeavesRoom (es ++ xs) × MayComeTogetherUncounted es m xs
 AllowedFully es m other = Unit {0}
 
 pub limited_allowed : (es : List Entry) (m : ℕ) (d : Decision) → Allowed es m d → AllowedFully es m (limited es d)

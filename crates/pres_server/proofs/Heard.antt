@@ -18,8 +18,7 @@ use Rattle.pres_log.specs.declared.entry.Entry.TheVariants as entry
 use Rattle.pres_server.specs.declared.index.Index.{Index}
 use Rattle.pres_server.specs.Sessions.{session_of}
 use Rattle.pres_server.specs.Heard.{Heard, heard_last, heard_since, heard_again, heard_after, heard_after_all}
-use Rattle.pres_server.specs.Slots.{Place, moment_at, place_after, answered_at, ended_at, heard_at}
-use Rattle.pres_server.specs.Index.{place_at, part_at, heard_in, Steps, Tells, Hears, Indexed}
+use Rattle.pres_server.specs.Index.{Place, moment_at, place_after, answered_at, ended_at, heard_at, place_at, part_at, heard_in, Steps, Tells, Hears, Indexed}
 use Rattle.pres_server.proofs.Since.{client_same, client_itself, client_sym}
 use Rattle.pres_server.proofs.AfterEntry.{clients_total, clients_apart, same_by_cmp}
 use Rattle.pres_server.proofs.Taken.{place_new, part_in}

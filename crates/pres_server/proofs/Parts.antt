@@ -22,16 +22,16 @@ use Rattle.pres_server.specs.Streams.{sent_for, sent_from, own_answer, numbered_
 use Rattle.pres_wire.specs.declared.down.Down.TheVariants.{Reply}
 use Rattle.std.proofs.lemmas.Option.{slice_get_cases}
 use Rattle.pres_server.specs.LegalLog.{MayCome}
-use Rattle.pres_server.specs.Fits.{Fits}
+use Rattle.pres_server.specs.Invariants.{MayComeUncounted}
 use Rattle.pres_server.specs.Parts.{LivePart, session_with, part_of, live_in, one_more, part_step, Sound, listed, comes_after}
 use Rattle.pres_server.proofs.Since.{after-append, after-cons, client_same, client_itself, client_sym, session_same, session_itself}
 use Rattle.pres_server.proofs.Steps.{In, or_false, any-filter, any-opened, is_open-append, is_open-same, open_listed, filter_alike, filter-filter, sessions_of-append, in_sessions, in_open, rows_for-append, count_own, count_other, length-stream_own, stream_other}
 
-pub fits : (es : List Entry) (m : ℕ) (e : Entry) → MayCome es m e → Fits es m e
-fits es m (entry.Open s) h = (h.0, h.1)
-fits es m (entry.Op s q n op outcome) h = h
-fits es m (entry.Again s q n) h = h
-fits es m (entry.Ended s q why rows) h = h
+pub uncounted : (es : List Entry) (m : ℕ) (e : Entry) → MayCome es m e → MayComeUncounted es m e
+uncounted es m (entry.Open s) h = (h.0, h.1)
+uncounted es m (entry.Op s q n op outcome) h = h
+uncounted es m (entry.Again s q n) h = h
+uncounted es m (entry.Ended s q why rows) h = h
 
 -- a stamp isn't before itself
 pub not_earlier : (s : Stamp) → is_earlier s s ≡ false
@@ -314,7 +314,7 @@ part_opened es s sound new none c =
       }
 
 -- the step of each client's part
-pub part_after : (es : List Entry) (m : ℕ) (e : Entry) → Sound es → Fits es m e →
+pub part_after : (es : List Entry) (m : ℕ) (e : Entry) → Sound es → MayComeUncounted es m e →
     (c : ClientId) → part_of c (es ++ e ∷ []) ≡ cond (same_client (session_of e).client c) (part_step (length es + 1) e (part_of c es)) (part_of c es)
 part_after es m (entry.Open s) sound f c = part_opened es s sound f.0 f.1 c
 part_after es m (entry.Op s q n op outcome) sound f c = part_op es m s q n op outcome sound f.0.0 c

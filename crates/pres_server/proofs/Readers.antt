@@ -8,10 +8,8 @@ use Rattle.pres_session.specs.declared.slot.Slot.TheVariants.{Never, Gone, Live}
 use Rattle.pres_log.specs.declared.entry.Entry.{Entry}
 use Rattle.pres_server.specs.declared.index.Index.{Index}
 use Rattle.pres_server.specs.Sessions.{is_open, count, has_open, sessions_of}
-use Rattle.pres_server.specs.Parts.{Part, LivePart, Sound, part_of, live_in}
-use Rattle.pres_server.specs.Decide.{is_live, count_in}
-use Rattle.pres_server.specs.Slots.{Place, session_at, moment_at, live_part}
-use Rattle.pres_server.specs.Index.{part_at, place_at, Indexed}
+use Rattle.pres_server.specs.Parts.{Part, LivePart, Sound, part_of, live_in, is_live, count_in}
+use Rattle.pres_server.specs.Index.{Place, session_at, moment_at, live_part, part_at, place_at, Indexed}
 use Rattle.pres_server.proofs.Parts.{only_open}
 use Rattle.pres_server.proofs.Decide.{live_is, stamp_itself}
 

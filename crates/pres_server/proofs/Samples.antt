@@ -19,9 +19,8 @@ use Rattle.pres_log.specs.declared.fault.Fault.TheVariants as fault
 use Rattle.pres_log.specs.Logs.{Log, entries, tree}
 use Rattle.pres_server.specs.declared.input.Input.{Input}
 use Rattle.pres_server.specs.declared.input.Input.TheVariants as input
-use Rattle.pres_server.specs.Messages.{refused, quiet, makes, moment_of}
-use Rattle.pres_server.specs.Turns.{turn, log_after}
-use Rattle.pres_server.specs.Answers.{answers}
+use Rattle.pres_server.specs.Turns.{refused, quiet, makes, moment_of, turn, log_after}
+use Rattle.pres_server.specs.Streams.{answers}
 use Rattle.pres_server.specs.LegalLog.{IsLegal}
 use Rattle.pres_server.proofs.Whole.{turn_is_legal}
 
@@ -118,4 +117,4 @@ stranger = refl
 -- ---- legal logs
 
 is_legal : IsLegal opened_twice
-is_legal = turn_is_legal opened_once (input.Up (up.Hello (alice 2))) 2000 (turn_is_legal [] (input.Up (up.Hello (alice 1))) 1000 tt tt) tt
+is_legal = turn_is_legal opened_once (input.Up (up.Hello (alice 2))) 2000 (turn_is_legal [] (input.Up (up.Hello (alice 1))) 1000 tt)

@@ -104,10 +104,6 @@ split_at_open s (e ∷ es) h =
       by_head true o k f = ap (λ x. x ∷ es) (sym (opens-is s e o))
       by_head false o k f = ap (λ l. e ∷ l) (f k)
 
-pub any_or : (b c : Bool) → (b || c) ≡ false → b ≡ false
-any_or true c e = e
-any_or false c e = refl
-
 -- no entry after the Open of s ends it where none ends it at all
 pub not_ended_since : (s : SessionId) (es : List Entry) → list_any (ends s) es ≡ false → list_any (ends s) (since_open s es) ≡ false
 not_ended_since s [] h = refl

@@ -1,8 +1,8 @@
 -- What the index says after one entry more.
-use Rattle.std.proofs.Common.{refl, sym, ◌∙◌, ap, subst, ◌≡◌, ℕ, ◌+◌, ◌-◌, ◌^◌, ◌<◌, ◌≤◌, List, [], ◌∷◌, ◌++◌, length, Bool, true, false, cond, append-nil, arith, length-append, Option, Some, None, All, slice_get, ◌==◌, unwrap_or}
+use Rattle.std.proofs.Common.{refl, sym, ◌∙◌, ap, subst, ◌≡◌, ℕ, ◌+◌, ◌-◌, ◌^◌, ◌<◌, ◌≤◌, List, [], ◌∷◌, ◌++◌, length, Bool, true, false, cond, append-nil, arith, length-append, Option, Some, None, is_some, slice_get, ◌==◌, unwrap_or}
 use Rattle.std.specs.Option.{option_map}
 use Rattle.std.proofs.lemmas.Bool.Decides.{nat_tests}
-use Rattle.pres_write.specs.Basics.{FitsThere, applied}
+use Rattle.pres_write.specs.Basics.{applied}
 use Rattle.pres_write.specs.Outcomes.{kept_of, writes_in}
 use Rattle.pres_wire.specs.declared.id.Stamp.{Stamp}
 use Rattle.pres_wire.specs.declared.id.SessionId.{SessionId}
@@ -12,23 +12,21 @@ use Rattle.pres_session.specs.declared.slot.Slot.TheVariants.{Never, Gone, Live}
 use Rattle.pres_retry.specs.declared.table.Record.{Record}
 use Rattle.pres_retry.specs.declared.table.Row.{Row}
 use Rattle.pres_retry.specs.Tables.{row, rows_of}
-use Rattle.pres_retry.specs.Verdicts.{verdict, told_row, again, fresh}
+use Rattle.pres_retry.specs.Verdicts.{verdict, told_row, again, fresh, gap}
 use Rattle.pres_retry.proofs.Records.{rows_of_recorded}
 use Rattle.pres_log.specs.declared.entry.Entry.{Entry}
 use Rattle.pres_log.specs.declared.entry.Entry.TheVariants as entry
-use Rattle.pres_log.specs.Logs.{tree, writes_of}
+use Rattle.pres_log.specs.Logs.{tree}
 use Rattle.pres_log.proofs.Entries.{tree-append}
 use Rattle.pres_server.specs.declared.index.Index.{Index}
 use Rattle.pres_server.specs.Sessions.{session_of, is_open, open_sessions, count}
-use Rattle.pres_server.specs.Streams.{stream}
-use Rattle.pres_server.specs.Answers.{answers_to}
+use Rattle.pres_server.specs.Streams.{stream, answers_to}
 use Rattle.pres_server.specs.Parts.{Part, LivePart, Sound, part_of, part_step, live_in, answer_by, open_step, comes_after}
-use Rattle.pres_server.specs.Fits.{Fits, AllFit, WritesFit}
-use Rattle.pres_server.specs.Slots.{Place, session_at, last_at, live_part, place_after, HasRoom, MayOpen}
-use Rattle.pres_server.specs.Index.{place_at, part_at, retry_after, tree_after_entry, Steps, Takes, Indexed, Fitting}
+use Rattle.pres_server.specs.Invariants.{MayComeUncounted, MayComeInTurn, MayTakeAll}
+use Rattle.pres_server.specs.Index.{Place, session_at, last_at, live_part, place_after, HasRoom, MayOpen, place_at, part_at, retry_after, tree_after_entry, Steps, MayTake, Indexed}
 use Rattle.pres_server.proofs.Since.{client_same, client_itself}
 use Rattle.pres_server.proofs.Parts.{part_after, only_open, row_there}
-use Rattle.pres_server.proofs.AfterEntry.{sound_after, open_after, answers_are, same_by_cmp}
+use Rattle.pres_server.proofs.AfterEntry.{sound_after, open_after, answers_are, same_by_cmp, open_counted}
 use Rattle.pres_server.proofs.Whole.{count_small, stream_small, open_small}
 
 -- ---- what a client's part says of its place
@@ -59,25 +57,34 @@ may_open (Some (Live session)) stamp l k = absurd (cc)
 not_next : (n k : ℕ) → n ≤ k → (n == k + 1) ≡ false
 not_next n k h = grind (arith, nat_tests)
 
-is_again : (n : ℕ) (rows : List Row) (kept : Row) → n ≤ length rows → slice_get rows (n - 1) ≡ Some kept → verdict n rows ≡ again kept
-is_again n rows kept low k = ap (λ b. cond b fresh (told_row (slice_get rows (n - 1)))) (not_next n (length rows) low) ∙ ap told_row k
+not_zero : (n : ℕ) → 1 ≤ n → (n == 0) ≡ false
+not_zero n h = grind (arith, nat_tests)
 
--- an entry that fits behind the log may be taken in
-pub takes : (es : List Entry) (m : ℕ) (e : Entry) (index : Index) → Indexed es index → Sound es → Fits es m e → All FitsThere (writes_of e) → length es + 1 < 2 ^ 53 → Takes index e
-takes es m (entry.Open s) index ix sound f w small =
+is_again : (n : ℕ) (rows : List Row) (kept : Row) → 1 ≤ n → n ≤ length rows → slice_get rows (n - 1) ≡ Some kept → verdict n rows ≡ again kept
+is_again n rows kept low high k =
+    (λ i. cond (not_zero n low i) gap (cond (not_next n (length rows) high i) fresh (told_row (slice_get rows (n - 1)))))
+    ∙ ap told_row k
+
+-- an entry that may come behind the log may be taken in
+pub takes : (es : List Entry) (m : ℕ) (e : Entry) (index : Index) → Indexed es index → Sound es → MayComeUncounted es m e → length es + 1 < 2 ^ 53 → MayTake index e
+takes es m (entry.Open s) index ix sound f small =
     let k = open_small es in
     let c = ix.open_count in (
       may_open (place_at index s.client) (stamp_of s) (ap (λ (p : Part). p.live) (ix.parts s.client) ∙ ap (λ xs. live_in xs es) f.1)
           (ap (λ (p : Part). comes_after p.last (stamp_of s)) (ix.parts s.client) ∙ sym (sound.newest s) ∙ f.0),
       omega arith,
     )
-takes es m (entry.Op s q n op outcome) index ix sound f w small =
-    (room_there es s index ix sound f.0.0 small, f.1 ∙ ap (λ (p : Part). length p.rows + 1) (sym (ix.parts s.client)), w)
-takes es m (entry.Again s q n) index ix sound f w small =
+takes es m (entry.Op s q n op outcome) index ix sound f small =
+    (room_there es s index ix sound f.0.0 small, f.1 ∙ ap (λ (p : Part). length p.rows + 1) (sym (ix.parts s.client)))
+takes es m (entry.Again s q n) index ix sound f small =
     let r = row_there es s.client n f.1 f.2 in
     let k : slice_get (rows_of s.client index.retry) (n - 1) ≡ Some r.0 = ap (λ (p : Part). slice_get p.rows (n - 1)) (ix.parts s.client) ∙ r.1 in
-    (room_there es s index ix sound f.0.0 small, r.0, is_again n (rows_of s.client index.retry) r.0 (subst (λ (p : Part). n ≤ length p.rows) (sym (ix.parts s.client)) f.2) k, k)
-takes es m (entry.Ended s q why rows) index ix sound f w small = (room_there es s index ix sound f.0 small, f.2)
+    (room_there es s index ix sound f.0.0 small, r.0, is_again n (rows_of s.client index.retry) r.0 f.1 (subst (λ (p : Part). n ≤ length p.rows) (sym (ix.parts s.client)) f.2) k, k)
+takes es m (entry.Ended s q why rows) index ix sound f small = (
+  room_there es s index ix sound f.0 small,
+  f.2,
+  let n = open_counted s.client es (ap (λ xs. is_some (live_in xs es)) (only_open s es sound f.0)) in let c = ix.open_count in omega arith,
+)
 
 -- ---- the parts after the entry
 
@@ -144,7 +151,7 @@ tree_step es (entry.Again s q n) = tree-append es (entry.Again s q n ∷ []) ∙
 tree_step es (entry.Ended s q why due) = tree-append es (entry.Ended s q why due ∷ []) ∙ ap (applied (tree es)) (append-nil due)
 
 -- the index says what the entries say, with one more
-pub indexed_after : (es : List Entry) (m : ℕ) (old new : Index) (e : Entry) → Indexed es old → Sound es → Fits es m e → Steps (length es + 1) m old new e → Indexed (es ++ e ∷ []) new
+pub indexed_after : (es : List Entry) (m : ℕ) (old new : Index) (e : Entry) → Indexed es old → Sound es → MayComeUncounted es m e → Steps (length es + 1) m old new e → Indexed (es ++ e ∷ []) new
 indexed_after es m old new e ix sound f st = record { parts = parts; open_count = opens; tree = the_tree } where
   z : ℕ
   z = length es + 1
@@ -166,33 +173,30 @@ indexed_after es m old new e ix sound f st = record { parts = parts; open_count 
 
 -- ---- several entries
 
-pub first_taken : (es : List Entry) (z m : ℕ) (xs : List Entry) (e : Entry) (more : List Entry) (index : Index) → xs ≡ e ∷ more → Fitting es z m xs index → Takes index e
+pub first_taken : (es : List Entry) (z m : ℕ) (xs : List Entry) (e : Entry) (more : List Entry) (index : Index) → xs ≡ e ∷ more → MayTakeAll es z m xs index → MayTake index e
 first_taken es z m xs e more index k f =
-    let fits = subst (AllFit es m) k f.fits in
-    let w = subst WritesFit k f.writes in
+    let each = subst (MayComeInTurn es m) k f.in_turn in
     let small = f.room in
     let n = ap length k in
-    takes es m e index f.indexed f.sound fits.0 w.0 (omega arith)
+    takes es m e index f.indexed f.sound each.0 (omega arith)
 
-pub rest_fits : (es : List Entry) (z m : ℕ) (xs : List Entry) (e : Entry) (more : List Entry) (old new : Index) → xs ≡ e ∷ more → Fitting es z m xs old → Steps z m old new e → Fitting (es ++ e ∷ []) (z + 1) m more new
-rest_fits es z m xs e more old new k f st =
-    let fits = subst (AllFit es m) k f.fits in
-    let w = subst WritesFit k f.writes in
+pub rest_taken : (es : List Entry) (z m : ℕ) (xs : List Entry) (e : Entry) (more : List Entry) (old new : Index) → xs ≡ e ∷ more → MayTakeAll es z m xs old → Steps z m old new e → MayTakeAll (es ++ e ∷ []) (z + 1) m more new
+rest_taken es z m xs e more old new k f st =
+    let each = subst (MayComeInTurn es m) k f.in_turn in
     let n = length-append es (e ∷ []) in
     let l = ap length k in
     let small = f.room in
     let next = f.next in
     record {
-      indexed = indexed_after es m old new e f.indexed f.sound fits.0 (subst (λ y. Steps y m old new e) f.next st);
-      sound = sound_after es m e f.sound fits.0;
+      indexed = indexed_after es m old new e f.indexed f.sound each.0 (subst (λ y. Steps y m old new e) f.next st);
+      sound = sound_after es m e f.sound each.0;
       next = omega arith;
-      fits = fits.1;
-      writes = w.1;
+      in_turn = each.1;
       room = omega arith;
     }
 
-pub first_answered : (es : List Entry) (z m : ℕ) (xs : List Entry) (e : Entry) (more : List Entry) (index : Index) → xs ≡ e ∷ more → Fitting es z m xs index → answers_to es e ≡ answer_by z e (part_at index (session_of e).client)
+pub first_answered : (es : List Entry) (z m : ℕ) (xs : List Entry) (e : Entry) (more : List Entry) (index : Index) → xs ≡ e ∷ more → MayTakeAll es z m xs index → answers_to es e ≡ answer_by z e (part_at index (session_of e).client)
 first_answered es z m xs e more index k f =
-    let fits = subst (AllFit es m) k f.fits in
-    answers_are es m e f.sound fits.0
+    let each = subst (MayComeInTurn es m) k f.in_turn in
+    answers_are es m e f.sound each.0
     ∙ (λ i. answer_by (sym f.next i) e (sym (f.indexed.parts (session_of e).client) i))

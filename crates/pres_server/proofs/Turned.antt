@@ -1,8 +1,9 @@
 -- A server's turn and its commit, over what holds of the server.
-use Rattle.std.proofs.Common.{sym, ◌∙◌, subst, ◌≡◌, ℕ, ◌^◌, ◌<◌, ◌≤◌, max, List, [], ◌∷◌, ◌++◌, length, arith, length-append}
+use Rattle.std.proofs.Common.{sym, ◌∙◌, ap, subst, ◌≡◌, ℕ, ◌^◌, ◌<◌, ◌≤◌, max, List, [], ◌∷◌, ◌++◌, length, arith, length-append, is_some}
+use Rattle.std.specs.Prelude.{IsSome}
 use Rattle.std.specs.BTreeMap.{IsOrdered}
 use Rattle.pres_write.specs.Moments as moments
-use Rattle.pres_wire.specs.Ids.{client_cmp}
+use Rattle.pres_wire.specs.Ids.{ClientId, client_cmp}
 use Rattle.pres_log.specs.declared.entry.Batch.{Batch}
 use Rattle.pres_log.specs.declared.entry.Entry.{Entry}
 use Rattle.pres_log.specs.Logs.{Log, entries, number}
@@ -10,43 +11,51 @@ use Rattle.pres_log.proofs.Entries.{entries-push, last_moment-push}
 use Rattle.pres_server.specs.declared.index.Index.{Index}
 use Rattle.pres_server.specs.declared.input.Input.{Input}
 use Rattle.pres_server.specs.LegalLog.{MayFollow}
-use Rattle.pres_server.specs.Messages.{moment_of}
-use Rattle.pres_server.specs.Turns.{wanted, turn, batch_of, CountsWrites}
-use Rattle.pres_server.specs.Decide.{client_in, wanted_by, limited_by}
+use Rattle.pres_server.specs.Turns.{moment_of, wanted, turn, batch_of}
+use Rattle.pres_server.specs.Parts.{client_in, wanted_by, limited_by}
 use Rattle.pres_server.specs.Heard.{heard_after_all}
-use Rattle.pres_server.specs.Index.{part_at, heard_in, Indexed, Fitting, Tells}
-use Rattle.pres_server.specs.Kept.{Kept, Waits}
+use Rattle.pres_server.specs.Index.{part_at, heard_in, Indexed, Tells}
+use Rattle.pres_server.specs.Invariants.{MayTakeAll, Holds, Waits}
 use Rattle.pres_server.proofs.Decide.{wanted_is, wanted_allowed, limited_is}
-use Rattle.pres_server.proofs.Whole.{legal_is_sound, legal_leaves_room, legal_after, follows_fit}
+use Rattle.pres_server.proofs.Whole.{legal_is_sound, legal_leaves_room, legal_after, follows_in_turn}
+use Rattle.pres_server.specs.Parts.{Part}
+use Rattle.pres_server.proofs.AfterEntry.{open_counted}
 use Rattle.pres_server.proofs.Heard.{heard_is, heard_sorted, sorted_after_all}
 
 -- the numbers are far from the last one
-pub number_small : (log : Log) (moment : ℕ) (index : Index) → Kept log moment index → number log < 2 ^ 53
+pub number_small : (log : Log) (moment : ℕ) (index : Index) → Holds log moment index → number log < 2 ^ 53
 number_small log moment index kept = let room = legal_leaves_room log kept.legal in omega arith
 
-pub open_small : (log : Log) (moment : ℕ) (index : Index) → Kept log moment index → index.open_count < 2 ^ 53
+pub open_small : (log : Log) (moment : ℕ) (index : Index) → Holds log moment index → index.open_count < 2 ^ 53
 open_small log moment index kept =
     let room = legal_leaves_room log kept.legal in
     let count = kept.indexed.open_count in
     omega arith
 
-pub moment_is : (log : Log) (moment now : ℕ) (index : Index) → Kept log moment index → now ≤ moments.last_moment → max moment now ≡ moment_of log now
+-- an open session is counted
+pub counted : (log : Log) (moment : ℕ) (index : Index) → Holds log moment index → (c : ClientId) → IsSome (part_at index c).live → 0 < index.open_count
+counted log moment index kept c h =
+    let n = open_counted c (entries log) (sym (ap (λ (p : Part). is_some p.live) (kept.indexed.parts c)) ∙ h) in
+    let count = kept.indexed.open_count in
+    omega arith
+
+pub moment_is : (log : Log) (moment now : ℕ) (index : Index) → Holds log moment index → now ≤ moments.last_moment → max moment now ≡ moment_of log now
 moment_is log moment now index kept low = let last = kept.last in omega arith
 
 -- what the index decides is the turn
-pub turned : (log : Log) (moment now : ℕ) (index : Index) (i : Input) → Kept log moment index → now ≤ moments.last_moment → CountsWrites i
+pub turned : (log : Log) (moment now : ℕ) (index : Index) (i : Input) → Holds log moment index → now ≤ moments.last_moment
     → turn log i now ≡ limited_by (number log) index.open_count (wanted_by (part_at index (client_in i)) index.tree (max moment now) i)
-turned log moment now index i kept low counts =
+turned log moment now index i kept low =
     let es = entries log in
     let sound = legal_is_sound log kept.legal in
     let m = moment_of log now in
-    limited_is es m (wanted es m i) sound (wanted_allowed es m i sound counts)
+    limited_is es m (wanted es m i) sound (wanted_allowed es m i sound)
     ∙ (λ x. limited_by (length es) (sym kept.indexed.open_count x) (wanted_is es m i sound x))
     ∙ (λ x. limited_by (length es) index.open_count (wanted_by (sym (kept.indexed.parts (client_in i)) x) (sym kept.indexed.tree x) (sym (moment_is log moment now index kept low) x) i))
 
 -- ---- the commit
 
-pub fitting : (log : Log) (moment : ℕ) (index : Index) (b : Batch) → Kept log moment index → Waits log b → Fitting (entries log) b.first b.moment b.entries index
+pub fitting : (log : Log) (moment : ℕ) (index : Index) (b : Batch) → Holds log moment index → Waits log b → MayTakeAll (entries log) b.first b.moment b.entries index
 fitting log moment index b kept waits =
     let room = waits.follows.room in
     let both = length-append (entries log) b.entries in
@@ -54,12 +63,11 @@ fitting log moment index b kept waits =
       indexed = kept.indexed;
       sound = legal_is_sound log kept.legal;
       next = waits.follows.first;
-      fits = follows_fit (entries log) b.moment b.entries waits.follows.allowed;
-      writes = waits.fits;
+      in_turn = follows_in_turn (entries log) b.moment b.entries waits.follows.allowed;
       room = omega arith;
     }
 
-pub kept_after : (log : Log) (moment : ℕ) (index new : Index) (b : Batch) → Kept log moment index → MayFollow log b → Indexed (entries log ++ b.entries) new → IsOrdered client_cmp new.places → Kept (log ++ b ∷ []) b.moment new
+pub kept_after : (log : Log) (moment : ℕ) (index new : Index) (b : Batch) → Holds log moment index → MayFollow log b → Indexed (entries log ++ b.entries) new → IsOrdered client_cmp new.places → Holds (log ++ b ∷ []) b.moment new
 kept_after log moment index new b kept follows ix ordered =
     let last = last_moment-push log b in
     let later = follows.not_earlier in

@@ -12,21 +12,21 @@ use Rattle.pres_retry.specs.declared.table.Row.{Row}
 use Rattle.pres_log.specs.declared.entry.Batch.{Batch}
 use Rattle.pres_log.specs.declared.entry.Entry.{Entry}
 use Rattle.pres_log.specs.declared.entry.Entry.TheVariants as entry
+use Rattle.pres_log.specs.Batches.{may_hold}
 use Rattle.pres_log.specs.Logs.{Log, entries, last_moment}
 use Rattle.pres_log.proofs.Entries.{entries-push, last_moment-push}
 use Rattle.pres_server.specs.declared.input.Input.{Input}
 use Rattle.pres_server.specs.Sessions.{session_of, opened, opens, ends, since_open, is_open, count, open_sessions}
 use Rattle.pres_server.specs.Streams.{stream, sent_for, sent_from, own_answer, repeated_reply}
-use Rattle.pres_server.specs.LegalLog.{IsLegal, IsLegalAfter, MayFollow, MayComeTogether, LeavesRoom}
-use Rattle.pres_server.specs.Messages.{Decision, makes, quiet, refused, moment_of}
-use Rattle.pres_server.specs.Turns.{wanted, turn, batch_of, log_after, CountsWrites}
-use Rattle.pres_server.specs.Claims.{TurnIsLegal, LegalIsSound}
-use Rattle.pres_server.specs.Fits.{Fits, AllFit}
+use Rattle.pres_server.specs.LegalLog.{IsLegal, IsLegalAfter, MayFollow, MayComeTogether, Supersedes, LeavesRoom}
+use Rattle.pres_server.specs.Turns.{Decision, makes, quiet, refused, moment_of, wanted, turn, batch_of, log_after}
+use Rattle.pres_server.specs.Laws.{TurnIsLegal, LegalIsSound}
+use Rattle.pres_server.specs.Invariants.{MayComeInTurn}
 use Rattle.pres_server.specs.Parts.{Sound}
 use Rattle.pres_server.proofs.StreamSteps.{length-numbered_from}
-use Rattle.pres_server.proofs.Parts.{fits}
+use Rattle.pres_server.proofs.Parts.{uncounted}
 use Rattle.pres_server.proofs.AfterEntry.{sound_start, sound_after, length_open, by_client, sorted_is}
-use Rattle.pres_server.proofs.Decide.{Together, AllowedFully, wanted_allowed, limited_allowed}
+use Rattle.pres_server.proofs.Decide.{AllowedFully, wanted_allowed, limited_allowed}
 
 -- ---- bounds
 
@@ -103,28 +103,33 @@ open_small es =
     let g = opened_small es in
     omega arith
 
--- ---- entries that fit
+-- ---- entries one after another
 
-pub all_fit : (es : List Entry) (m : ℕ) (xs : List Entry) → Together es m xs → AllFit es m xs
-all_fit es m [] t = absurd t
-all_fit es m (e ∷ []) t = (t.1, tt)
-all_fit es m (e ∷ f ∷ []) t = (t.1, (t.2, tt))
-all_fit es m (e ∷ f ∷ g ∷ more) t = absurd t
+-- the entries of a batch that may follow may come one after another
+pub follows_in_turn : (es : List Entry) (m : ℕ) (xs : List Entry) → MayComeTogether es m xs → MayComeInTurn es m xs
+follows_in_turn es m [] t = absurd t
+follows_in_turn es m (e ∷ []) t = (uncounted es m e t.1, tt)
+follows_in_turn es m (e ∷ f ∷ []) t = (uncounted es m e t.1, (uncounted (es ++ e ∷ []) m f t.2, tt))
+follows_in_turn es m (e ∷ f ∷ g ∷ more) t = absurd t
 
--- of a batch that may follow, the entries fit one after another
-pub follows_fit : (es : List Entry) (m : ℕ) (xs : List Entry) → MayComeTogether es m xs → AllFit es m xs
-follows_fit es m [] t = absurd t
-follows_fit es m (e ∷ []) t = (fits es m e t.1, tt)
-follows_fit es m (e ∷ f ∷ []) t = (fits es m e t.1, (fits (es ++ e ∷ []) m f t.2, tt))
-follows_fit es m (e ∷ f ∷ g ∷ more) t = absurd t
-
--- the first of several entries and the rest
-pub first_fits : (es : List Entry) (m : ℕ) (xs : List Entry) (e : Entry) (more : List Entry) → xs ≡ e ∷ more → AllFit es m xs → Fits es m e × AllFit (es ++ e ∷ []) m more
-first_fits es m xs e more k h = subst (AllFit es m) k h
-
-pub sound_further : (es : List Entry) (m : ℕ) (xs : List Entry) → Sound es → AllFit es m xs → Sound (es ++ xs)
+pub sound_further : (es : List Entry) (m : ℕ) (xs : List Entry) → Sound es → MayComeInTurn es m xs → Sound (es ++ xs)
 sound_further es m [] sound f = subst Sound (sym (append-nil es)) sound
 sound_further es m (e ∷ xs) sound f = subst Sound (append_assoc es (e ∷ []) xs) (sound_further (es ++ e ∷ []) m xs (sound_after es m e sound f.0) f.1)
+
+-- a batch may hold entries that may come together
+pub held_together : (es : List Entry) (m : ℕ) (xs : List Entry) → MayComeTogether es m xs → may_hold xs ≡ true
+held_together es m [] t = absurd t
+held_together es m (e ∷ []) t = refl
+held_together es m (e ∷ f ∷ []) t = by e f t.0 where
+  by : (x y : Entry) → Supersedes x y → may_hold (x ∷ y ∷ []) ≡ true
+  by (entry.Ended s q w rows) (entry.Open u) h = refl
+  by (entry.Ended s q w rows) (entry.Op u r n op outcome) h = absurd h
+  by (entry.Ended s q w rows) (entry.Again u r n) h = absurd h
+  by (entry.Ended s q w rows) (entry.Ended u r v more) h = absurd h
+  by (entry.Open s) y h = absurd h
+  by (entry.Op s q n op outcome) y h = absurd h
+  by (entry.Again s q n) y h = absurd h
+held_together es m (e ∷ f ∷ g ∷ more) t = absurd t
 
 -- ---- one batch more
 
@@ -145,7 +150,7 @@ of_legal P start step log legal = along P step [] log start legal
 
 pub legal_is_sound : (log : Log) → LegalIsSound log
 legal_is_sound = of_legal (λ log. Sound (entries log)) sound_start
-    (λ log b sound f. subst Sound (sym (entries-push log b)) (sound_further (entries log) b.moment b.entries sound (follows_fit (entries log) b.moment b.entries f.allowed)))
+    (λ log b sound f. subst Sound (sym (entries-push log b)) (sound_further (entries log) b.moment b.entries sound (follows_in_turn (entries log) b.moment b.entries f.allowed)))
 
 -- its moments are in range, and each open session has a number left for its end
 pub legal_in_range : (log : Log) → IsLegal log → last_moment log ≤ moments.last_moment
@@ -159,17 +164,17 @@ legal_leaves_room = of_legal (λ log. LeavesRoom (entries log)) (let none : leng
 -- ---- turns
 
 -- what a turn makes may follow
-pub may_follow : (log : Log) (i : Input) (now : ℕ) (xs : List Entry) → IsLegal log → CountsWrites i → turn log i now ≡ makes xs → MayFollow log (batch_of log (moment_of log now) xs)
-may_follow log i now xs legal low e =
+pub may_follow : (log : Log) (i : Input) (now : ℕ) (xs : List Entry) → IsLegal log → turn log i now ≡ makes xs → MayFollow log (batch_of log (moment_of log now) xs)
+may_follow log i now xs legal e =
     let es = entries log in
     let m = moment_of log now in
-    let full : AllowedFully es m (makes xs) = subst (AllowedFully es m) e (limited_allowed es m (wanted es m i) (wanted_allowed es m i (legal_is_sound log legal) low)) in
+    let full : AllowedFully es m (makes xs) = subst (AllowedFully es m) e (limited_allowed es m (wanted es m i) (wanted_allowed es m i (legal_is_sound log legal))) in
     let range = legal_in_range log legal in
     record { first = refl; not_earlier = omega arith; in_range = omega arith; allowed = full.0; room = full.1 }
 
 pub turn_is_legal : (log : Log) (i : Input) (now : ℕ) → TurnIsLegal log i now
-turn_is_legal log i now legal low = by (turn log i now) refl where
+turn_is_legal log i now legal = by (turn log i now) refl where
   by : (d : Decision) → turn log i now ≡ d → IsLegal (log_after log (moment_of log now) d)
-  by (makes xs) e = legal_after log (batch_of log (moment_of log now) xs) legal (may_follow log i now xs legal low e)
+  by (makes xs) e = legal_after log (batch_of log (moment_of log now) xs) legal (may_follow log i now xs legal e)
   by quiet e = legal
   by (refused c) e = legal

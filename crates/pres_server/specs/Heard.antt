@@ -9,6 +9,7 @@ use Rattle.pres_log.specs.declared.entry.Entry.{Entry}
 use Rattle.pres_log.specs.declared.entry.Entry.TheVariants as entry
 use Rattle.pres_server.specs.declared.input.Input.{Input}
 use Rattle.pres_server.specs.declared.input.Input.TheVariants as input
+use Rattle.pres_log.specs.Logs.{Log}
 
 -- the moments behind the clients, in byte order of clients
 abbrev pub Heard : Type 0
@@ -47,3 +48,20 @@ heard_from _ = None
 abbrev pub heard_of : ℕ → Option SessionId → Heard → Heard
 heard_of moment None heard = heard
 heard_of moment (Some s) heard = heard_again s.client moment heard
+
+-- ---- what a server is
+
+-- what a server is: its log, and when each client was heard of last
+pub record State : Type 0 where
+  pub log : Log
+  pub heard : Heard
+
+-- a server without a history
+abbrev pub blank : State
+blank = record { log = []; heard = [] }
+
+-- a turn that waits for the commit of its batch
+pub record Pending : Type 0 where
+  pub state : State
+  pub moment : ℕ
+  pub made : List Entry

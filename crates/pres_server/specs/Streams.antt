@@ -1,5 +1,6 @@
--- What a session is sent: the stream of its messages, read off the log. The numbers of messages are ours.
-use Rattle.std.specs.Prelude.{ℕ, ◌+◌, ◌-◌, List, [], ◌∷◌, ◌++◌, length, Option, Some, None, if◌then◌else◌, slice_get}
+-- What a session is sent: the stream of its messages, read off the log, and what a committed batch answers. The
+-- numbers of messages are ours.
+use Rattle.std.specs.Prelude.{ℕ, ◌+◌, ◌-◌, List, [], ◌∷◌, ◌++◌, length, Option, Some, None, if◌then◌else◌, slice_get, drop}
 use Rattle.std.specs.List.{before_first}
 use Rattle.pres_write.specs.Outcomes.{kept_of}
 use Rattle.pres_wire.specs.declared.id.SessionId.{SessionId}
@@ -49,3 +50,19 @@ stream s entries = numbered_from 1 (sent_from s (before_first (opens s) entries 
 -- the Welcome of the session that the last of these entries opens
 abbrev pub welcome : SessionId → List Entry → Down
 welcome s now = Welcome s (length now) (ops s.client now)
+
+-- ---- what a committed batch answers
+
+-- the messages that an entry adds to the stream of s
+abbrev pub added : SessionId → List Entry → Entry → List Down
+added s before e = drop (length (stream s before)) (stream s (before ++ e ∷ []))
+
+-- the answer to the entry's own session
+abbrev pub answers_to : List Entry → Entry → List Down
+answers_to before (entry.Open s) = welcome s (before ++ entry.Open s ∷ []) ∷ []
+answers_to before e = added (session_of e) before e
+
+-- those of a batch, entry by entry
+abbrev pub answers : List Entry → List Entry → List Down
+answers before [] = []
+answers before (e ∷ later) = answers_to before e ++ answers (before ++ e ∷ []) later

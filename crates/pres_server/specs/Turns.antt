@@ -1,16 +1,99 @@
--- One turn of the server: what an input does to the log, as a function of the log, the input and the
--- moment that is handed in.
-use Rattle.std.specs.Prelude.{ℕ, ◌+◌, ◌≤◌, List, [], ◌∷◌, ◌++◌}
+-- One turn of the server: what an input does to the log, as a function of the log, the input and the moment that
+-- is handed in, and what the calls of a server answer.
+use Rattle.std.specs.Prelude.{ℕ, ◌+◌, ◌-◌, ◌^◌, min, max, List, [], ◌∷◌, ◌++◌, map, length, Some, None, if◌then◌else◌, nat_lt, nat_le, ◌==◌, unwrap_or, ◌≡◌, ◌⊎◌, Bool, true, false, Option, Result, MatchResult}
+use Rattle.pres_tree.specs.declared.scalar.Scalar.{Scalar}
+use Rattle.pres_tree.specs.Rows.{Rows}
+use Rattle.pres_write.specs.declared.op.Op.{Op}
+use Rattle.pres_write.specs.Moments as moments
+use Rattle.pres_write.specs.Outcomes.{resolved}
+use Rattle.pres_wire.specs.declared.id.SessionId.{SessionId}
+use Rattle.pres_wire.specs.declared.id.Why.{Why}
 use Rattle.pres_wire.specs.declared.id.Why.TheVariants as why
+use Rattle.pres_wire.specs.declared.up.Up.{Up}
 use Rattle.pres_wire.specs.declared.up.Up.TheVariants as up
-use Rattle.pres_log.specs.declared.entry.Batch.{Batch}
+use Rattle.pres_wire.specs.Ids.{stamp_of}
+use Rattle.pres_retry.specs.Verdicts.{verdict, Told, fresh, again, gap}
 use Rattle.pres_log.specs.declared.entry.Entry.{Entry}
-use Rattle.pres_log.specs.Logs.{Log, entries, number}
+use Rattle.pres_log.specs.declared.entry.Entry.TheVariants as entry
+use Rattle.pres_log.specs.declared.fault.Fault.{Fault}
+use Rattle.pres_log.specs.declared.fault.Fault.TheVariants as fault
+use Rattle.pres_log.specs.Logs.{Log, last_moment, tree, entries, number}
+use Rattle.pres_server.specs.Sessions.{is_open, is_newest, open_sessions, open_sessions_of, last_of, count}
+use Rattle.pres_server.specs.Outcomes.{rows_for}
+use Rattle.pres_log.specs.declared.entry.Batch.{Batch}
 use Rattle.pres_server.specs.declared.input.Input.{Input}
 use Rattle.pres_server.specs.declared.input.Input.TheVariants as input
-use Rattle.pres_server.specs.Sessions.{open_sessions_of}
-use Rattle.pres_server.specs.Heard.{Heard, heard_from, heard_of, heard_after_all}
-use Rattle.pres_server.specs.Messages.{Decision, makes, moment_of, ends_if_open, ends_first, message, limited}
+use Rattle.pres_server.specs.Heard.{heard_from, heard_of, heard_after_all, State}
+use Rattle.pres_server.specs.declared.turn.Step.{Step}
+use Rattle.pres_server.specs.declared.turn.Step.TheVariants as step
+use Rattle.pres_server.specs.declared.server.Turn.{Turn}
+use Rattle.pres_server.specs.declared.server.Turn.TheVariants as turn_is
+
+-- ---- what a message asks for: entries, nothing, or a refusal
+
+-- what a turn does
+pub data Decision : Type 0 where
+  refused : Fault → Decision
+  quiet : Decision
+  makes : List Entry → Decision
+
+-- the moment that counts: within range, and never before an earlier one
+abbrev pub moment_of : Log → ℕ → ℕ
+moment_of log now = max (min now moments.last_moment) (last_moment log)
+
+-- the end of a session, which owes nothing
+abbrev pub end_of : SessionId → Option ℕ → Why → Decision
+end_of s q why = makes (entry.Ended s q why [] ∷ [])
+
+-- the opening of a session, after the ends of these
+abbrev pub opening : List SessionId → SessionId → Decision
+opening older s = makes (map (λ t. entry.Ended t None why.Superseded []) older ++ entry.Open s ∷ [])
+
+-- the end of a session where it is open
+abbrev pub ends_if_open : List Entry → Why → SessionId → Decision
+ends_if_open before why s = if is_open s before then end_of s None why else quiet
+
+-- the end of the first of these sessions, where there is one
+abbrev pub ends_first : Why → List SessionId → Decision
+ends_first why [] = quiet
+ends_first why (s ∷ more) = end_of s None why
+
+-- what write n of a client makes, by what it is
+abbrev pub op_by : Told → Rows Scalar → ℕ → SessionId → ℕ → ℕ → Op → Decision
+op_by fresh tree moment s q n op = makes (entry.Op s q n op (resolved tree moment op) ∷ [])
+op_by (again row) tree moment s q n op = makes (entry.Again s q n ∷ [])
+op_by gap tree moment s q n op = refused fault.Order
+
+-- a repeated message is passed over, and a gap refused
+abbrev pub in_order : List Entry → SessionId → ℕ → Decision → Decision
+in_order before s q accepted =
+    let last = count s before in
+    if nat_le q last then quiet else (if q == last + 1 then accepted else refused fault.Order)
+
+abbrev pub if_open : List Entry → SessionId → Decision → Decision
+if_open before s said = if is_open s before then said else refused fault.Session
+
+-- a Hello opens its session, and ends the one of its client that is open
+abbrev pub hello : List Entry → SessionId → Decision
+hello before s =
+    if is_newest s before
+    then opening (open_sessions_of s.client before) s
+    else refused (fault.Old (unwrap_or (last_of s.client before) (stamp_of s)))
+
+abbrev pub message : List Entry → ℕ → Up → Decision
+message before moment (up.Hello s) = hello before s
+message before moment (up.Op s q n op) = if_open before s (in_order before s q (op_by (verdict n (rows_for s.client before)) (tree before) moment s q n op))
+message before moment (up.Bye s q) = if_open before s (in_order before s q (end_of s (Some q) why.Bye))
+
+-- refused where no number would be left for the ends, or where there would be more than 1,024 sessions
+abbrev pub limited : List Entry → Decision → Decision
+limited before (makes es) =
+    let all = before ++ es in
+    let count = length (open_sessions all) in
+    if nat_lt (2 ^ 52 - 1) (length all + count) then refused fault.Spent else (if nat_lt 1024 count then refused fault.Full else makes es)
+limited before other = other
+
+-- ---- a turn
 
 -- what an input asks for
 abbrev pub wanted : List Entry → ℕ → Input → Decision
@@ -18,11 +101,6 @@ wanted before moment (input.Up m) = message before moment m
 wanted before moment (input.Lost s) = ends_if_open before why.Lost s
 wanted before moment (input.Slow s) = ends_if_open before why.Slow s
 wanted before moment (input.Restart c) = ends_first why.Restart (open_sessions_of c before)
-
--- a write's number counts from 1, as its type says
-abbrev pub CountsWrites : Input → Type 0
-CountsWrites (input.Up (up.Op s q n op)) = 1 ≤ n
-CountsWrites _ = Unit {0}
 
 abbrev pub turn : Log → Input → ℕ → Decision
 turn log input now = limited (entries log) (wanted (entries log) (moment_of log now) input)
@@ -35,21 +113,6 @@ abbrev pub log_after : Log → ℕ → Decision → Log
 log_after log moment (makes es) = log ++ batch_of log moment es ∷ []
 log_after log moment other = log
 
--- what a server is: its log, and when each client was heard of last
-pub record State : Type 0 where
-  pub log : Log
-  pub heard : Heard
-
--- a server without a history
-abbrev pub blank : State
-blank = record { log = []; heard = [] }
-
--- a turn that waits for the commit of its batch
-pub record Pending : Type 0 where
-  pub state : State
-  pub moment : ℕ
-  pub made : List Entry
-
 -- the server after a turn that makes nothing
 abbrev pub state_heard : State → ℕ → Input → State
 state_heard state moment input = record { log = state.log; heard = heard_of moment (heard_from input) state.heard }
@@ -57,3 +120,32 @@ state_heard state moment input = record { log = state.log; heard = heard_of mome
 -- the server after the commit
 abbrev pub state_after : State → ℕ → List Entry → State
 state_after state moment es = record { log = state.log ++ batch_of state.log moment es ∷ []; heard = heard_after_all moment es state.heard }
+
+-- ---- what the calls answer
+
+-- something is to be made
+abbrev pub is_made : Decision → Bool
+is_made (makes es) = true
+is_made _ = false
+
+-- the refusal that an input meets, or want of memory where it would make something
+abbrev pub IsRefusal : Decision → Fault → Type 0
+IsRefusal decision f = (decision ≡ refused f) ⊎ ((f ≡ fault.Busy) × (is_made decision ≡ true))
+
+-- the entries are what is to be made
+abbrev pub Makes : Decision → Result (List Entry) Fault → Type 0
+Makes decision result = MatchResult result (λ es. decision ≡ makes es) (IsRefusal decision)
+
+-- the step is the decision on an input, which is a message of the session, or of none
+abbrev pub IsStep : Option SessionId → Decision → Step → Type 0
+IsStep from decision (step.Makes es) = decision ≡ makes es
+IsStep from decision (step.Quiet heard) = (decision ≡ quiet) × (heard ≡ from)
+
+-- the step that an input asks for, or its refusal
+abbrev pub Decides : Option SessionId → Decision → Result Step Fault → Type 0
+Decides from decision result = MatchResult result (IsStep from decision) (IsRefusal decision)
+
+-- a quiet turn answers nothing, and one that waits for its commit is the one that the input asks for
+abbrev pub IsTurn : State → Input → ℕ → Turn → Type 0
+IsTurn state input now (turn_is.Quiet server outs) = (turn state.log input now ≡ quiet) × (server ≡ state_heard state (moment_of state.log now) input) × (outs ≡ [])
+IsTurn state input now (turn_is.Busy busy) = (turn state.log input now ≡ makes busy.made) × (busy.state ≡ state) × (busy.moment ≡ moment_of state.log now)

@@ -1,20 +1,18 @@
 //! What the log says of each client and of the tree, kept as the log grows.
 
-ghost use Rattle.std.specs.Prelude.{◌≡◌, ◌+◌, ◌++◌, ◌∷◌, [], ℕ, All, List, Option, length, IfOk};
+ghost use Rattle.std.specs.Prelude.{◌≡◌, ◌+◌, ◌++◌, ◌∷◌, [], ℕ, List, Option, length, IfOk};
 ghost use Rattle.std.specs.BTreeMap.{IsOrdered};
-ghost use Rattle.pres_write.specs.Basics.{FitsThere, applied};
+ghost use Rattle.pres_write.specs.Basics.{applied};
 ghost use Rattle.pres_write.specs.Outcomes.{kept_of, writes_in};
 ghost use Rattle.pres_write.specs.declared.op.Op.{Op};
 ghost use Rattle.pres_retry.specs.Tables.{row, rows_of, recorded};
 ghost use Rattle.pres_wire.specs.Ids.{ClientId, client_cmp, stamp_of};
 ghost use Rattle.pres_log.specs.declared.entry.Entry.TheVariants as entry;
-ghost use Rattle.pres_server.specs.Answers.{answers};
+ghost use Rattle.pres_server.specs.Streams.{answers};
 ghost use Rattle.pres_server.specs.Heard.{Heard, heard_after_all};
-ghost use Rattle.pres_server.specs.Index.{Indexed, Steps, Takes, Tells, Fitting, part_at, place_at};
-ghost use Rattle.pres_server.specs.Decide.{count_in};
-ghost use Rattle.pres_server.specs.Parts.{answer_by};
-ghost use Rattle.pres_server.specs.Slots.{moment_at};
-ghost use Rattle.pres_server.specs.Sessions.{session_of};
+ghost use Rattle.pres_server.specs.Index.{Indexed, StepsAt, MayTake, Tells, answer_on, live_at, place_at, moment_at};
+ghost use Rattle.pres_server.specs.Invariants.{MayTakeAll};
+ghost use Rattle.pres_server.specs.Parts.{count_in};
 
 use crate::places;
 use crate::reopen::Reopen;
@@ -74,7 +72,7 @@ impl Index {
 
     /// How many messages of the session were accepted, where it is its client's open one.
     pub(crate) fn count(&self, session: &SessionId) -> Option<Count>
-        ensures { result ≡ count_in (part_at self.now session.now.client).live (stamp_of session.now) }
+        ensures { result ≡ count_in (live_at self.now session.now) (stamp_of session.now) }
     {
         let live = places::session(&self.places, &session.client)?;
         if session.stamp() != live.stamp() {
@@ -93,9 +91,11 @@ impl Index {
 
     // Takes in that the session was opened, and answers it.
     fn open(&mut self, alloc: Global, session: &SessionId, made: Made) -> Result<Down, Reopen>
-        requires { Takes self.old (entry.Open session.now) }
-        ensures steps { IfOk result (λ _. Steps made.number made.moment self.old self.new (entry.Open session.now)) }
-        ensures answer { IfOk result (λ answer. answer_by made.number (entry.Open session.now) (part_at self.old session.now.client) ≡ answer ∷ []) }
+        requires { MayTake self.old (entry.Open session.now) }
+        ensures steps { IfOk result
+            (λ _. StepsAt made self.old self.new (entry.Open session.now)) }
+        ensures answer { IfOk result
+            (λ m. answer_on self.old made (entry.Open session.now) ≡ m ∷ []) }
     {
         places::open(&mut self.places, alloc, session, made.moment)?;
         self.open_count += 1;
@@ -108,8 +108,8 @@ impl Index {
 
     // Carries out the writes.
     fn put(&mut self, alloc: Global, writes: &[Basic]) -> Result<(), Reopen>
-        requires { All FitsThere writes.now }
-        ensures { IfOk result (λ _. self.new ≡ record self.old { tree = applied self.old.tree writes.now }) }
+        ensures { IfOk result
+            (λ _. self.new ≡ record self.old { tree = applied self.old.tree writes.now }) }
     {
         let Ok(()) = apply(alloc, &mut self.tree, writes) else {
             return Err(Reopen);
@@ -127,7 +127,8 @@ impl Index {
         outcome: &Outcome,
     ) -> Result<(), Reopen>
         requires { n ≡ length (rows_of client.now self.old.retry) + 1 }
-        ensures { IfOk result (λ _. self.new ≡ record self.old { retry = recorded client.now n (row done (kept_of outcome.now)) self.old.retry }) }
+        ensures { IfOk result (λ _. self.new ≡ record self.old
+            { retry = recorded client.now n (row done (kept_of outcome.now)) self.old.retry }) }
     {
         let client = client.copy(alloc)?;
         let kept = outcome.kept(alloc)?;
@@ -147,9 +148,11 @@ impl Index {
         outcome: &Outcome,
         made: Made,
     ) -> Result<Down, Reopen>
-        requires { (op : Op) × Takes self.old (entry.Op session.now q n op outcome.now) }
-        ensures steps { (op : Op) → IfOk result (λ _. Steps made.number made.moment self.old self.new (entry.Op session.now q n op outcome.now)) }
-        ensures answer { (op : Op) → IfOk result (λ answer. answer_by made.number (entry.Op session.now q n op outcome.now) (part_at self.old session.now.client) ≡ answer ∷ []) }
+        requires { (op : Op) × MayTake self.old (entry.Op session.now q n op outcome.now) }
+        ensures steps { (op : Op) → IfOk result
+            (λ _. StepsAt made self.old self.new (entry.Op session.now q n op outcome.now)) }
+        ensures answer { (op : Op) → IfOk result
+            (λ m. answer_on self.old made (entry.Op session.now q n op outcome.now) ≡ m ∷ []) }
     {
         let r = places::answer(&mut self.places, &session.client, made.moment);
         self.keep(alloc, &session.client, n, made.number, outcome)?;
@@ -174,9 +177,11 @@ impl Index {
         n: Number,
         made: Made,
     ) -> Result<Down, Reopen>
-        requires { Takes self.old (entry.Again session.now q n) }
-        ensures steps { IfOk result (λ _. Steps made.number made.moment self.old self.new (entry.Again session.now q n)) }
-        ensures answer { IfOk result (λ answer. answer_by made.number (entry.Again session.now q n) (part_at self.old session.now.client) ≡ answer ∷ []) }
+        requires { MayTake self.old (entry.Again session.now q n) }
+        ensures steps { IfOk result
+            (λ _. StepsAt made self.old self.new (entry.Again session.now q n)) }
+        ensures answer { IfOk result
+            (λ m. answer_on self.old made (entry.Again session.now q n) ≡ m ∷ []) }
     {
         let r = places::answer(&mut self.places, &session.client, made.moment);
         let Verdict::Again(row) = self.retry.find(&session.client, n) else {
@@ -202,12 +207,14 @@ impl Index {
         rows: &[Basic],
         made: Made,
     ) -> Result<Down, Reopen>
-        requires { (q : Option ℕ) × Takes self.old (entry.Ended session.now q why rows.now) }
-        ensures steps { (q : Option ℕ) → IfOk result (λ _. Steps made.number made.moment self.old self.new (entry.Ended session.now q why rows.now)) }
-        ensures answer { (q : Option ℕ) → IfOk result (λ answer. answer_by made.number (entry.Ended session.now q why rows.now) (part_at self.old session.now.client) ≡ answer ∷ []) }
+        requires { (q : Option ℕ) × MayTake self.old (entry.Ended session.now q why rows.now) }
+        ensures steps { (q : Option ℕ) → IfOk result
+            (λ _. StepsAt made self.old self.new (entry.Ended session.now q why rows.now)) }
+        ensures answer { (q : Option ℕ) → IfOk result
+            (λ m. answer_on self.old made (entry.Ended session.now q why rows.now) ≡ m ∷ []) }
     {
         let r = places::end(&mut self.places, &session.client, why, rows);
-        self.open_count = self.open_count.saturating_sub(1);
+        self.open_count -= 1;
         self.put(alloc, rows)?;
         Ok(Down::Gone {
             session: session.copy(alloc)?,
@@ -219,9 +226,9 @@ impl Index {
 
     /// Takes in the next entry of the log, and answers it. After an `Err` the index is of no use.
     pub(crate) fn take(&mut self, alloc: Global, entry: &Entry, made: Made) -> Result<Down, Reopen>
-        requires { Takes self.old entry.now }
-        ensures steps { IfOk result (λ _. Steps made.number made.moment self.old self.new entry.now) }
-        ensures answer { IfOk result (λ answer. answer_by made.number entry.now (part_at self.old (session_of entry.now).client) ≡ answer ∷ []) }
+        requires { MayTake self.old entry.now }
+        ensures steps { IfOk result (λ _. StepsAt made self.old self.new entry.now) }
+        ensures answer { IfOk result (λ m. answer_on self.old made entry.now ≡ m ∷ []) }
     {
         match entry {
             Entry::Open { session } => self.open(alloc, session, made),
@@ -252,10 +259,16 @@ pub(crate) fn take_all(
     made: Made,
     outs: &mut Vec<Down>,
 ) -> Result<(), Reopen>
-    requires { (es : List Entry) × Fitting es made.number made.moment entries.now index.old }
-    ensures indexed { (es : List Entry) → Fitting es made.number made.moment entries.now index.old → IfOk result (λ _. Indexed (es ++ entries.now) index.new) }
-    ensures heard { (heard : Heard) → Tells heard index.old → IfOk result (λ _. Tells (heard_after_all made.moment entries.now heard) index.new) }
-    ensures answers { (es : List Entry) → Fitting es made.number made.moment entries.now index.old → IfOk result (λ _. outs.new.items ≡ outs.old.items ++ answers es entries.now) }
+    requires { (es : List Entry)
+        × MayTakeAll es made.number made.moment entries.now index.old }
+    ensures indexed { (es : List Entry)
+        → MayTakeAll es made.number made.moment entries.now index.old
+        → IfOk result (λ _. Indexed (es ++ entries.now) index.new) }
+    ensures heard { (heard : Heard) → Tells heard index.old
+        → IfOk result (λ _. Tells (heard_after_all made.moment entries.now heard) index.new) }
+    ensures answers { (es : List Entry)
+        → MayTakeAll es made.number made.moment entries.now index.old
+        → IfOk result (λ _. outs.new.items ≡ outs.old.items ++ answers es entries.now) }
 {
     let Some((first, rest)) = entries.split_first() else {
         return Ok(());

@@ -1,12 +1,11 @@
 //! Laws of the server's log, for the crates that keep one.
 
 ghost use Rattle.std.specs.Prelude.{ℕ, List};
-ghost use Rattle.pres_wire.specs.Ids.{ClientId};
 ghost use Rattle.pres_wire.specs.declared.id.SessionId.{SessionId};
 ghost use Rattle.pres_log.specs.Logs.{Log};
 ghost use Rattle.pres_log.specs.declared.entry.Entry.{Entry};
 ghost use Rattle.pres_server.specs.declared.input.Input.{Input};
-ghost use Rattle.pres_server.specs.Claims.{TurnIsLegal, LegalIsSound, PartSteps, OpenCountSteps, PartAnswers, PartDecides, StreamSteps, StreamGrows};
+ghost use Rattle.pres_server.specs.Laws.{TurnIsLegal, LegalIsSound, StreamSteps, StreamGrows};
 
 /// A turn on a legal log leaves a legal log.
 pub fn turns_are_legal()
@@ -16,26 +15,6 @@ pub fn turns_are_legal()
 /// After a legal log a client has at most one open session, and its last one is its newest.
 pub fn legal_logs_are_sound()
     ensures { (log : Log) → LegalIsSound log }
-{}
-
-/// An entry changes what the log says of its own client, and of no other.
-pub fn parts_step()
-    ensures { (es : List Entry) (moment : ℕ) (e : Entry) (client : ClientId) → PartSteps es moment e client }
-{}
-
-/// How many sessions are open changes by the entry alone.
-pub fn open_count_steps()
-    ensures { (es : List Entry) (moment : ℕ) (e : Entry) → OpenCountSteps es moment e }
-{}
-
-/// What an entry answers is given by what the log said of its client.
-pub fn parts_answer()
-    ensures { (es : List Entry) (moment : ℕ) (e : Entry) → PartAnswers es moment e }
-{}
-
-/// What an input asks for is given by what the log says of its client, and by the tree.
-pub fn parts_decide()
-    ensures { (es : List Entry) (moment : ℕ) (input : Input) → PartDecides es moment input }
 {}
 
 /// An entry adds to the stream of an open session what it sends to it, numbered on.

@@ -8,10 +8,13 @@ pub mod laws;
 mod places;
 mod reopen;
 mod server;
-#[cfg(test)]
-mod tests;
 mod turn;
 
 pub use input::Input;
+pub use pres_log::{Batch, Entry, Fault, Log};
+pub use pres_retry::Row;
+pub use pres_tree::{Path, Tree};
+pub use pres_wire::{ClientId, Code, Count, Down, Number, SessionId, Stamp, Up, Why};
+pub use pres_write::{Items, Kept, Moment, Op, Outcome};
 pub use reopen::Reopen;
 pub use server::{Busy, Server, Turn};

@@ -1,10 +1,10 @@
 //! Where each client stands.
 
-ghost use Rattle.std.specs.Prelude.{◌≡◌, ◌+◌, [], OnOk, IsSome, Some, None, option_map};
+ghost use Rattle.std.specs.Prelude.{◌≡◌, [], OnOk, IsSome, Some, None, option_map};
 ghost use Rattle.std.specs.BTreeMap.{get, Updates, IsOrdered};
 ghost use Rattle.pres_wire.specs.Ids.{client_cmp, stamp_of};
 ghost use Rattle.pres_session.specs.declared.slot.Slot.TheVariants.{Live as LivePlace};
-ghost use Rattle.pres_server.specs.Slots.{began, session_at, last_at, MayOpen, HasRoom, answered_at, ended_at, heard_at};
+ghost use Rattle.pres_server.specs.Index.{began, next_number, session_at, last_at, MayOpen, HasRoom, answered_at, ended_at, heard_at};
 
 use pres_session::{Live, NoPlan, Slot, first};
 use pres_wire::{ClientId, Number, SessionId, Stamp, Why};
@@ -33,7 +33,7 @@ fn next_session(slot: Slot<NoPlan>, stamp: Stamp, moment: Moment) -> Live<NoPlan
 // Counts a message of the open session, and its answer: the answer's number.
 fn answer_in(slot: &mut Slot<NoPlan>, moment: Moment) -> Number
     requires { HasRoom (Some slot.old) }
-    ensures number { Some result ≡ option_map (λ s. s.sent + 1) (session_at (Some slot.old)) }
+    ensures number { Some result ≡ next_number (Some slot.old) }
     ensures slot { Some slot.new ≡ answered_at moment (Some slot.old) }
 {
     let Slot::Live(live) = slot else {
@@ -51,7 +51,7 @@ fn answer_in(slot: &mut Slot<NoPlan>, moment: Moment) -> Number
 fn end_in(slot: &mut Slot<NoPlan>, why: Why, rows: &[Basic]) -> Number
     requires room { HasRoom (Some slot.old) }
     requires due { rows.now ≡ [] }
-    ensures number { Some result ≡ option_map (λ s. s.sent + 1) (session_at (Some slot.old)) }
+    ensures number { Some result ≡ next_number (Some slot.old) }
     ensures slot { Some slot.new ≡ ended_at (Some slot.old) }
 {
     let Slot::Live(mut live) = replace(slot, Slot::Never) else {
@@ -81,7 +81,8 @@ pub(crate) fn open(
     moment: Moment,
 ) -> Result<(), AllocError>
     requires { MayOpen (get client_cmp places.old session.now.client) (stamp_of session.now) }
-    ensures { OnOk result (Updates client_cmp places.old places.new session.now.client (Some (LivePlace (began (stamp_of session.now) moment)))) }
+    ensures { OnOk result (Updates client_cmp places.old places.new session.now.client
+        (Some (LivePlace (began (stamp_of session.now) moment)))) }
 {
     let stamp = session.stamp();
     if let Some(slot) = places.get_mut(&session.client) {
@@ -102,8 +103,9 @@ pub(crate) fn answer(
     moment: Moment,
 ) -> Number
     requires { HasRoom (get client_cmp places.old client.now) }
-    ensures number { Some result ≡ option_map (λ s. s.sent + 1) (session_at (get client_cmp places.old client.now)) }
-    ensures places { Updates client_cmp places.old places.new client.now (answered_at moment (get client_cmp places.old client.now)) }
+    ensures number { Some result ≡ next_number (get client_cmp places.old client.now) }
+    ensures places { Updates client_cmp places.old places.new client.now
+        (answered_at moment (get client_cmp places.old client.now)) }
 {
     let Some(slot) = places.get_mut(client) else {
         unreachable!()
@@ -120,8 +122,9 @@ pub(crate) fn end(
 ) -> Number
     requires room { HasRoom (get client_cmp places.old client.now) }
     requires due { rows.now ≡ [] }
-    ensures number { Some result ≡ option_map (λ s. s.sent + 1) (session_at (get client_cmp places.old client.now)) }
-    ensures places { Updates client_cmp places.old places.new client.now (ended_at (get client_cmp places.old client.now)) }
+    ensures number { Some result ≡ next_number (get client_cmp places.old client.now) }
+    ensures places { Updates client_cmp places.old places.new client.now
+        (ended_at (get client_cmp places.old client.now)) }
 {
     let Some(slot) = places.get_mut(client) else {
         unreachable!()
@@ -132,8 +135,10 @@ pub(crate) fn end(
 /// The client was heard of at the moment, where a session of it is open.
 pub(crate) fn hear(places: &mut BTreeMap<ClientId, Slot<NoPlan>>, client: &ClientId, moment: Moment)
     ensures known { IsSome (get client_cmp places.old client.now)
-        → Updates client_cmp places.old places.new client.now (heard_at moment (get client_cmp places.old client.now)) }
-    ensures stranger { get client_cmp places.old client.now ≡ None → places.new.entries ≡ places.old.entries }
+        → Updates client_cmp places.old places.new client.now
+        (heard_at moment (get client_cmp places.old client.now)) }
+    ensures stranger { get client_cmp places.old client.now ≡ None
+        → places.new.entries ≡ places.old.entries }
     ensures ordered { IsOrdered client_cmp places.new }
 {
     if let Some(slot) = places.get_mut(client) {

@@ -1,17 +1,15 @@
 //! The server.
 
-ghost use Rattle.std.specs.Prelude.{◌≡◌, [], IfOk, IfErr, MatchOption, Some, None, false, is_some, if◌then◌else◌};
+ghost use Rattle.std.specs.Prelude.{◌≡◌, ◌++◌, ◌∷◌, [], IfOk, IfErr, MatchOption, Some, None, false, is_some, if◌then◌else◌};
 ghost use Rattle.pres_tree.specs.Rows.{is_null, value_at};
 ghost use Rattle.pres_log.specs.Logs.{number, entries, tree};
 ghost use Rattle.pres_log.specs.declared.fault.Fault.TheVariants.{Busy as OutOfMemory};
 ghost use Rattle.pres_server.specs.Sessions.{is_open, count, has_open};
-ghost use Rattle.pres_server.specs.Heard.{heard_last, heard_again};
-ghost use Rattle.pres_server.specs.Fits.{WritesFit};
+ghost use Rattle.pres_server.specs.Heard.{heard_last, heard_again, blank};
 ghost use Rattle.pres_server.specs.Outcomes.{rows_for};
 ghost use Rattle.pres_server.specs.LegalLog.{IsLegal, MayFollow};
-ghost use Rattle.pres_server.specs.Turns.{blank, turn, batch_of, state_after};
-ghost use Rattle.pres_server.specs.Answers.{answers};
-ghost use Rattle.pres_server.specs.Calls.{IsTurn, IsRefusal};
+ghost use Rattle.pres_server.specs.Turns.{turn, batch_of, state_after, IsTurn, IsRefusal};
+ghost use Rattle.pres_server.specs.Streams.{answers};
 
 use crate::index::{Index, Made, take_all};
 use crate::input::Input;
@@ -38,16 +36,16 @@ pub struct Server {
 }
 
 impl Model for Server {
-    ghost use Rattle.pres_server.specs.Turns.{State};
+    ghost use Rattle.pres_server.specs.Heard.{State};
 
     ghost Value = { State };
 
     ghost use Rattle.pres_server.specs.Index.{heard_in};
-    ghost use Rattle.pres_server.specs.Kept.{Kept};
+    ghost use Rattle.pres_server.specs.Invariants.{Holds};
 
     ghost view = { λ s. record { log = s.log; heard = heard_in s.index } };
 
-    ghost invariant = { λ s. Kept s.log s.moment s.index };
+    ghost invariant = { λ s. Holds s.log s.moment s.index };
 }
 
 /// A turn whose batch waits for its commit. It may not be let go: `done` takes it once the batch is
@@ -59,13 +57,14 @@ pub struct Busy {
 }
 
 impl Model for Busy {
-    ghost use Rattle.pres_server.specs.Turns.{Pending};
+    ghost use Rattle.pres_server.specs.Heard.{Pending};
 
     ghost Value = { Pending };
 
-    ghost use Rattle.pres_server.specs.Kept.{Waits};
+    ghost use Rattle.pres_server.specs.Invariants.{Waits};
 
-    ghost view = { λ b. record { state = b.server; moment = b.batch.moment; made = b.batch.entries } };
+    ghost view = { λ b. record
+        { state = b.server; moment = b.batch.moment; made = b.batch.entries } };
 
     ghost invariant = { λ b. Waits b.server.log b.batch };
 }
@@ -104,7 +103,8 @@ impl Server {
     pub fn value_at(&self, path: &Path) -> Option<&Tree>
         ensures { MatchOption result
             (value_at path.now (tree (entries self.now.log)) ≡ [])
-            (λ value. (is_null value.now ≡ false) × (value_at path.now (tree (entries self.now.log)) ≡ value.now)) }
+            (λ value. (is_null value.now ≡ false)
+            × (value_at path.now (tree (entries self.now.log)) ≡ value.now)) }
     {
         self.index.tree.at(path)
     }
@@ -119,7 +119,8 @@ impl Server {
     /// What became of the client's writes, in their order. Busy, for want of memory, is the one
     /// refusal.
     pub fn history_of(&self, client: &ClientId) -> Result<Vec<Row>, Fault>
-        ensures rows { IfOk result (λ rows. rows.items ≡ rows_for client.now (entries self.now.log)) }
+        ensures rows { IfOk result
+            (λ rows. rows.items ≡ rows_for client.now (entries self.now.log)) }
         ensures busy { IfErr result (λ e. e ≡ OutOfMemory) }
     {
         let Ok(rows) = self.index.retry.rows(self.alloc, client) else {
@@ -137,7 +138,8 @@ impl Server {
 
     /// How many messages of the session were accepted, none where it isn't open.
     pub fn count(&self, session: &SessionId) -> Option<Count>
-        ensures { result ≡ (if is_open session.now (entries self.now.log) then Some (count session.now (entries self.now.log)) else None) }
+        ensures { let es = entries self.now.log in
+            result ≡ (if is_open session.now es then Some (count session.now es) else None) }
     {
         self.index.count(session)
     }
@@ -152,25 +154,21 @@ impl Server {
 
     // The client was heard of at the moment, where a session of it is open.
     fn hear(&mut self, client: &ClientId, moment: Moment)
-        ensures { self.new ≡ record { log = self.old.log; heard = heard_again client.now moment self.old.heard } }
+        ensures { self.new ≡ record self.old
+            { heard = heard_again client.now moment self.old.heard } }
     {
         places::hear(&mut self.index.places, client, moment);
     }
 
     // The turn that makes these entries at the moment.
     fn wait(self, moment: Moment, entries: Items<Entry>) -> Busy
-        requires follows { MayFollow self.log (batch_of self.log moment entries) }
-        requires fits { WritesFit entries }
+        requires { MayFollow self.log (batch_of self.log moment entries) }
         ensures { result ≡ record { state = self; moment = moment; made = entries } }
     {
         let Some(first) = Number::new(self.log.len() + 1) else {
             unreachable!()
         };
-        let batch = Batch {
-            first,
-            moment,
-            entries,
-        };
+        let batch = Batch::new(first, moment, entries);
         Busy {
             server: self,
             batch,
@@ -179,8 +177,8 @@ impl Server {
 
     /// What the input does, at the later of the given moment and the log's greatest one. Nothing is
     /// changed before `done` but, by a message that was accepted before, when its client was heard
-    /// of last. Refused, in this order, with the server as it was: Old, Session, Order, Spent, Full,
-    /// Busy.
+    /// of last. Refused, in this order, with the server as it was: Old, Session, Order, Spent,
+    /// Full, Busy.
     pub fn prepare(mut self, input: Input, now: Moment) -> Result<Turn, (Fault, Server)>
         ensures turn { IfOk result (IsTurn self input now) }
         ensures refused { IfErr result (λ e. IsRefusal (turn self.log input now) e.0) }
@@ -206,7 +204,8 @@ impl Server {
 impl Busy {
     /// The batch that is to be committed.
     pub fn batch(&self) -> &Batch
-        ensures { result.now ≡ batch_of self.now.state.log self.now.moment self.now.made }
+        ensures made { result.now ≡ batch_of self.now.state.log self.now.moment self.now.made }
+        ensures legal { IsLegal (self.now.state.log ++ result.now ∷ []) }
     {
         &self.batch
     }
@@ -222,8 +221,10 @@ impl Busy {
 
     /// The server after the commit, and the answers of the batch in their order.
     pub fn done(self) -> Result<(Server, Items<Down>), Reopen>
-        ensures server { IfOk result (λ done. done.0 ≡ state_after self.state self.moment self.made) }
-        ensures answers { IfOk result (λ done. done.1 ≡ answers (entries self.state.log) self.made) }
+        ensures server { IfOk result
+            (λ done. done.0 ≡ state_after self.state self.moment self.made) }
+        ensures answers { IfOk result
+            (λ done. done.1 ≡ answers (entries self.state.log) self.made) }
     {
         let Busy { server, batch } = self;
         let Server {
@@ -232,19 +233,13 @@ impl Busy {
             mut index,
             ..
         } = server;
-        let moment = batch.moment;
+        let moment = batch.moment();
         let made = Made {
-            number: batch.first,
+            number: batch.first(),
             moment,
         };
         let mut answers = Vec::new(alloc);
-        take_all(
-            &mut index,
-            alloc,
-            batch.entries.as_slice(),
-            made,
-            &mut answers,
-        )?;
+        take_all(&mut index, alloc, batch.entries(), made, &mut answers)?;
         // it ensures that the clients are in order
         let _ = index.places.len();
         let Ok(()) = log.push(batch) else {

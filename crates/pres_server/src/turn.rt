@@ -1,21 +1,13 @@
 //! What an input asks for.
 
-ghost use Rattle.std.specs.Prelude.{◌≡◌, ◌<◌, ◌≤◌, ◌∷◌, ◌^◌, [], IfOk, IfErr, Some, None};
+ghost use Rattle.std.specs.Prelude.{◌≡◌, ◌<◌, ◌∷◌, ◌^◌, [], IfOk, IfErr, Some, None};
 ghost use Rattle.pres_wire.specs.Ids.{stamp_of};
-ghost use Rattle.pres_wire.specs.Messages.{session_in};
-ghost use Rattle.pres_wire.specs.declared.id.Why.TheVariants as why;
+ghost use Rattle.pres_wire.specs.declared.up.Up.TheVariants as up;
 ghost use Rattle.pres_log.specs.declared.fault.Fault.TheVariants.{Busy};
-ghost use Rattle.pres_retry.specs.Verdicts.{verdict};
-ghost use Rattle.pres_log.specs.declared.entry.Entry.TheVariants as entry;
-ghost use Rattle.pres_server.specs.Messages.{Decision, makes, op_by, ends_first};
-ghost use Rattle.pres_server.specs.Decide.{wanted_by, hello_by, message_by, said_by, ends_live, is_live, client_in, limited_by, within, checked, said};
-ghost use Rattle.pres_server.specs.Calls.{Makes, Decides, StepFits};
-ghost use Rattle.pres_server.specs.Fits.{WritesFit};
-ghost use Rattle.pres_server.specs.Turns.{CountsWrites};
+ghost use Rattle.pres_server.specs.Turns.{Decision, end_of, opening, Makes, Decides};
+ghost use Rattle.pres_server.specs.Parts.{said_by, ends_live, is_live, within, checked, said, session_with};
 ghost use Rattle.pres_server.specs.declared.input.Input.TheVariants as input;
-ghost use Rattle.pres_server.specs.Heard.{heard_from};
-ghost use Rattle.pres_server.specs.Parts.{listed, session_with};
-ghost use Rattle.pres_server.specs.Index.{part_at};
+ghost use Rattle.pres_server.specs.Index.{live_at, limited_on, write_on, decision_on, DecidesOn, Ready};
 
 use crate::index::Index;
 use crate::input::Input;
@@ -78,7 +70,8 @@ fn pair(alloc: Global, first: Entry, second: Entry) -> Result<Items<Entry>, Faul
 impl Index {
     // Whether it is the open session's next message, and not one that was accepted before.
     fn is_next(&self, session: &SessionId, q: Number) -> Result<bool, Fault>
-        ensures { (accepted : Decision) → said_by (part_at self.now session.now.client).live session.now q accepted ≡ said result accepted }
+        ensures { (accepted : Decision)
+            → said_by (live_at self.now session.now) session.now q accepted ≡ said result accepted }
     {
         let Some(live) = places::session(&self.places, &session.client) else {
             return Err(Fault::Session);
@@ -98,7 +91,7 @@ impl Index {
 
     /// Whether it is its client's open session.
     pub(crate) fn is_live(&self, session: &SessionId) -> bool
-        ensures { result ≡ is_live (part_at self.now session.now.client).live (stamp_of session.now) }
+        ensures { result ≡ is_live (live_at self.now session.now) (stamp_of session.now) }
     {
         match places::session(&self.places, &session.client) {
             Some(live) => session.stamp() == live.stamp(),
@@ -113,14 +106,13 @@ impl Index {
         session: SessionId,
         q: Option<Number>,
         why: Why,
-        number: u64,
+        now: Now,
     ) -> Result<Items<Entry>, Fault>
-        requires number { number < 2 ^ 53 }
-        requires open_count { self.now.open_count < 2 ^ 53 }
-        ensures made { Makes (limited_by number self.now.open_count (makes (entry.Ended session q why [] ∷ []))) result }
-        ensures fits { IfOk result WritesFit }
+        requires ready { Ready self.now now }
+        requires open { 0 < self.now.open_count }
+        ensures { Makes (limited_on self.now now.number (end_of session q why)) result }
     {
-        limits(number + 1, self.open_count.saturating_sub(1))?;
+        limits(now.number + 1, self.open_count - 1)?;
         let rows = Items::of(Vec::new(alloc));
         Ok(Items::one(
             alloc,
@@ -139,14 +131,14 @@ impl Index {
         alloc: Global,
         session: SessionId,
         stamp: Stamp,
-        number: u64,
+        now: Now,
     ) -> Result<Items<Entry>, Fault>
-        requires number { number < 2 ^ 53 }
-        requires open_count { self.now.open_count < 2 ^ 53 }
-        ensures made { Makes (limited_by number self.now.open_count (makes (entry.Ended (session_with session.client stamp) None why.Superseded [] ∷ entry.Open session ∷ []))) result }
-        ensures fits { IfOk result WritesFit }
+        requires ready { Ready self.now now }
+        requires open { 0 < self.now.open_count }
+        ensures { Makes (limited_on self.now now.number
+            (opening (session_with session.client stamp ∷ []) session)) result }
     {
-        limits(number + 2, self.open_count.saturating_sub(1) + 1)?;
+        limits(now.number + 2, self.open_count)?;
         let ended = Entry::Ended {
             session: SessionId::of(session.client.copy(alloc)?, stamp),
             q: None,
@@ -157,11 +149,9 @@ impl Index {
     }
 
     // What a Hello makes.
-    fn hello(&self, alloc: Global, session: SessionId, number: u64) -> Result<Items<Entry>, Fault>
-        requires number { number < 2 ^ 53 }
-        requires open_count { self.now.open_count < 2 ^ 53 }
-        ensures made { Makes (limited_by number self.now.open_count (hello_by (part_at self.now session.client) session)) result }
-        ensures fits { IfOk result WritesFit }
+    fn hello(&self, alloc: Global, session: SessionId, now: Now) -> Result<Items<Entry>, Fault>
+        requires { Ready self.now now }
+        ensures { Makes (decision_on self.now now (input.Up (up.Hello session))) result }
     {
         if let Some(last) = places::last(&self.places, &session.client) {
             if !last.is_earlier(&session.stamp()) {
@@ -170,9 +160,9 @@ impl Index {
         }
         if let Some(live) = places::session(&self.places, &session.client) {
             let stamp = live.stamp();
-            return self.superseding(alloc, session, stamp, number);
+            return self.superseding(alloc, session, stamp, now);
         }
-        limits(number + 1, self.open_count + 1)?;
+        limits(now.number + 1, self.open_count + 1)?;
         Ok(Items::one(alloc, Entry::Open { session })?)
     }
 
@@ -186,10 +176,9 @@ impl Index {
         op: Op,
         now: Now,
     ) -> Result<Items<Entry>, Fault>
-        requires number { now.number < 2 ^ 53 }
-        requires open_count { self.now.open_count < 2 ^ 53 }
-        ensures made { Makes (limited_by now.number self.now.open_count (op_by (verdict n (part_at self.now session.client).rows) self.now.tree now.moment session q n op)) result }
-        ensures fits { IfOk result WritesFit }
+        requires { Ready self.now now }
+        ensures { Makes (limited_on self.now now.number
+            (write_on self.now now.moment session q n op)) result }
     {
         let again = match self.retry.find(&session.client, n) {
             Verdict::New => false,
@@ -225,14 +214,9 @@ impl Index {
         op: Op,
         now: Now,
     ) -> Result<Step, Fault>
-        requires number { now.number < 2 ^ 53 }
-        requires open_count { self.now.open_count < 2 ^ 53 }
-        ensures step { Decides (Some session) (limited_by now.number self.now.open_count (said_by (part_at self.now session.client).live session q (op_by (verdict n (part_at self.now session.client).rows) self.now.tree now.moment session q n op))) result }
-        ensures fits { IfOk result StepFits }
-        ensures counts { 1 ≤ n }
+        requires { Ready self.now now }
+        ensures { DecidesOn self.now now (input.Up (up.Op session q n op)) result }
     {
-        // it ensures that writes count from 1
-        let _ = n.get();
         if !self.is_next(&session, q)? {
             return Ok(Step::Quiet(Some(session)));
         }
@@ -245,74 +229,63 @@ impl Index {
         alloc: Global,
         session: SessionId,
         q: Number,
-        number: u64,
+        now: Now,
     ) -> Result<Step, Fault>
-        requires number { number < 2 ^ 53 }
-        requires open_count { self.now.open_count < 2 ^ 53 }
-        ensures step { Decides (Some session) (limited_by number self.now.open_count (said_by (part_at self.now session.client).live session q (makes (entry.Ended session (Some q) why.Bye [] ∷ [])))) result }
-        ensures fits { IfOk result StepFits }
+        requires { Ready self.now now }
+        ensures { DecidesOn self.now now (input.Up (up.Bye session q)) result }
     {
         if !self.is_next(&session, q)? {
             return Ok(Step::Quiet(Some(session)));
         }
-        Ok(Step::Makes(self.ending(alloc, session, Some(q), Why::Bye, number)?))
+        Ok(Step::Makes(self.ending(alloc, session, Some(q), Why::Bye, now)?))
     }
 
     // What a message asks for.
     fn message(&self, alloc: Global, up: Up, now: Now) -> Result<Step, Fault>
-        requires number { now.number < 2 ^ 53 }
-        requires open_count { self.now.open_count < 2 ^ 53 }
-        ensures step { Decides (Some (session_in up)) (limited_by now.number self.now.open_count (message_by (part_at self.now (session_in up).client) self.now.tree now.moment up)) result }
-        ensures fits { IfOk result StepFits }
-        ensures counts { CountsWrites (input.Up up) }
+        requires { Ready self.now now }
+        ensures { DecidesOn self.now now (input.Up up) result }
     {
         match up {
-            Up::Hello { session } => Ok(Step::Makes(self.hello(alloc, session, now.number)?)),
+            Up::Hello { session } => Ok(Step::Makes(self.hello(alloc, session, now)?)),
             Up::Op { session, q, n, op } => self.op_message(alloc, session, q, n, op, now),
-            Up::Bye { session, q } => self.bye_message(alloc, session, q, now.number),
+            Up::Bye { session, q } => self.bye_message(alloc, session, q, now),
         }
     }
 
     // The end of the session, where it is open.
-    fn lost(&self, alloc: Global, session: SessionId, why: Why, number: u64) -> Result<Step, Fault>
-        requires number { number < 2 ^ 53 }
-        requires open_count { self.now.open_count < 2 ^ 53 }
-        ensures step { Decides None (limited_by number self.now.open_count (ends_live (part_at self.now session.client).live why session)) result }
-        ensures fits { IfOk result StepFits }
+    fn lost(&self, alloc: Global, session: SessionId, why: Why, now: Now) -> Result<Step, Fault>
+        requires { Ready self.now now }
+        ensures { Decides None (limited_on self.now now.number
+            (ends_live (live_at self.now session) why session)) result }
     {
         if !self.is_live(&session) {
             return Ok(Step::Quiet(None));
         }
-        Ok(Step::Makes(self.ending(alloc, session, None, why, number)?))
+        Ok(Step::Makes(self.ending(alloc, session, None, why, now)?))
     }
 
     // The end of the client's open session, where it has one.
-    fn restarted(&self, alloc: Global, client: ClientId, number: u64) -> Result<Step, Fault>
-        requires number { number < 2 ^ 53 }
-        requires open_count { self.now.open_count < 2 ^ 53 }
-        ensures step { Decides None (limited_by number self.now.open_count (ends_first why.Restart (listed client (part_at self.now client).live))) result }
-        ensures fits { IfOk result StepFits }
+    fn restarted(&self, alloc: Global, client: ClientId, now: Now) -> Result<Step, Fault>
+        requires { Ready self.now now }
+        ensures { DecidesOn self.now now (input.Restart client) result }
     {
         let Some(live) = places::session(&self.places, &client) else {
             return Ok(Step::Quiet(None));
         };
         let session = SessionId::of(client, live.stamp());
-        Ok(Step::Makes(self.ending(alloc, session, None, Why::Restart, number)?))
+        Ok(Step::Makes(self.ending(alloc, session, None, Why::Restart, now)?))
     }
 
     /// What the input asks for. Busy is the last of its refusals.
     pub(crate) fn turn(&self, alloc: Global, input: Input, now: Now) -> Result<Step, Fault>
-        requires number { now.number < 2 ^ 53 }
-        requires open_count { self.now.open_count < 2 ^ 53 }
-        ensures step { Decides (heard_from input) (limited_by now.number self.now.open_count (wanted_by (part_at self.now (client_in input)) self.now.tree now.moment input)) result }
-        ensures fits { IfOk result StepFits }
-        ensures counts { CountsWrites input }
+        requires { Ready self.now now }
+        ensures { DecidesOn self.now now input result }
     {
         match input {
             Input::Up(up) => self.message(alloc, up, now),
-            Input::Lost(session) => self.lost(alloc, session, Why::Lost, now.number),
-            Input::Slow(session) => self.lost(alloc, session, Why::Slow, now.number),
-            Input::Restart(client) => self.restarted(alloc, client, now.number),
+            Input::Lost(session) => self.lost(alloc, session, Why::Lost, now),
+            Input::Slow(session) => self.lost(alloc, session, Why::Slow, now),
+            Input::Restart(client) => self.restarted(alloc, client, now),
         }
     }
 }

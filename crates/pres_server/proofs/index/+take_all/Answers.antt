@@ -1,9 +1,10 @@
 use Rattle.std.proofs.Common.{rules, ◌∙◌, ap, sym, subst, ◌≡◌, ◌++◌, ◌∷◌, [], append_assoc, IfOk}
-use Rattle.pres_server.specs.Answers.{answers}
+use Rattle.pres_server.specs.Streams.{answers}
 use Rattle.pres_server.specs.Heard.{heard_after_all}
-use Rattle.pres_server.specs.Index.{Indexed, Tells, Fitting}
+use Rattle.pres_server.specs.Index.{Indexed, Tells}
+use Rattle.pres_server.specs.Invariants.{MayTakeAll}
 use Rattle.pres_server.proofs.Heard.{tells_after}
-use Rattle.pres_server.proofs.Taken.{first_taken, rest_fits, first_answered}
+use Rattle.pres_server.proofs.Taken.{first_taken, rest_taken, first_answered}
 use Rattle.pres_server.proofs.index.+take_all.Goals as goal
 
 pub take-requires : goal.take-requires
@@ -18,8 +19,8 @@ take_all-requires t c =
       search rules,
       (
         es ++ first ∷ [],
-        subst (λ z. Fitting (es ++ first ∷ []) z m rest c.take.new.self) (sym c.in-Some-next.ensures.1)
-            (rest_fits es c.args.made.number m c.args.entries.now first rest c.args.index.now c.take.new.self c.in-Some.ensures.cases.0 c.requires.1 c.in_ok-take.ensures.steps),
+        subst (λ z. MayTakeAll (es ++ first ∷ []) z m rest c.take.new.self) (sym c.in-Some-next.ensures.1)
+            (rest_taken es c.args.made.number m c.args.entries.now first rest c.args.index.now c.take.new.self c.in-Some.ensures.cases.0 c.requires.1 c.in_ok-take.ensures.steps),
       ),
     )
 
@@ -29,7 +30,7 @@ returns-clause-indexed t c = λ es f.
     let rest = c.in-Some.rest.now in
     let m = c.args.made.moment in
     let k = c.in-Some.ensures.cases.0 in
-    let g = subst (λ z. Fitting (es ++ first ∷ []) z m rest c.take.new.self) (sym c.in-Some-next.ensures.1) (rest_fits es c.args.made.number m c.args.entries.now first rest c.args.index.now c.take.new.self k f c.in_ok-take.ensures.steps) in
+    let g = subst (λ z. MayTakeAll (es ++ first ∷ []) z m rest c.take.new.self) (sym c.in-Some-next.ensures.1) (rest_taken es c.args.made.number m c.args.entries.now first rest c.args.index.now c.take.new.self k f c.in_ok-take.ensures.steps) in
     subst (λ l. IfOk c.take_all.result (λ x. Indexed l c.take_all.new.index)) (append_assoc es (first ∷ []) rest ∙ ap (λ l. es ++ l) (sym k))
     (c.take_all.ensures.indexed (es ++ first ∷ []) g)
 
@@ -45,7 +46,7 @@ returns-clause-answers t c = λ es f.
     let rest = c.in-Some.rest.now in
     let m = c.args.made.moment in
     let k = c.in-Some.ensures.cases.0 in
-    let g = subst (λ z. Fitting (es ++ first ∷ []) z m rest c.take.new.self) (sym c.in-Some-next.ensures.1) (rest_fits es c.args.made.number m c.args.entries.now first rest c.args.index.now c.take.new.self k f c.in_ok-take.ensures.steps) in
+    let g = subst (λ z. MayTakeAll (es ++ first ∷ []) z m rest c.take.new.self) (sym c.in-Some-next.ensures.1) (rest_taken es c.args.made.number m c.args.entries.now first rest c.args.index.now c.take.new.self k f c.in_ok-take.ensures.steps) in
     subst (λ l. IfOk c.take_all.result (λ x. c.take_all.new.outs.items ≡ l))
     ((λ i. c.in_ok-push.ensures.items i ++ answers (es ++ first ∷ []) rest)
     ∙ append_assoc c.args.outs.now.items _ (answers (es ++ first ∷ []) rest)

@@ -1,19 +1,22 @@
 use Rattle.std.proofs.Common.{◌≡◌, ◌∙◌, ap, inl, Some, [], ◌∷◌, true, cond, rules}
 use Rattle.pres_wire.specs.declared.id.Why.TheVariants as why
 use Rattle.pres_log.specs.declared.entry.Entry.TheVariants as entry
-use Rattle.pres_server.specs.Messages.{Decision, makes, quiet}
-use Rattle.pres_server.specs.Decide.{limited_by}
-use Rattle.pres_server.proofs.Checks.{refused_by, refused_as}
+use Rattle.pres_server.specs.Turns.{Decision, makes, quiet}
+use Rattle.pres_server.specs.Parts.{limited_by}
+use Rattle.pres_server.proofs.Checks.{refused_by, refused_as, live_if_said}
 use Rattle.pres_server.proofs.index.Index.bye_message.Goals as goal
 
-pub returns-in_err-is_next-clause-step : goal.returns-in_err-is_next-clause-step
-returns-in_err-is_next-clause-step c =
-    refused_by _ _ c.from_residual.result c.in_err-is_next.field-0.0 c.from_residual.ensures
-    (inl (ap (limited_by c.args.number c.args.self.now.open_count) (c.in_err-is_next.ensures (makes (entry.Ended c.args.session (Some c.args.q) why.Bye [] ∷ [])))))
+pub ending-requires-clause-open : goal.ending-requires-clause-open
+ending-requires-clause-open c = c.requires.counted c.args.session.client (live_if_said _ c.args.session c.args.q c.in_ok-is_next.field-0 c.in_ok-is_next.ensures)
 
-pub returns-in_err-ending-clause-step : goal.returns-in_err-ending-clause-step
-returns-in_err-ending-clause-step c =
+pub returns-in_err-is_next : goal.returns-in_err-is_next
+returns-in_err-is_next c =
+    refused_by _ _ c.from_residual.result c.in_err-is_next.field-0.0 c.from_residual.ensures
+    (inl (ap (limited_by c.args.now.number c.args.self.now.open_count) (c.in_err-is_next.ensures (makes (entry.Ended c.args.session (Some c.args.q) why.Bye [] ∷ [])))))
+
+pub returns-in_err-ending : goal.returns-in_err-ending
+returns-in_err-ending c =
     let end : Decision = makes (entry.Ended c.args.session (Some c.args.q) why.Bye [] ∷ []) in
     let next : c.in_ok-is_next.field-0 ≡ true = search rules in
     refused_by _ _ c.from_residual-in_err-ending.result c.in_err-ending.field-0.0 c.from_residual-in_err-ending.ensures
-    (refused_as _ _ _ end _ (c.in_ok-is_next.ensures end ∙ ap (λ b. cond b end quiet) next) c.in_err-ending.ensures.made)
+    (refused_as _ _ _ end _ (c.in_ok-is_next.ensures end ∙ ap (λ b. cond b end quiet) next) c.in_err-ending.ensures)

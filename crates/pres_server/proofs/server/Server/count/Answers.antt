@@ -1,7 +1,7 @@
 use Rattle.std.proofs.Common.{◌∙◌, ap, cond, Some, None}
 use Rattle.pres_log.specs.Logs.{entries}
 use Rattle.pres_server.specs.Sessions.{is_open, count}
-use Rattle.pres_server.specs.Turns.{State}
+use Rattle.pres_server.specs.Heard.{State}
 use Rattle.pres_server.proofs.Readers.{count_is}
 use Rattle.pres_server.proofs.Whole.{legal_is_sound}
 use Rattle.pres_server.proofs.server.Server.count.Goals as goal

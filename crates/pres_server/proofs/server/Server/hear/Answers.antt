@@ -1,8 +1,7 @@
 use Rattle.std.proofs.Common.{◌∙◌, ap, refl}
 use Rattle.pres_log.specs.Logs.{entries}
 use Rattle.pres_server.specs.declared.index.Index.{Index}
-use Rattle.pres_server.specs.Heard.{heard_again}
-use Rattle.pres_server.specs.Turns.{State}
+use Rattle.pres_server.specs.Heard.{heard_again, State}
 use Rattle.pres_server.proofs.Heard.{hears, hear_is, indexed_still}
 use Rattle.pres_server.proofs.server.Server.hear.Goals as goal
 

@@ -1,8 +1,7 @@
 use Rattle.std.proofs.Common.{◌∙◌, ap, sym, is_some}
 use Rattle.pres_log.specs.Logs.{entries}
-use Rattle.pres_server.specs.Heard.{heard_last}
+use Rattle.pres_server.specs.Heard.{heard_last, State}
 use Rattle.pres_server.specs.Sessions.{has_open}
-use Rattle.pres_server.specs.Turns.{State}
 use Rattle.pres_server.proofs.Heard.{heard_tells}
 use Rattle.pres_server.proofs.Readers.{has_open_is}
 use Rattle.pres_server.proofs.server.Server.heard.Goals as goal

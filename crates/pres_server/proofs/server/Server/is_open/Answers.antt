@@ -1,7 +1,7 @@
 use Rattle.std.proofs.Common.{◌∙◌, ap}
 use Rattle.pres_log.specs.Logs.{entries}
 use Rattle.pres_server.specs.Sessions.{is_open}
-use Rattle.pres_server.specs.Turns.{State}
+use Rattle.pres_server.specs.Heard.{State}
 use Rattle.pres_server.proofs.Readers.{open_is}
 use Rattle.pres_server.proofs.Whole.{legal_is_sound}
 use Rattle.pres_server.proofs.server.Server.is_open.Goals as goal

@@ -1,0 +1,28 @@
+-- What holds of every legal log and of every turn.
+use Rattle.std.specs.Prelude.{◌≡◌, ◌+◌, ℕ, List, [], ◌∷◌, ◌++◌, length, IsTrue}
+use Rattle.pres_wire.specs.declared.id.SessionId.{SessionId}
+use Rattle.pres_wire.specs.declared.down.Down.{Down}
+use Rattle.pres_log.specs.declared.entry.Entry.{Entry}
+use Rattle.pres_log.specs.Logs.{Log, entries}
+use Rattle.pres_server.specs.declared.input.Input.{Input}
+use Rattle.pres_server.specs.Sessions.{is_open}
+use Rattle.pres_server.specs.Streams.{stream, sent_for, numbered_from}
+use Rattle.pres_server.specs.LegalLog.{IsLegal}
+use Rattle.pres_server.specs.Turns.{moment_of, turn, log_after}
+use Rattle.pres_server.specs.Parts.{Sound}
+
+-- A turn on a legal log leaves a legal log.
+abbrev pub TurnIsLegal : Log → Input → ℕ → Type 0
+TurnIsLegal log input now = IsLegal log → IsLegal (log_after log (moment_of log now) (turn log input now))
+
+-- After a legal log a client has at most one open session, and its last one is its newest.
+abbrev pub LegalIsSound : Log → Type 0
+LegalIsSound log = IsLegal log → Sound (entries log)
+
+-- An entry adds to the stream of an open session what it sends to it, numbered on.
+abbrev pub StreamSteps : SessionId → List Entry → Entry → Type 0
+StreamSteps s es e = IsTrue (is_open s es) → stream s (es ++ e ∷ []) ≡ stream s es ++ numbered_from (length (stream s es) + 1) (sent_for s (es ++ e ∷ []) e)
+
+-- Later entries take nothing from a stream and change nothing in it.
+abbrev pub StreamGrows : SessionId → List Entry → List Entry → Type 0
+StreamGrows s es later = (rest : List Down) × (stream s es ++ rest ≡ stream s (es ++ later))
