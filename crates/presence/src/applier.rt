@@ -70,7 +70,8 @@ impl Applier {
     }
 
     fn carry_out(&mut self, op: Op, now: Moment, out: &mut Vec<u8>) -> Result<(), RunFault>
-        ensures text { OnOk result (out.new.items ≡ out.old.items ++ (carry_out self.old op now).0) }
+        ensures text { OnOk result
+            (out.new.items ≡ out.old.items ++ (carry_out self.old op now).0) }
         ensures state { OnOk result (self.new ≡ (carry_out self.old op now).1) }
         ensures err { IfErr result (EndsAt self.old.log.number) }
         ensures silent { OnErr result (out.new.items ≡ out.old.items) }
