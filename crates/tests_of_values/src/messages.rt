@@ -1,12 +1,12 @@
-//! Tests of messages: what is read and printed, and why texts are refused. Each helper holds one
-//! message at most.
+//! Tests of messages: what is read and printed, and why texts are refused. A table is a text of
+//! lines, each a case and what it must answer. Each helper holds one message at most.
 
-use pres_tree::{Scalar, Tree, TreeFault};
+use pres_tree::{Scalar, Tree};
 use pres_wire::{
     ClientId, Code, Count, Down, Field, IdFault, MAX_TEXT_BYTES, Number, SessionId, Stamp, Up, Why,
     WireFault,
 };
-use pres_write::{Kept, MAX_SAFE_INTEGER, WriteFault};
+use pres_write::{Kept, MAX_SAFE_INTEGER};
 use serde_json::Value;
 use std::alloc::Global;
 use std::test::Fail;
@@ -63,15 +63,6 @@ fn id_answer(alloc: Global, text: &str) -> Result<String, Fail> {
     }
 }
 
-#[test]
-fn ids_are_plain_words(rt: HostRuntime) -> Result<(), Fail> {
-    for (text, wanted) in [("a-Z_09", "a-Z_09"), ("a!", "refused"), ("", "refused")] {
-        let said = id_answer(rt.alloc(), text)?;
-        assert_eq!(rt; said.as_str(), wanted, "at {text}");
-    }
-    Ok(())
-}
-
 fn second_of(alloc: Global, first: &SessionId) -> Result<SessionId, Fail> {
     Ok(SessionId::of(first.client.copy(alloc)?, stamp(2, 1)))
 }
@@ -111,21 +102,6 @@ fn session_answer(alloc: Global, text: &str) -> Result<String, Fail> {
     }
 }
 
-#[test]
-fn sessions_are_read_and_printed(rt: HostRuntime) -> Result<(), Fail> {
-    for (text, wanted) in [
-        (r#"[ "alice", 1, 2 ]"#, r#"["alice",1,2] [1,2]"#),
-        (r#"["alice",1]"#, "none"),
-        (r#"["alice",0,1]"#, "none"),
-        (r#"["",1,1]"#, "none"),
-        (r#"{"client":"alice"}"#, "none"),
-    ] {
-        let said = session_answer(rt.alloc(), text)?;
-        assert_eq!(rt; said.as_str(), wanted, "at {text}");
-    }
-    Ok(())
-}
-
 // ---- messages to the server
 
 fn copied_text(alloc: Global, message: &Up) -> Result<String, Fail> {
@@ -133,259 +109,209 @@ fn copied_text(alloc: Global, message: &Up) -> Result<String, Fail> {
     Ok(copied.encode(alloc)?)
 }
 
-// The text that the message of a text is printed as.
-fn read_and_printed(alloc: Global, text: &str) -> Result<String, Fail> {
+// The text that the message of a text is printed as, or `same`.
+fn message_answer(alloc: Global, text: &str) -> Result<String, Fail> {
     let message = Up::decode(alloc, text)?;
-    copied_text(alloc, &message)
-}
-
-#[test]
-fn messages_are_read_and_printed(rt: HostRuntime) -> Result<(), Fail> {
-    for (text, printed) in [
-        (
-            r#"{"m":"hello","s":["alice",1,1]}"#,
-            r#"{"m":"hello","s":["alice",1,1]}"#,
-        ),
-        (
-            r#" {"s":["a",9007199254740991,2],"q":9007199254740991,"m":"bye","more":{"q":0}} "#,
-            r#"{"m":"bye","q":9007199254740991,"s":["a",9007199254740991,2]}"#,
-        ),
-    ] {
-        let again = read_and_printed(rt.alloc(), text)?;
-        assert_eq!(rt; again.as_str(), printed);
+    let printed = copied_text(alloc, &message)?;
+    if printed.as_str() == text {
+        return Ok(String::from_str(alloc, "same")?);
     }
-    Ok(())
+    Ok(printed)
 }
 
-// The text of the client's write 1.
-fn op_text(alloc: Global, client: &str, q: u64, op: &str) -> Result<String, Fail> {
-    Ok(format!(in alloc; r#"{{"m":"op","n":1,"op":{op},"q":{q},"s":["{client}",1,1]}}"#)?)
-}
-
-#[test]
-fn writes_are_read_and_printed(rt: HostRuntime) -> Result<(), Fail> {
-    for (q, op) in [
-        (1, r#"{"op":"set","path":"/a","value":1}"#),
-        (
-            1,
-            r#"{"op":"update","path":"/","values":{"last":{".sv":"timestamp"},"online":null}}"#,
-        ),
-        (2, r#"{"expect":0,"op":"tx","path":"/n","value":1}"#),
-    ] {
-        let text = op_text(rt.alloc(), "alice", q, op)?;
-        let again = read_and_printed(rt.alloc(), text.as_str())?;
-        assert_eq!(rt; again.as_str(), text.as_str());
-    }
-    Ok(())
+// The text of the client's write 1, of a case such as `2 OPERATION`.
+fn write_text(alloc: Global, case: &str) -> Result<String, Fail> {
+    let (q, op) = case.split_once(' ').ok_or("no operation")?;
+    Ok(format!(in alloc; r#"{{"m":"op","n":1,"op":{op},"q":{q},"s":["alice",1,1]}}"#)?)
 }
 
 fn fault_of(alloc: Global, text: &str) -> Result<WireFault, Fail> {
     Ok(Up::decode(alloc, text).err().ok_or("accepted")?)
 }
 
+// The number and the name of a text's refusal, and the refusal.
+fn refusal(alloc: Global, text: &str) -> Result<String, Fail> {
+    let fault = fault_of(alloc, text)?;
+    Ok(format!(in alloc; "{} {} {fault:?}", fault.number(), fault.name())?)
+}
+
+// The message with each value in the place of `_`: its refusal, where another one follows.
+fn field_refusals(alloc: Global, message: &str, values: &str) -> Result<String, Fail> {
+    let (before, after) = message.split_once('_').ok_or("no place")?;
+    let mut last = String::new(alloc);
+    let mut all = String::new(alloc);
+    for value in values.split(" ; ") {
+        let text = format!(in alloc; "{before}{value}{after}")?;
+        let said = refusal(alloc, text.as_str())?;
+        if said != last {
+            all.push_str(said.as_str())?;
+        }
+        last = said;
+    }
+    Ok(all)
+}
+
+fn fields_answer(alloc: Global, case: &str) -> Result<String, Fail> {
+    let (message, values) = case.split_once(" with ").ok_or("no values")?;
+    field_refusals(alloc, message, values)
+}
+
+// What a line of a table is about.
+#[derive(Clone, Copy)]
+enum Table {
+    Ids,
+    Sessions,
+    Messages,
+    Writes,
+    Refusals,
+    RefusedWrites,
+    Fields,
+}
+
+fn answer(alloc: Global, table: Table, case: &str) -> Result<String, Fail> {
+    match table {
+        Table::Ids => id_answer(alloc, case),
+        Table::Sessions => session_answer(alloc, case),
+        Table::Messages => message_answer(alloc, case),
+        Table::Writes => message_answer(alloc, write_text(alloc, case)?.as_str()),
+        Table::Refusals => refusal(alloc, case),
+        Table::RefusedWrites => refusal(alloc, write_text(alloc, case)?.as_str()),
+        Table::Fields => fields_answer(alloc, case),
+    }
+}
+
+// Notes the line where something else is answered.
+fn try_line(alloc: Global, table: Table, line: &str, wrong: &mut String) -> Result<(), Fail> {
+    let (case, wanted) = line.split_once(" => ").ok_or("no answer")?;
+    let said = answer(alloc, table, case)?;
+    if said.as_str() != wanted {
+        wrong.push_str(case)?;
+        wrong.push_str(" => ")?;
+        wrong.push_str(said.as_str())?;
+        wrong.push_str("\n")?;
+    }
+    Ok(())
+}
+
+// The lines that answer something else, each with that.
+fn wrong_in(alloc: Global, table: Table, lines: &str) -> Result<String, Fail> {
+    let mut wrong = String::new(alloc);
+    for line in lines.lines() {
+        try_line(alloc, table, line, &mut wrong)?;
+    }
+    Ok(wrong)
+}
+
+const IDS: &str = "a-Z_09 => a-Z_09
+a! => refused
+ => refused";
+
+const SESSIONS: &str = r#"[ "alice", 1, 2 ] => ["alice",1,2] [1,2]
+["alice",1] => none
+["alice",0,1] => none
+["",1,1] => none
+{"client":"alice"} => none"#;
+
+const MESSAGES: &str = r#"{"m":"hello","s":["alice",1,1]} => same"#;
+
+const WRITES: &str = r#"1 {"op":"set","path":"/a","value":1} => same
+1 {"op":"update","path":"/","values":{"last":{".sv":"timestamp"},"online":null}} => same
+2 {"expect":0,"op":"tx","path":"/n","value":1} => same"#;
+
+const REFUSALS: &str = r#" => 2 NotJson NotJson
+{"m":"beat" => 2 NotJson NotJson
+[] => 4 NoSuchMessage NoSuchMessage
+{} => 4 NoSuchMessage NoSuchMessage
+{"m":"hi"} => 4 NoSuchMessage NoSuchMessage
+{"m":1} => 4 NoSuchMessage NoSuchMessage
+{"m":"hello"} => 5 Field Field(Session)
+{"m":"hello","s":["a!",1,1]} => 5 Field Field(Session)
+{"m":"hello","s":["a",0,1]} => 5 Field Field(Session)
+{"m":"bye","q":0,"s":["a",1,1]} => 5 Field Field(Q)
+{"m":"op","q":1,"n":1} => 5 Field Field(Session)
+{"m":"op","s":["a",1,1],"n":1} => 5 Field Field(Q)
+{"m":"op","s":["a",1,1],"q":1} => 5 Field Field(N)
+{"m":"op","s":["a",1,1],"q":1,"n":1} => 5 Field Field(Op)
+{"m":"op","s":["a",1,1],"q":1,"n":1,"op":null} => 6 Write Write(Shape)
+{"m":"bye","q":1} => 5 Field Field(Session)
+{"m":"bye","s":["a",1,1]} => 5 Field Field(Q)"#;
+
+const REFUSED_WRITES: &str =
+    r#"1 {"op":"set","path":"/a.b","value":1} => 6 Write Write(Tree(BadKey))
+1 {"op":"update","path":"/","values":{"a":2,"a/b":1}} => 6 Write Write(Overlap)"#;
+
+const HELLO_SESSIONS: &str =
+    r#"{"m":"hello","s":_} with null ; {"s":1} ; ["a",1] => 5 Field Field(Session)
+{"m":"hello","s":_} with ["a",1,1,1] ; [1,1,1] ; ["",1,1] => 5 Field Field(Session)
+{"m":"hello","s":_} with ["a",9007199254740992,1] ; ["a",1,"1"] => 5 Field Field(Session)"#;
+
+const OP_SESSIONS: &str =
+    r#"{"m":"op","q":0,"s":_} with null ; "a" ; [] ; ["a",1,0] => 5 Field Field(Session)
+{"m":"op","q":0,"s":_} with ["a",1.0,1] ; ["a",1,9007199254740992] => 5 Field Field(Session)
+{"m":"op","q":0,"s":_} with ["a b",1,1] ; [null,1,1] => 5 Field Field(Session)"#;
+
+const BYE_SESSIONS: &str =
+    r#"{"m":"bye","q":1,"s":_} with null ; true ; ["a"] => 5 Field Field(Session)
+{"m":"bye","q":1,"s":_} with ["a",0,1] ; ["a",1,-1] => 5 Field Field(Session)
+{"m":"bye","q":1,"s":_} with ["a",1,18446744073709551616] => 5 Field Field(Session)
+{"m":"bye","q":1,"s":_} with ["ä",1,1] ; [["a"],1,1] => 5 Field Field(Session)"#;
+
+const NUMBERS: &str = r#"{"m":"op","s":["a",1,1],"q":_} with null ; 0 ; 1.0 ; -1 => 5 Field Field(Q)
+{"m":"op","s":["a",1,1],"q":_} with 9007199254740992 ; "1" ; [1] ; true => 5 Field Field(Q)
+{"m":"op","op":{},"q":1,"s":["a",1,1],"n":_} with null ; 0 ; 1e2 ; -1 => 5 Field Field(N)
+{"m":"op","op":{},"q":1,"s":["a",1,1],"n":_} with 9007199254740992 => 5 Field Field(N)
+{"m":"op","op":{},"q":1,"s":["a",1,1],"n":_} with "1" ; {} ; false => 5 Field Field(N)
+{"m":"bye","s":["a",1,1],"q":_} with null ; 0 ; -0 ; "1" ; [] ; true => 5 Field Field(Q)
+{"m":"bye","s":["a",1,1],"q":_} with 9007199254740992 => 5 Field Field(Q)
+{"m":"bye","s":["a",1,1],"q":_} with 18446744073709551616 => 5 Field Field(Q)"#;
+
+#[test]
+fn ids_are_plain_words(rt: HostRuntime) -> Result<(), Fail> {
+    let wrong = wrong_in(rt.alloc(), Table::Ids, IDS)?;
+    assert_eq!(rt; wrong.as_str(), "");
+    Ok(())
+}
+
+#[test]
+fn sessions_are_read_and_printed(rt: HostRuntime) -> Result<(), Fail> {
+    let wrong = wrong_in(rt.alloc(), Table::Sessions, SESSIONS)?;
+    assert_eq!(rt; wrong.as_str(), "");
+    Ok(())
+}
+
+#[test]
+fn messages_are_read_and_printed(rt: HostRuntime) -> Result<(), Fail> {
+    let wrong = wrong_in(rt.alloc(), Table::Messages, MESSAGES)?;
+    assert_eq!(rt; wrong.as_str(), "");
+    let wrong = wrong_in(rt.alloc(), Table::Writes, WRITES)?;
+    assert_eq!(rt; wrong.as_str(), "");
+    let bye = message_answer(
+        rt.alloc(),
+        r#" {"s":["a",9007199254740991,2],"q":9007199254740991,"m":"bye","more":{"q":0}} "#,
+    )?;
+    assert_eq!(rt;
+        bye.as_str(),
+        r#"{"m":"bye","q":9007199254740991,"s":["a",9007199254740991,2]}"#
+    );
+    Ok(())
+}
+
 #[test]
 fn texts_are_refused(rt: HostRuntime) -> Result<(), Fail> {
-    for (text, fault, number, name) in [
-        ("", WireFault::NotJson, 2, "NotJson"),
-        (r#"{"m":"beat""#, WireFault::NotJson, 2, "NotJson"),
-        ("[]", WireFault::NoSuchMessage, 4, "NoSuchMessage"),
-        ("{}", WireFault::NoSuchMessage, 4, "NoSuchMessage"),
-        (
-            r#"{"m":"hi"}"#,
-            WireFault::NoSuchMessage,
-            4,
-            "NoSuchMessage",
-        ),
-        (r#"{"m":1}"#, WireFault::NoSuchMessage, 4, "NoSuchMessage"),
-        (
-            r#"{"m":"hello"}"#,
-            WireFault::Field(Field::Session),
-            5,
-            "Field",
-        ),
-        (
-            r#"{"m":"hello","s":["a!",1,1]}"#,
-            WireFault::Field(Field::Session),
-            5,
-            "Field",
-        ),
-        (
-            r#"{"m":"hello","s":["a",0,1]}"#,
-            WireFault::Field(Field::Session),
-            5,
-            "Field",
-        ),
-        (
-            r#"{"m":"bye","q":0,"s":["a",1,1]}"#,
-            WireFault::Field(Field::Q),
-            5,
-            "Field",
-        ),
-    ] {
-        let refused = fault_of(rt.alloc(), text)?;
-        assert_eq!(rt; refused, fault, "at {text}");
-        assert_eq!(rt; refused.number(), number, "at {text}");
-        assert_eq!(rt; refused.name(), name, "at {text}");
-    }
-    let told = format!(in rt.alloc(); "{}", WireFault::Field(Field::N))?;
+    let wrong = wrong_in(rt.alloc(), Table::Refusals, REFUSALS)?;
+    assert_eq!(rt; wrong.as_str(), "");
+    let wrong = wrong_in(rt.alloc(), Table::RefusedWrites, REFUSED_WRITES)?;
+    assert_eq!(rt; wrong.as_str(), "");
+    let told = WireFault::Field(Field::N).to_string(rt.alloc())?;
     assert_eq!(rt; told.as_str(), "the field n is missing or wrong");
     Ok(())
 }
 
 #[test]
-fn writes_are_refused(rt: HostRuntime) -> Result<(), Fail> {
-    for (op, fault) in [
-        (
-            r#"{"op":"set","path":"/a.b","value":1}"#,
-            WriteFault::Tree(TreeFault::BadKey),
-        ),
-        (
-            r#"{"op":"update","path":"/","values":{"a":2,"a/b":1}}"#,
-            WriteFault::Overlap,
-        ),
-    ] {
-        let text = op_text(rt.alloc(), "a", 1, op)?;
-        let refused = fault_of(rt.alloc(), text.as_str())?;
-        assert_eq!(rt; refused, WireFault::Write(fault), "at {op}");
-        assert_eq!(rt; refused.number(), 6, "at {op}");
-        assert_eq!(rt; refused.name(), "Write", "at {op}");
-    }
-    Ok(())
-}
-
-// The message with the value in the place of its field's value.
-fn with_field(alloc: Global, parts: [&str; 2], value: &str) -> Result<String, Fail> {
-    let [before, after] = parts;
-    Ok(format!(in alloc; "{before}{value}{after}")?)
-}
-
-#[test]
 fn fields_are_checked(rt: HostRuntime) -> Result<(), Fail> {
-    let alloc = rt.alloc();
-    for (field, parts, values) in [
-        (
-            Field::Session,
-            [r#"{"m":"hello","s":"#, "}"],
-            [
-                "null",
-                r#"{"s":1}"#,
-                r#"["a",1]"#,
-                r#"["a",1,1,1]"#,
-                r#"[1,1,1]"#,
-                r#"["",1,1]"#,
-                r#"["a",9007199254740992,1]"#,
-                r#"["a",1,"1"]"#,
-            ],
-        ),
-        (
-            Field::Session,
-            [r#"{"m":"op","q":0,"s":"#, "}"],
-            [
-                "null",
-                r#""a""#,
-                r#"[]"#,
-                r#"["a",1,0]"#,
-                r#"["a",1.0,1]"#,
-                r#"["a",1,9007199254740992]"#,
-                r#"["a b",1,1]"#,
-                r#"[null,1,1]"#,
-            ],
-        ),
-        (
-            Field::Session,
-            [r#"{"m":"bye","q":1,"s":"#, "}"],
-            [
-                "null",
-                "true",
-                r#"["a"]"#,
-                r#"["a",0,1]"#,
-                r#"["a",1,-1]"#,
-                r#"["a",1,18446744073709551616]"#,
-                r#"["ä",1,1]"#,
-                r#"[["a"],1,1]"#,
-            ],
-        ),
-        (
-            Field::Q,
-            [r#"{"m":"op","s":["a",1,1],"q":"#, "}"],
-            [
-                "null",
-                "0",
-                "9007199254740992",
-                "1.0",
-                "-1",
-                r#""1""#,
-                "[1]",
-                "true",
-            ],
-        ),
-        (
-            Field::N,
-            [r#"{"m":"op","op":{},"q":1,"s":["a",1,1],"n":"#, "}"],
-            [
-                "null",
-                "0",
-                "9007199254740992",
-                "1e2",
-                "-1",
-                r#""1""#,
-                "{}",
-                "false",
-            ],
-        ),
-        (
-            Field::Q,
-            [r#"{"m":"bye","s":["a",1,1],"q":"#, "}"],
-            [
-                "null",
-                "0",
-                "9007199254740992",
-                "18446744073709551616",
-                "-0",
-                r#""1""#,
-                "[]",
-                "true",
-            ],
-        ),
-    ] {
-        for value in values {
-            let text = with_field(alloc, parts, value)?;
-            let fault = fault_of(alloc, text.as_str())?;
-            assert_eq!(rt; fault, WireFault::Field(field), "at {text}");
-        }
-    }
-    Ok(())
-}
-
-#[test]
-fn missing_fields_are_named(rt: HostRuntime) -> Result<(), Fail> {
-    let alloc = rt.alloc();
-    for (text, fault) in [
-        (
-            r#"{"m":"op","q":1,"n":1}"#,
-            WireFault::Field(Field::Session),
-        ),
-        (
-            r#"{"m":"op","s":["a",1,1],"n":1}"#,
-            WireFault::Field(Field::Q),
-        ),
-        (
-            r#"{"m":"op","s":["a",1,1],"q":1}"#,
-            WireFault::Field(Field::N),
-        ),
-        (
-            r#"{"m":"op","s":["a",1,1],"q":1,"n":1}"#,
-            WireFault::Field(Field::Op),
-        ),
-        (
-            r#"{"m":"op","s":["a",1,1],"q":1,"n":1,"op":null}"#,
-            WireFault::Write(WriteFault::Shape),
-        ),
-        (r#"{"m":"bye","q":1}"#, WireFault::Field(Field::Session)),
-        (r#"{"m":"bye","s":["a",1,1]}"#, WireFault::Field(Field::Q)),
-    ] {
-        let refused = fault_of(alloc, text)?;
-        assert_eq!(rt; refused, fault, "at {text}");
+    for lines in [HELLO_SESSIONS, OP_SESSIONS, BYE_SESSIONS, NUMBERS] {
+        let wrong = wrong_in(rt.alloc(), Table::Fields, lines)?;
+        assert_eq!(rt; wrong.as_str(), "");
     }
     Ok(())
 }
