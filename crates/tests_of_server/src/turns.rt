@@ -6,7 +6,7 @@
 
 use pres_server::{
     Batch, Busy, ClientId, Count, Down, Entry, Fault, Input, Log, Moment, Number, Outcome, Path,
-    Server, SessionId, Turn, Up,
+    Row, Server, SessionId, Turn, Up, Why,
 };
 use std::alloc::{AllocError, Global};
 use std::test::Fail;
@@ -57,10 +57,15 @@ fn fault_text(alloc: Global, fault: Fault) -> Result<String, Fail> {
     Ok(format!(in alloc; "fault {code} [{incarnation},{attempt}]")?)
 }
 
+// The server with a text, where it was made.
+fn with(server: Server, text: Result<String, Fail>) -> Result<(Server, String), Fail> {
+    Ok((server, text?))
+}
+
 // The server after the commit, and what it answers.
 fn done(alloc: Global, busy: Busy) -> Result<(Server, String), Fail> {
     let (server, answers) = busy.done()?;
-    Ok((server, texts(alloc, answers.as_slice())?))
+    with(server, texts(alloc, answers.as_slice()))
 }
 
 // `quiet` and the answers.
@@ -75,8 +80,8 @@ fn turn(alloc: Global, server: Server, case: &str) -> Result<(Server, String), F
     let (input, now) = given(alloc, case)?;
     match server.prepare(input, now) {
         Ok(Turn::Busy(busy)) => done(alloc, busy),
-        Ok(Turn::Quiet(server, answers)) => Ok((server, quiet(alloc, answers.as_slice())?)),
-        Err((fault, server)) => Ok((server, fault_text(alloc, fault)?)),
+        Ok(Turn::Quiet(server, answers)) => with(server, quiet(alloc, answers.as_slice())),
+        Err((fault, server)) => with(server, fault_text(alloc, fault)),
     }
 }
 
@@ -90,68 +95,75 @@ fn given_back(alloc: Global, server: Server, case: &str) -> Result<Server, Fail>
     }
 }
 
-// A session as `["alice",1,1]`.
-fn name(alloc: Global, session: &SessionId) -> Result<String, Fail> {
-    let client = session.client.text();
-    let stamp = session.stamp();
-    let (incarnation, attempt) = (stamp.incarnation.get(), stamp.attempt.get());
-    Ok(format!(in alloc; r#"["{client}",{incarnation},{attempt}]"#)?)
-}
-
 // What an operation came to.
-fn outcome_text(outcome: &Outcome) -> &'static str {
+fn outcome_word(outcome: &Outcome) -> &'static str {
     match outcome {
         Outcome::Wrote(_) => "wrote",
         Outcome::Stale(_) => "stale",
     }
 }
 
-// What an entry says beside its session.
-fn entry_facts(alloc: Global, entry: &Entry) -> Result<String, AllocError> {
-    match entry {
-        Entry::Open { .. } => Ok(String::new(alloc)),
-        Entry::Op { q, n, outcome, .. } => {
-            let (q, n, out) = (q.get(), n.get(), outcome_text(outcome));
-            format!(in alloc; " q {q} n {n} {out}")
-        }
-        Entry::Again { q, n, .. } => {
-            let (q, n) = (q.get(), n.get());
-            format!(in alloc; " q {q} n {n}")
-        }
-        Entry::Ended { q, why, .. } => {
-            let q = q.map(Number::get);
-            format!(in alloc; " q {q:?} {why:?}")
-        }
+// Why a session ended.
+fn why_word(why: Why) -> &'static str {
+    match why {
+        Why::Bye => "Bye",
+        Why::Lost => "Lost",
+        Why::Slow => "Slow",
+        Why::Restart => "Restart",
+        Why::Lease => "Lease",
+        Why::Superseded => "Superseded",
     }
 }
 
-// The kind of an entry, and its session.
-fn entry_kind(entry: &Entry) -> (&'static str, &SessionId) {
+// An entry as plain data: its kind, its session, its q and n, and how it came out.
+fn entry_parts(
+    entry: &Entry,
+) -> (
+    &'static str,
+    &SessionId,
+    Option<Number>,
+    Option<Number>,
+    &'static str,
+) {
     match entry {
-        Entry::Open { session } => ("open", session),
-        Entry::Op { session, .. } => ("op", session),
-        Entry::Again { session, .. } => ("again", session),
-        Entry::Ended { session, .. } => ("ended", session),
+        Entry::Open { session } => ("open", session, None, None, "opened"),
+        Entry::Op {
+            session,
+            q,
+            n,
+            outcome,
+            ..
+        } => ("op", session, Some(*q), Some(*n), outcome_word(outcome)),
+        Entry::Again { session, q, n } => ("again", session, Some(*q), Some(*n), "answered"),
+        Entry::Ended {
+            session,
+            q,
+            why,
+            ..
+        } => ("ended", session, *q, None, why_word(*why)),
     }
 }
 
-// An entry in words.
-fn entry_text(alloc: Global, entry: &Entry) -> Result<String, Fail> {
-    let (kind, session) = entry_kind(entry);
-    let name = name(alloc, session)?;
-    let facts = entry_facts(alloc, entry)?;
-    Ok(format!(in alloc; "{kind} {name}{facts}")?)
+// An entry in words, behind its number.
+fn entry_text(alloc: Global, number: u64, entry: &Entry) -> Result<String, AllocError> {
+    let (kind, session, q, n, word) = entry_parts(entry);
+    let client = session.client.text();
+    let stamp = session.stamp();
+    let (incarnation, attempt) = (stamp.incarnation.get(), stamp.attempt.get());
+    let (q, n) = (q.map(Number::get), n.map(Number::get));
+    format!(in alloc;
+        r#"{number} {kind} ["{client}",{incarnation},{attempt}] q {q:?} n {n:?} {word}"#
+    )
 }
 
-// The entries of a batch in words, each with its number.
-fn batch_text(alloc: Global, batch: &Batch) -> Result<String, Fail> {
+// The entries of a batch in words.
+fn batch_text(alloc: Global, batch: &Batch) -> Result<String, AllocError> {
     let mut text = String::new(alloc);
     for (number, entry) in (batch.first().get()..).zip(batch.entries()) {
         if !text.is_empty() {
             text.push_str(", ")?;
         }
-        let entry = entry_text(alloc, entry)?;
-        text.push_str(format!(in alloc; "{number} {entry}")?.as_str())?;
+        text.push_str(entry_text(alloc, number, entry)?.as_str())?;
     }
     Ok(text)
 }
@@ -187,15 +199,20 @@ fn value(alloc: Global, server: &Server, path: &str) -> Result<String, Fail> {
     Ok(value.to_string(alloc)?)
 }
 
+// The numbers at which writes were done.
+fn numbers(alloc: Global, rows: &[Row]) -> Result<String, Fail> {
+    let mut numbers = Vec::new(alloc);
+    for row in rows {
+        numbers.push(row.done.get())?;
+    }
+    Ok(format!(in alloc; "{numbers:?}")?)
+}
+
 // The numbers at which the client's writes were done.
 fn history(alloc: Global, server: &Server, client: &str) -> Result<String, Fail> {
     let client = ClientId::parse(alloc, client)?;
     let rows = server.history_of(&client)?;
-    let mut numbers = Vec::new(alloc);
-    for row in &rows {
-        numbers.push(row.done.get())?;
-    }
-    Ok(format!(in alloc; "{numbers:?}")?)
+    numbers(alloc, rows.as_slice())
 }
 
 // When alice was heard of last, in milliseconds.
@@ -235,8 +252,8 @@ fn answer(alloc: Global, server: &Server, question: &str) -> Result<String, Fail
 
 // The server after a question, and the answer.
 fn asked(alloc: Global, server: Server, question: &str) -> Result<(Server, String), Fail> {
-    let text = answer(alloc, &server, question)?;
-    Ok((server, text))
+    let text = answer(alloc, &server, question);
+    with(server, text)
 }
 
 // The server after a turn, and what is seen of it.
@@ -264,8 +281,7 @@ fn step(alloc: Global, server: Server, case: &str) -> Result<(Server, String), F
 }
 
 // What is wrong, with a step that says something else than is wanted.
-fn noted(wrong: String, case: &str, said: String, wanted: &str) -> Result<String, AllocError> {
-    let mut wrong = wrong;
+fn noted(mut wrong: String, case: &str, said: String, wanted: &str) -> Result<String, Fail> {
     if said.as_str() != wanted {
         wrong.push_str(case)?;
         wrong.push_str("\n=> ")?;
@@ -284,7 +300,7 @@ fn tried(
 ) -> Result<(Server, String), Fail> {
     let (case, wanted) = text.split_once("\n=> ").unwrap_or((text, "an answer"));
     let (server, said) = step(alloc, server, case)?;
-    Ok((server, noted(wrong, case, said, wanted)?))
+    with(server, noted(wrong, case, said, wanted))
 }
 
 // The steps of the run that say something else than they must, each with that.
@@ -313,9 +329,9 @@ const SUPERSEDED: &str = r#"1000 {"m":"hello","s":["alice",1,1]}
 => {"done":4,"m":"reply","n":1,"out":"wrote","q":1,"r":1,"s":["alice",1,2],"z":4}
 
 log
-=> 1 open ["alice",1,1]
-2 ended ["alice",1,1] q None Superseded, 3 open ["alice",1,2]
-4 op ["alice",1,2] q 1 n 1 wrote"#;
+=> 1 open ["alice",1,1] q None n None opened
+2 ended ["alice",1,1] q None n None Superseded, 3 open ["alice",1,2] q None n None opened
+4 op ["alice",1,2] q Some(1) n Some(1) wrote"#;
 
 const SENT_AGAIN: &str = r#"1000 {"m":"hello","s":["alice",1,1]}
 => {"m":"welcome","ops":0,"s":["alice",1,1],"z":1}
@@ -333,11 +349,11 @@ const SENT_AGAIN: &str = r#"1000 {"m":"hello","s":["alice",1,1]}
 => {"done":2,"m":"reply","n":1,"out":"wrote","q":1,"r":1,"s":["alice",1,2],"z":5}
 
 log
-=> 1 open ["alice",1,1]
-2 op ["alice",1,1] q 1 n 1 wrote
-3 ended ["alice",1,1] q None Lost
-4 open ["alice",1,2]
-5 again ["alice",1,2] q 1 n 1
+=> 1 open ["alice",1,1] q None n None opened
+2 op ["alice",1,1] q Some(1) n Some(1) wrote
+3 ended ["alice",1,1] q None n None Lost
+4 open ["alice",1,2] q None n None opened
+5 again ["alice",1,2] q Some(1) n Some(1) answered
 
 history alice
 => [2]"#;
@@ -374,9 +390,9 @@ const ORDER: &str = r#"1000 {"m":"hello","s":["alice",1,1]}
 => {"m":"gone","r":2,"s":["alice",1,1],"why":"bye","z":3}
 
 log
-=> 1 open ["alice",1,1]
-2 op ["alice",1,1] q 1 n 1 wrote
-3 ended ["alice",1,1] q Some(2) Bye"#;
+=> 1 open ["alice",1,1] q None n None opened
+2 op ["alice",1,1] q Some(1) n Some(1) wrote
+3 ended ["alice",1,1] q Some(2) n None Bye"#;
 
 const ABANDONED: &str = r#"1000 {"m":"hello","s":["alice",1,1]}
 => {"m":"welcome","ops":0,"s":["alice",1,1],"z":1}
@@ -512,8 +528,8 @@ fn end(alloc: Global, line: &str, why: &str, name: &str) -> Result<String, Alloc
 => quiet
 
 log
-=> 1 open ["alice",1,1]
-2 ended ["alice",1,1] q None {name}"#
+=> 1 open ["alice",1,1] q None n None opened
+2 ended ["alice",1,1] q None n None {name}"#
     )
 }
 
@@ -537,45 +553,49 @@ fn openings(alloc: Global, clients: u64) -> Result<String, Fail> {
     Ok(run)
 }
 
-#[test]
-fn a_superseded_session(rt: HostRuntime) -> Result<(), Fail> {
-    let wrong = wrong_in(rt.alloc(), SUPERSEDED)?;
-    assert_eq!(rt; wrong.as_str(), "");
-    Ok(())
-}
-
-#[test]
-fn a_lost_reply_and_the_write_sent_again(rt: HostRuntime) -> Result<(), Fail> {
-    let wrong = wrong_in(rt.alloc(), SENT_AGAIN)?;
-    assert_eq!(rt; wrong.as_str(), "");
-    Ok(())
-}
-
-#[test]
-fn old_stamps(rt: HostRuntime) -> Result<(), Fail> {
-    let wrong = wrong_in(rt.alloc(), OLD_STAMPS)?;
-    assert_eq!(rt; wrong.as_str(), "");
-    Ok(())
-}
-
-#[test]
-fn the_order_of_messages(rt: HostRuntime) -> Result<(), Fail> {
-    let wrong = wrong_in(rt.alloc(), ORDER)?;
-    assert_eq!(rt; wrong.as_str(), "");
-    Ok(())
-}
-
-#[test]
-fn ends_of_open_sessions(rt: HostRuntime) -> Result<(), Fail> {
-    for (line, why, name) in [
-        (r#"lost ["alice",1,1]"#, "lost", "Lost"),
-        (r#"slow ["alice",1,1]"#, "slow", "Slow"),
-        ("restart alice", "restart", "Restart"),
-    ] {
-        let run = end(rt.alloc(), line, why, name)?;
-        let wrong = wrong_in(rt.alloc(), run.as_str())?;
-        assert_eq!(rt; wrong.as_str(), "");
+// What is wrong in the runs.
+fn wrong_in_all(alloc: Global, runs: &[&str]) -> Result<String, Fail> {
+    let mut wrong = String::new(alloc);
+    for run in runs {
+        wrong.push_str(wrong_in(alloc, run)?.as_str())?;
     }
+    Ok(wrong)
+}
+
+// What is wrong in a run in which alice's session ends for this reason.
+fn wrong_in_end(alloc: Global, line: &str, why: &str, name: &str) -> Result<String, Fail> {
+    let run = end(alloc, line, why, name)?;
+    wrong_in(alloc, run.as_str())
+}
+
+#[test]
+fn runs_say_what_they_must(rt: HostRuntime) -> Result<(), Fail> {
+    let runs = [
+        SUPERSEDED, SENT_AGAIN, OLD_STAMPS, ORDER, ABANDONED, HEARD, MOMENTS, STALE,
+    ];
+    let wrong = wrong_in_all(rt.alloc(), &runs)?;
+    assert_eq!(rt; wrong.as_str(), "");
+    Ok(())
+}
+
+#[test]
+fn a_lost_session_ends(rt: HostRuntime) -> Result<(), Fail> {
+    let wrong = wrong_in_end(rt.alloc(), r#"lost ["alice",1,1]"#, "lost", "Lost")?;
+    assert_eq!(rt; wrong.as_str(), "");
+    Ok(())
+}
+
+#[test]
+fn a_slow_session_ends(rt: HostRuntime) -> Result<(), Fail> {
+    let wrong = wrong_in_end(rt.alloc(), r#"slow ["alice",1,1]"#, "slow", "Slow")?;
+    assert_eq!(rt; wrong.as_str(), "");
+    Ok(())
+}
+
+#[test]
+fn a_restart_ends_the_session(rt: HostRuntime) -> Result<(), Fail> {
+    let wrong = wrong_in_end(rt.alloc(), "restart alice", "restart", "Restart")?;
+    assert_eq!(rt; wrong.as_str(), "");
     Ok(())
 }
 
@@ -583,34 +603,6 @@ fn ends_of_open_sessions(rt: HostRuntime) -> Result<(), Fail> {
 fn so_many_sessions_may_be_open(rt: HostRuntime) -> Result<(), Fail> {
     let run = openings(rt.alloc(), 1024)?;
     let wrong = wrong_in(rt.alloc(), run.as_str())?;
-    assert_eq!(rt; wrong.as_str(), "");
-    Ok(())
-}
-
-#[test]
-fn a_refused_commit(rt: HostRuntime) -> Result<(), Fail> {
-    let wrong = wrong_in(rt.alloc(), ABANDONED)?;
-    assert_eq!(rt; wrong.as_str(), "");
-    Ok(())
-}
-
-#[test]
-fn when_a_client_was_heard_of(rt: HostRuntime) -> Result<(), Fail> {
-    let wrong = wrong_in(rt.alloc(), HEARD)?;
-    assert_eq!(rt; wrong.as_str(), "");
-    Ok(())
-}
-
-#[test]
-fn moments_and_values(rt: HostRuntime) -> Result<(), Fail> {
-    let wrong = wrong_in(rt.alloc(), MOMENTS)?;
-    assert_eq!(rt; wrong.as_str(), "");
-    Ok(())
-}
-
-#[test]
-fn a_stale_transaction(rt: HostRuntime) -> Result<(), Fail> {
-    let wrong = wrong_in(rt.alloc(), STALE)?;
     assert_eq!(rt; wrong.as_str(), "");
     Ok(())
 }
