@@ -2,6 +2,7 @@
 use Rattle.std.specs.Prelude.{◌+◌, ℕ, [], max}
 use Rattle.pres_tree.specs.declared.scalar.Scalar.{Scalar}
 use Rattle.pres_tree.specs.Rows.{Rows}
+use Rattle.pres_wire.specs.Numbers.{greatest_number}
 use Rattle.pres_write.specs.declared.op.Op.{Op}
 use Rattle.pres_write.specs.declared.outcome.Outcome.{Outcome}
 use Rattle.pres_write.specs.declared.outcome.Kept.{Kept}
@@ -14,9 +15,9 @@ pub record PlainState : Type 0 where
   pub moment : ℕ
   pub tree : Rows Scalar
 
--- the greatest number, 2^53 - 1
+-- the greatest number
 abbrev pub last_number : ℕ
-last_number = 9007199254740991
+last_number = greatest_number
 
 abbrev pub fresh : PlainState
 fresh = record { number = 0; moment = 0; tree = [] }

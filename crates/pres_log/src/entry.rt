@@ -4,7 +4,7 @@ ghost use Rattle.std.specs.Prelude.{◌≡◌, IsTrue, IfOk};
 ghost use Rattle.pres_log.specs.Batches.{may_hold};
 
 use pres_wire::{Number, SessionId, Why};
-use pres_write::{Basic, Items, Moment, Op, Outcome};
+use pres_write::{Basic, Items, Moment, Op, Outcome, copy_writes};
 use std::alloc::{AllocError, Global};
 use std::marker::Model;
 
@@ -80,17 +80,6 @@ impl Entry {
             }),
         }
     }
-}
-
-// Equal writes.
-fn copy_writes(alloc: Global, writes: &[Basic]) -> Result<Items<Basic>, AllocError>
-    ensures { IfOk result (λ made. made ≡ writes.now) }
-{
-    let mut made = Vec::new(alloc);
-    for write in writes {
-        made.push(write.copy(alloc)?)?;
-    }
-    Ok(Items::of(made))
 }
 
 /// Entries that are made at one moment: one, or the end of a session and the opening of the

@@ -3,7 +3,7 @@
 ghost use Rattle.std.specs.Prelude.{◌≡◌};
 ghost use Rattle.pres_log.specs.Faults.{code_of};
 
-use pres_wire::Stamp;
+use pres_wire::{Code, Stamp};
 use std::alloc::{AllocError, AllocFailed};
 use thiserror::Error;
 
@@ -36,17 +36,17 @@ pub enum Fault {
 
 impl Fault {
     /// The code in messages.
-    pub fn code(self) -> u8
+    pub fn code(self) -> Code
         ensures { result ≡ code_of self }
     {
         match self {
-            Fault::Bad => 1,
-            Fault::Old(_) => 2,
-            Fault::Session => 3,
-            Fault::Order => 4,
-            Fault::Full => 5,
-            Fault::Busy => 6,
-            Fault::Spent => 7,
+            Fault::Bad => Code::Bad,
+            Fault::Old(last) => Code::Old(last),
+            Fault::Session => Code::Session,
+            Fault::Order => Code::Order,
+            Fault::Full => Code::Full,
+            Fault::Busy => Code::Busy,
+            Fault::Spent => Code::Spent,
         }
     }
 }

@@ -11,6 +11,3 @@ pub use entry::{Batch, Entry};
 pub use fault::Fault;
 pub use log::Log;
 pub use plain::Plain;
-
-#[cfg(test)]
-mod tests;

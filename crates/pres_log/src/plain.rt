@@ -1,36 +1,31 @@
 //! The log of one writer without sessions.
 
-ghost use Rattle.std.specs.Prelude.{◌≡◌, ◌⊎◌, ◌↔◌, ◌+◌, ◌<◌, ◌≤◌, IsTrue, IfOk, IfErr, IsErrOf, OnErr};
+ghost use Rattle.std.specs.Prelude.{◌≡◌, ◌⊎◌, ◌↔◌, ◌+◌, IfOk, IfErr, IsErrOf, OnErr};
 ghost use Rattle.pres_log.specs.Plains.{fresh, last_number, state_after, kept_after};
 
 use crate::fault::Fault;
 use pres_tree::Tree;
+use pres_wire::{Count, Number};
 use pres_write::{Kept, Moment, Op, Outcome, apply_all};
 use std::alloc::Global;
 use std::marker::Model;
-
-// 2^53 - 1, the greatest number that messages carry.
-const LAST: u64 = 9007199254740991;
 
 /// The log of one writer: how many operations it took, the greatest moment so far, and the tree
 /// that they left. It keeps no operation, so its memory grows with the tree alone.
 #[derive(Drop)]
 pub struct Plain {
     alloc: Global,
-    number: u64,
+    count: Count,
     moment: Moment,
     tree: Tree,
 }
 
 impl Model for Plain {
-    ghost use Rattle.std.specs.Prelude.{◌≤◌};
-    ghost use Rattle.pres_log.specs.Plains.{PlainState, last_number};
+    ghost use Rattle.pres_log.specs.Plains.{PlainState};
 
     ghost Value = { PlainState };
 
-    ghost view = { λ p. record { number = p.number; moment = p.moment; tree = p.tree } };
-
-    ghost invariant = { λ p. p.number ≤ last_number };
+    ghost view = { λ p. record { number = p.count; moment = p.moment; tree = p.tree } };
 }
 
 impl Plain {
@@ -40,7 +35,7 @@ impl Plain {
     {
         Plain {
             alloc,
-            number: 0,
+            count: Count::zero(),
             moment: Moment::at(0),
             tree: Tree::empty(),
         }
@@ -48,14 +43,15 @@ impl Plain {
 
     /// Carries out the operation at the later of the given moment and the greatest one so far,
     /// and answers its number. At Busy and at Spent the log is as it was.
-    pub fn apply(&mut self, op: &Op, now: Moment) -> Result<(u64, Kept), Fault>
-        ensures answer { IfOk result (λ answer. answer ≡ (self.old.number + 1, kept_after self.old op.now now)) }
+    pub fn apply(&mut self, op: &Op, now: Moment) -> Result<(Number, Kept), Fault>
+        ensures answer { IfOk result (λ answer.
+            answer ≡ (self.old.number + 1, kept_after self.old op.now now)) }
         ensures ok { IfOk result (λ _. self.new ≡ state_after self.old op.now now) }
         ensures spent { IsErrOf result Fault.Spent ↔ (self.old.number ≡ last_number) }
         ensures busy { IfErr result (λ e. (e ≡ Fault.Busy) ⊎ (e ≡ Fault.Spent)) }
         ensures err { OnErr result (self.new ≡ self.old) }
     {
-        if self.is_spent() {
+        if self.count.next().is_none() {
             return Err(Fault::Spent);
         }
         let Ok(op) = op.copy(self.alloc) else {
@@ -65,16 +61,17 @@ impl Plain {
     }
 
     /// The same of an operation that isn't needed any more, which is not copied.
-    pub fn apply_owned(&mut self, op: Op, now: Moment) -> Result<(u64, Kept), Fault>
-        ensures answer { IfOk result (λ answer. answer ≡ (self.old.number + 1, kept_after self.old op now)) }
+    pub fn apply_owned(&mut self, op: Op, now: Moment) -> Result<(Number, Kept), Fault>
+        ensures answer { IfOk result (λ answer.
+            answer ≡ (self.old.number + 1, kept_after self.old op now)) }
         ensures ok { IfOk result (λ _. self.new ≡ state_after self.old op now) }
         ensures spent { IsErrOf result Fault.Spent ↔ (self.old.number ≡ last_number) }
         ensures busy { IfErr result (λ e. (e ≡ Fault.Busy) ⊎ (e ≡ Fault.Spent)) }
         ensures err { OnErr result (self.new ≡ self.old) }
     {
-        if self.is_spent() {
+        let Some(number) = self.count.next() else {
             return Err(Fault::Spent);
-        }
+        };
         let moment = self.moment.max(now);
         let Ok(outcome) = op.resolve_owned(self.alloc, &self.tree, moment) else {
             return Err(Fault::Busy);
@@ -84,40 +81,31 @@ impl Plain {
                 let Ok(()) = apply_all(self.alloc, &mut self.tree, writes) else {
                     return Err(Fault::Busy);
                 };
-                self.count(moment);
-                Ok((self.number, Kept::Wrote))
+                self.reach(number, moment);
+                Ok((number, Kept::Wrote))
             }
             Outcome::Stale(held) => {
                 // it ensures that the tree's rows are in order
                 let _ = self.tree.is_empty();
-                self.count(moment);
-                Ok((self.number, Kept::Stale(held)))
+                self.reach(number, moment);
+                Ok((number, Kept::Stale(held)))
             }
         }
     }
 
-    // One operation more, at the moment.
-    fn count(&mut self, moment: Moment)
-        requires { self.old.number < last_number }
-        ensures { self.new ≡ record { number = self.old.number + 1; moment = moment; tree = self.old.tree } }
+    // The last operation has the number, and was carried out at the moment.
+    fn reach(&mut self, number: Number, moment: Moment)
+        ensures { self.new ≡ record { number = number; moment = moment; tree = self.old.tree } }
     {
-        self.number += 1;
+        self.count = Count::up_to(number);
         self.moment = moment;
     }
 
-    // Whether no number is left.
-    fn is_spent(&self) -> bool
-        ensures { IsTrue result ↔ (self.now.number ≡ last_number) }
-    {
-        self.number == LAST
-    }
-
     /// How many operations it took: the number of the last one.
-    pub fn number(&self) -> u64
-        ensures number { result ≡ self.now.number }
-        ensures bound { result ≤ last_number }
+    pub fn number(&self) -> Count
+        ensures { result ≡ self.now.number }
     {
-        self.number
+        self.count
     }
 
     /// The tree after all of them.

@@ -4,8 +4,6 @@
 
 mod fault;
 mod table;
-#[cfg(test)]
-mod tests;
 
 pub use fault::RetryFault;
 pub use table::{RetryTable, Row, Verdict};

@@ -10,8 +10,6 @@ mod gone;
 mod live;
 mod plan;
 mod slot;
-#[cfg(test)]
-mod tests;
 
 pub use due::Due;
 pub use fault::SessionFault;

@@ -16,7 +16,7 @@ use Rattle.pres_tree.specs.declared.fault.TreeFault.TheVariants.{TooDeep, Range,
 use Rattle.pres_tree.specs.declared.scalar.Scalar.{Scalar}
 use Rattle.pres_tree.specs.declared.scalar.Scalar.TheVariants.{Bool as BoolOf, Int, Text}
 use Rattle.pres_tree.specs.Paths.{Path, path_text, path_fault, segments, sorted_by}
-use Rattle.pres_tree.specs.Rows.{Rows, is_null}
+use Rattle.pres_tree.specs.Rows.{Rows}
 use Rattle.pres_tree.specs.Reading.{Reading, branch, leaf, bad, is_leaf, fault_of}
 use Rattle.pres_tree.specs.Printing.{json_of}
 use Rattle.pres_tree.specs.Scalars.{scalar_printing, number_reading}
@@ -28,7 +28,7 @@ use Rattle.pres_write.specs.declared.op.Op.{Op}
 use Rattle.pres_write.specs.declared.op.Op.TheVariants.{Set, Update, Tx}
 use Rattle.pres_write.specs.Drafts.{fixed, is_timestamp, is_one, placeholder, slot_reading, unless_placeholder, fixed_reading, slot_printing}
 use Rattle.pres_write.specs.Updates.{Places, PlacesBelow, most_places}
-use Rattle.pres_write.specs.OpForms.{unless, set_read, update_read, tx_read, remove_form, set_form, update_form, tx_form, set_json, op_json, op_read, place_fault, places_fault, places_read, below_read, as_update, named, members_from, values_json}
+use Rattle.pres_write.specs.OpForms.{unless, set_read, update_read, tx_read, set_form, update_form, tx_form, op_json, op_read, place_fault, places_fault, places_read, below_read, as_update, named, members_from, values_json}
 use Rattle.pres_wire.proofs.Nesting.{Flat, Solid, rows_low}
 
 -- ---- leaves of values and of drafts
@@ -131,13 +131,11 @@ accepted (Some e) r a h = cc
 
 -- ---- the three forms
 
-put_low : (t : Bool) (p : Path) (v : Rows Slot) → is_null v ≡ t → op_read (set_json p v) ≡ Ok (Set (p, v)) → depth (set_json p v) ≤ 64
-put_low true p v e h = rw e (omega arith)
-put_low false p v e h =
-    let read : set_read (path_text p) (json_of slot_printing v) ≡ Ok (Set (p, v)) = ap (λ b. op_read (cond b (remove_form (path_text p)) (set_form (path_text p) (json_of slot_printing v)))) (sym e) ∙ h in
+put_low : (p : Path) (v : Rows Slot) (op : Op) → set_read (path_text p) (json_of slot_printing v) ≡ Ok op → depth (set_form (path_text p) (json_of slot_printing v)) ≤ 64
+put_low p v op read =
     let fault : fault_of slot_reading (33 - length (segments (path_text p))) (json_of slot_printing v) ≡ None = (accepted _ _ _ (accepted _ _ _ read).1).0 in
     let low : depth (json_of slot_printing v) ≤ 33 - length (segments (path_text p)) = draft_low v _ fault in
-    rw e (omega (arith, low))
+    omega (arith, low)
 
 tx_low : (p : Path) (expect : Rows Scalar) (new : Rows Slot) (op : Op) → tx_read (path_text p) (json_of scalar_printing expect) (json_of slot_printing new) ≡ Ok op
     → depth (tx_form (path_text p) (json_of scalar_printing expect) (json_of slot_printing new)) ≤ 64
@@ -200,7 +198,7 @@ update_low p places op read =
 
 -- what is read as itself nests little
 pub op_low : (op : Op) → op_read (op_json op) ≡ Ok op → depth (op_json op) ≤ 64
-op_low (Set p) h = put_low (is_null p.1) p.0 p.1 refl h
+op_low (Set p) h = put_low p.0 p.1 (Set p) h
 op_low (Update u) h = update_low u.path u.places (Update u) h
 op_low (Tx t) h = tx_low t.path t.expect t.new (Tx t) h
 

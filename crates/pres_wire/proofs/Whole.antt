@@ -13,7 +13,7 @@ use Rattle.pres_tree.specs.declared.scalar.Scalar.{Scalar}
 use Rattle.pres_tree.specs.declared.scalar.Scalar.TheVariants.{Bool as BoolOf, Int, Text}
 use Rattle.pres_tree.specs.Keys.{Key, same_key}
 use Rattle.pres_tree.specs.Paths.{Path, path_text, sorted_by}
-use Rattle.pres_tree.specs.Rows.{Rows, is_null, rows_in}
+use Rattle.pres_tree.specs.Rows.{Rows, rows_in}
 use Rattle.pres_tree.specs.Printing.{json_of, with_row, with_first, members_in}
 use Rattle.pres_tree.specs.Scalars.{scalar_printing}
 use Rattle.pres_write.specs.declared.draft.Slot.{Slot}
@@ -21,7 +21,7 @@ use Rattle.pres_write.specs.declared.draft.Slot.TheVariants.{Fixed, Timestamp}
 use Rattle.pres_write.specs.declared.op.Op.{Op}
 use Rattle.pres_write.specs.declared.op.Op.TheVariants.{Set, Update, Tx}
 use Rattle.pres_write.specs.Drafts.{slot_printing}
-use Rattle.pres_write.specs.OpForms.{op_json, set_json, named, members_from, values_json}
+use Rattle.pres_write.specs.OpForms.{op_json, named, members_from, values_json}
 use Rattle.pres_write.specs.Updates.{Places}
 use Rattle.pres_wire.specs.declared.up.Up.{Up}
 use Rattle.pres_wire.specs.declared.up.Up.TheVariants as up
@@ -88,10 +88,6 @@ whole_slot : (s : Slot) → has_float (slot_printing s) ≡ false
 whole_slot (Fixed s) = whole_scalar s
 whole_slot Timestamp = refl
 
-whole_set : (t : Bool) (p : Path) (v : Rows Slot) → is_null v ≡ t → has_float (set_json p v) ≡ false
-whole_set true p v e = rw e refl
-whole_set false p v e = rw e (neither (has_float (json_of slot_printing v)) false (whole_rows slot_printing v whole_slot) refl)
-
 whole_puts : (k : List ℕ) (d : Data) (es : List (List ℕ × Data)) → has_float d ≡ false → members_have_float (members_from es) ≡ false → members_have_float (members_from (put (slice_cmp nat_cmp) k d es)) ≡ false
 whole_puts k d [] h g = neither (has_float d) false h refl
 whole_puts k d (e ∷ es) h g =
@@ -107,7 +103,7 @@ whole_values [] = refl
 whole_values (e ∷ es) = whole_puts (drop 1 (path_text e.0)) (json_of slot_printing e.1) (sorted_by (slice_cmp nat_cmp) (named es)) (whole_rows slot_printing e.1 whole_slot) (whole_values es)
 
 whole_op : (op : Op) → has_float (op_json op) ≡ false
-whole_op (Set p) = whole_set (is_null p.1) p.0 p.1 refl
+whole_op (Set p) = neither (has_float (json_of slot_printing p.1)) false (whole_rows slot_printing p.1 whole_slot) refl
 whole_op (Update u) = neither (members_have_float (values_json u.places)) false (whole_values u.places) refl
 whole_op (Tx t) =
     neither (has_float (json_of scalar_printing t.expect)) _ (whole_rows scalar_printing t.expect whole_scalar)

@@ -1,5 +1,5 @@
 -- What messages name.
-use Rattle.std.specs.Prelude.{ℕ, Option, Some, None}
+use Rattle.std.specs.Prelude.{ℕ, Option, Some}
 use Rattle.pres_wire.specs.declared.id.SessionId.{SessionId}
 use Rattle.pres_wire.specs.declared.up.Up.{Up}
 use Rattle.pres_wire.specs.declared.up.Up.TheVariants as up
@@ -11,12 +11,6 @@ abbrev pub session_in : Up → SessionId
 session_in (up.Hello s) = s
 session_in (up.Op s q n op) = s
 session_in (up.Bye s q) = s
-
--- its number in the session, which a Hello has not
-abbrev pub q_in : Up → Option ℕ
-q_in (up.Hello s) = None
-q_in (up.Op s q n op) = Some q
-q_in (up.Bye s q) = Some q
 
 -- the session that a message is for
 abbrev pub session_for : Down → Option SessionId

@@ -1,9 +1,10 @@
 -- Numbers that messages carry.
 use Rattle.std.specs.Prelude.{ℕ, ◌≤◌}
+use Rattle.pres_write.specs.Moments.{max_safe_integer}
 
--- 2^53 - 1
+-- the greatest number of a message
 abbrev pub greatest_number : ℕ
-greatest_number = 9007199254740991
+greatest_number = max_safe_integer
 
 -- numbers count from 1
 abbrev pub IsNumber : ℕ → Type 0

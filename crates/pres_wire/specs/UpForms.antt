@@ -13,7 +13,7 @@ use Rattle.pres_wire.specs.declared.fault.WireFault.{WireFault}
 use Rattle.pres_wire.specs.declared.fault.WireFault.TheVariants.{NotJson, TooLong, NoSuchMessage, Field as FieldRefused, Write}
 use Rattle.pres_wire.specs.declared.up.Up.{Up}
 use Rattle.pres_wire.specs.declared.up.Up.TheVariants as up
-use Rattle.pres_wire.specs.Faults.{name_of}
+use Rattle.pres_wire.specs.Faults.{field_name}
 use Rattle.pres_wire.specs.Fields.{message, whole, session_json, is_word, field_of, message_number, session_of}
 
 -- the JSON of a message: its word, and its fields in the order in which they are checked
@@ -40,7 +40,7 @@ session_field d = needed field.Session (field_of session_of (codes "s") d)
 
 -- `q` and `n`
 abbrev pub number_field : Field → Data → Result ℕ WireFault
-number_field f d = needed f (field_of message_number (name_of f) d)
+number_field f d = needed f (field_of message_number (field_name f) d)
 
 -- what an operation is refused for is a Write
 abbrev pub or_write : Result Op WriteFault → Result Op WireFault

@@ -11,7 +11,6 @@ ghost use Rattle.pres_wire.specs.Messages.{session_for, number_in};
 ghost use Rattle.pres_wire.specs.DownForms.{why_word, code_number, out_json, session_or_null, down_json};
 ghost use Rattle.pres_wire.specs.DownReads.{session_or_none, why_of, one_null, out_of, HasForm};
 
-use crate::field::{session_value, stamp_value};
 use crate::id::{SessionId, Stamp, Why};
 use crate::number::{Count, Number};
 use pres_tree::Tree;
@@ -181,7 +180,7 @@ impl Down {
                 done,
                 out,
             } => {
-                let session = session_value(alloc, session)?;
+                let session = session.to_value(alloc)?;
                 let out = out_value(alloc, out)?;
                 json!(in alloc; {
                     "done": done.get(), "m": "reply", "n": n.get(), "out": out, "q": q.get(),
@@ -204,7 +203,7 @@ fn welcome_value(
     ensures json { IfOk result (λ made. view made ≡ down_json (Down.Welcome session.now z ops)) }
     ensures form { IfOk result (λ _. HasForm (Down.Welcome session.now z ops)) }
 {
-    let session = session_value(alloc, session)?;
+    let session = session.to_value(alloc)?;
     json!(in alloc; {"m": "welcome", "ops": ops.get(), "s": session, "z": z.get()})
 }
 
@@ -219,7 +218,7 @@ fn gone_value(
     ensures json { IfOk result (λ made. view made ≡ down_json (Down.Gone session.now r z why)) }
     ensures form { IfOk result (λ _. HasForm (Down.Gone session.now r z why)) }
 {
-    let session = session_value(alloc, session)?;
+    let session = session.to_value(alloc)?;
     let word = word_of(why);
     json!(in alloc; {"m": "gone", "r": r.get(), "s": session, "why": word, "z": z.get()})
 }
@@ -254,7 +253,8 @@ fn word_of(why: Why) -> &'static str
 // The JSON value of a value that a place held.
 fn held_value(alloc: Global, held: &Option<Tree>) -> Result<Value, AllocError>
     ensures json { IfOk result (λ made. view made ≡ json_of scalar_printing (rows_in held.now)) }
-    ensures reads_back { IfOk result (λ _. rows_of scalar_reading (json_of scalar_printing (rows_in held.now)) ≡ rows_in held.now) }
+    ensures reads_back { IfOk result (λ _.
+        rows_of scalar_reading (json_of scalar_printing (rows_in held.now)) ≡ rows_in held.now) }
 {
     match held {
         Some(value) => value.to_value(alloc),
@@ -278,10 +278,11 @@ fn out_value(alloc: Global, out: &Kept) -> Result<Value, AllocError>
 
 fn session_or_null(alloc: Global, session: &Option<SessionId>) -> Result<Value, AllocError>
     ensures json { IfOk result (λ made. view made ≡ session_or_null session.now) }
-    ensures form { IfOk result (λ _. session_or_none (session_or_null session.now) ≡ Some session.now) }
+    ensures form { IfOk result (λ _.
+        session_or_none (session_or_null session.now) ≡ Some session.now) }
 {
     match session {
-        Some(session) => session_value(alloc, session),
+        Some(session) => session.to_value(alloc),
         None => Ok(Value::Null),
     }
 }
@@ -295,7 +296,7 @@ fn fault_value(alloc: Global, session: &Option<SessionId>, code: Code) -> Result
     let number = code.number();
     match code {
         Code::Old(last) => {
-            let last = stamp_value(alloc, last)?;
+            let last = last.to_value(alloc)?;
             json!(in alloc; {"code": number, "last": last, "m": "fault", "s": session})
         }
         _ => json!(in alloc; {"code": number, "m": "fault", "s": session}),

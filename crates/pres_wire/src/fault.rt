@@ -1,7 +1,7 @@
 //! Why a text is refused as a message.
 
 ghost use Rattle.std.specs.Prelude.{◌≡◌};
-ghost use Rattle.pres_wire.specs.Faults.{number_of, name_of};
+ghost use Rattle.pres_wire.specs.Faults.{number_of, name_of, field_name};
 
 use pres_write::WriteFault;
 use std::alloc::AllocError;
@@ -24,7 +24,7 @@ pub enum Field {
 impl Field {
     /// Its name in JSON.
     pub fn name(self) -> &'static str
-        ensures { result.now ≡ name_of self }
+        ensures { result.now ≡ field_name self }
     {
         match self {
             Field::Session => "s",
@@ -76,6 +76,20 @@ impl WireFault {
             WireFault::NoSuchMessage => 4,
             WireFault::Field(_) => 5,
             WireFault::Write(_) => 6,
+        }
+    }
+
+    /// The name that programs print.
+    pub fn name(self) -> &'static str
+        ensures { result.now ≡ name_of self }
+    {
+        match self {
+            WireFault::Memory => "Memory",
+            WireFault::NotJson => "NotJson",
+            WireFault::TooLong => "TooLong",
+            WireFault::NoSuchMessage => "NoSuchMessage",
+            WireFault::Field(_) => "Field",
+            WireFault::Write(_) => "Write",
         }
     }
 }

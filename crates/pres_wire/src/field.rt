@@ -1,75 +1,17 @@
-//! The fields of messages: printed, and read.
+//! The fields of messages, read.
 
-ghost use Rattle.std.specs.Prelude.{◌≡◌, ◌⊎◌, IfOk, Some, MatchResult};
+ghost use Rattle.std.specs.Prelude.{◌≡◌, ◌⊎◌, MatchResult};
 ghost use Rattle.serde_json.specs.View.{view};
-ghost use Rattle.pres_wire.specs.Fields.{stamp_json, session_json, message_number, session_of};
 ghost use Rattle.pres_wire.specs.UpForms.{session_field, number_field, op_field};
 ghost use Rattle.pres_wire.specs.declared.fault.WireFault.TheVariants.{Memory};
 
 use crate::fault::{Field, WireFault};
-use crate::id::{ClientId, IdFault, SessionId, Stamp};
+use crate::id::SessionId;
 use crate::number::Number;
 use pres_tree::TreeFault;
 use pres_write::{Op, WriteFault};
-use serde_json::{Value, json};
-use std::alloc::{AllocError, Global};
-
-// The JSON value of a stamp.
-pub(crate) fn stamp_value(alloc: Global, stamp: Stamp) -> Result<Value, AllocError>
-    ensures { IfOk result (λ made. view made ≡ stamp_json stamp) }
-{
-    json!(in alloc; [stamp.incarnation.get(), stamp.attempt.get()])
-}
-
-// The JSON value of a session, which is read again as the session.
-pub(crate) fn session_value(alloc: Global, session: &SessionId) -> Result<Value, AllocError>
-    ensures json { IfOk result (λ made. view made ≡ session_json session.now) }
-    ensures reads_back { IfOk result (λ _. session_of (session_json session.now) ≡ Some session.now) }
-{
-    json!(in alloc; [
-        session.client.text(),
-        session.incarnation.get(),
-        session.attempt.get()
-    ])
-}
-
-// The number that a JSON value is.
-fn number_of(value: &Value) -> Option<Number>
-    ensures { result ≡ message_number (view value.now) }
-{
-    Number::new(value.as_u64()?)
-}
-
-// The session that a JSON value is.
-fn session_of(alloc: Global, value: &Value) -> Result<Option<SessionId>, AllocError>
-    ensures { IfOk result (λ o. o ≡ session_of (view value.now)) }
-{
-    let Some(items) = value.as_array() else {
-        return Ok(None);
-    };
-    let [client, incarnation, attempt] = items.as_slice() else {
-        return Ok(None);
-    };
-    let Some(text) = client.as_str() else {
-        return Ok(None);
-    };
-    let client = match ClientId::parse(alloc, text) {
-        Ok(client) => client,
-        Err(IdFault::NotAnId) => return Ok(None),
-        Err(IdFault::Memory) => return Err(AllocError),
-    };
-    let Some(incarnation) = number_of(incarnation) else {
-        return Ok(None);
-    };
-    let Some(attempt) = number_of(attempt) else {
-        return Ok(None);
-    };
-    Ok(Some(SessionId {
-        client,
-        incarnation,
-        attempt,
-    }))
-}
+use serde_json::Value;
+use std::alloc::Global;
 
 // The session of a message.
 pub(crate) fn session_field(alloc: Global, message: &Value) -> Result<SessionId, WireFault>
@@ -80,7 +22,7 @@ pub(crate) fn session_field(alloc: Global, message: &Value) -> Result<SessionId,
     let Some(value) = message.get(Field::Session.name()) else {
         return Err(WireFault::Field(Field::Session));
     };
-    match session_of(alloc, value)? {
+    match SessionId::from_value(alloc, value)? {
         Some(session) => Ok(session),
         None => Err(WireFault::Field(Field::Session)),
     }
@@ -92,7 +34,7 @@ pub(crate) fn number_field(message: &Value, field: Field) -> Result<Number, Wire
 {
     message
         .get(field.name())
-        .and_then(number_of)
+        .and_then(Number::from_value)
         .ok_or(WireFault::Field(field))
 }
 

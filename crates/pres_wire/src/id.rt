@@ -1,13 +1,17 @@
 //! Clients, their sessions, and why a session ended.
 
-ghost use Rattle.std.specs.Prelude.{◌≡◌, IsTrue, IfOk, MatchResult, if◌then◌else◌};
+ghost use Rattle.std.specs.Prelude.{◌≡◌, IsTrue, IfOk, MatchResult, Some, if◌then◌else◌};
 ghost use Rattle.std.specs.List.{list_all};
+ghost use Rattle.serde_json.specs.View.{view};
+ghost use Rattle.pres_wire.specs.Fields.{stamp_json, session_json, session_of};
 ghost use Rattle.pres_wire.specs.Ids.{is_id_byte, is_client_id, is_earlier, stamp_of};
 ghost use Rattle.pres_wire.specs.declared.id.IdFault.TheVariants.{Memory, NotAnId};
 
 use crate::number::Number;
+use pres_tree::Text;
+use serde_json::{Value, json};
 use std::alloc::{AllocError, Global};
-use std::cmp::Ordering;
+use std::fmt;
 use std::marker::Model;
 use thiserror::Error;
 
@@ -37,21 +41,23 @@ impl From<AllocError> for IdFault {
 }
 
 /// A client id: 1 to 128 bytes of `A-Z` `a-z` `0-9` `_` `-`. Contracts see it as its bytes.
-#[derive(Drop)]
+#[derive(Drop, PartialEq, Eq, PartialOrd, Ord)]
 pub struct ClientId {
-    text: String,
+    text: Text,
 }
 
 impl Model for ClientId {
-    ghost use Rattle.std.specs.Prelude.{ℕ, List, IsTrue, string_bytes};
+    ghost use Rattle.std.specs.Prelude.{ℕ, List, IsTrue};
 
     ghost Value = { List ℕ };
 
     ghost use Rattle.pres_wire.specs.Ids.{is_client_id};
 
-    ghost view = { λ c. string_bytes c.text };
+    ghost view = { λ c. c.text };
 
-    ghost invariant = { λ c. IsTrue (is_client_id (string_bytes c.text)) };
+    ghost invariant = { λ c. IsTrue (is_client_id c.text) };
+
+    ghost inverse = { λ bytes. record { text = bytes } };
 }
 
 // Whether a client id may have the byte.
@@ -84,7 +90,7 @@ impl ClientId {
         if !is_client_id(text) {
             return Err(IdFault::NotAnId);
         }
-        let text = String::from_str(alloc, text)?;
+        let text = Text::of(String::from_str(alloc, text)?);
         Ok(ClientId { text })
     }
 
@@ -101,65 +107,14 @@ impl ClientId {
         ensures { IfOk result (λ id. id ≡ self.now) }
     {
         Ok(ClientId {
-            text: String::from_str(alloc, self.text())?,
+            text: self.text.copy(alloc)?,
         })
     }
 }
 
-impl PartialEq for ClientId {
-    ghost use Rattle.std.specs.Prelude.{◌==◌};
-    ghost use Rattle.std.specs.Cmp.Lexicographic.{pointwise};
-    ghost use Rattle.std.proofs.Common.{rules};
-    ghost use Rattle.std.specs.Cmp.Rules.{comparing};
-
-    ghost eq = { pointwise ◌==◌ };
-
-    ghost laws = { Prim.search (comparing, rules) };
-
-    fn eq(&self, other: &ClientId) -> bool {
-        self.text == other.text
-    }
-}
-
-impl Eq for ClientId {
-    ghost use Rattle.std.proofs.Common.{rules};
-    ghost use Rattle.std.specs.Cmp.Rules.{comparing};
-
-    ghost laws = { Prim.search (comparing, rules) };
-}
-
-impl PartialOrd for ClientId {
-    ghost use Rattle.std.specs.Ordering.{nat_cmp, as_partial_cmp};
-    ghost use Rattle.std.specs.Cmp.Lexicographic.{slice_cmp};
-    ghost use Rattle.std.specs.Cmp.{partial_order_from_own_ties};
-    ghost use Rattle.std.proofs.Common.{rules};
-    ghost use Rattle.std.specs.Cmp.Rules.{comparing};
-
-    ghost partial_cmp = { as_partial_cmp (slice_cmp nat_cmp) };
-
-    ghost laws = { partial_order_from_own_ties (Prim.search (comparing, rules)) (Prim.search (comparing, rules)) };
-
-    fn partial_cmp(&self, other: &ClientId) -> Option<Ordering> {
-        Some(self.cmp(other))
-    }
-}
-
-impl Ord for ClientId {
-    ghost use Rattle.std.specs.Ordering.{nat_cmp};
-    ghost use Rattle.std.specs.Cmp.Lexicographic.{slice_cmp};
-    ghost use Rattle.std.proofs.Common.{rules};
-    ghost use Rattle.std.specs.Cmp.Rules.{comparing};
-
-    ghost cmp = { slice_cmp nat_cmp };
-
-    ghost total = { Prim.search (comparing, rules) };
-
-    ghost matches_partial_cmp = { Prim.search (comparing, rules) };
-
-    ghost matches_eq = { Prim.search (comparing, rules) };
-
-    fn cmp(&self, other: &ClientId) -> Ordering {
-        self.text.cmp(&other.text)
+impl fmt::Display for ClientId {
+    fn fmt<W: fmt::Write>(&self, f: &mut fmt::Formatter<W>) -> fmt::Result {
+        f.write_str(self.text())
     }
 }
 
@@ -177,6 +132,20 @@ impl Stamp {
         ensures { result ≡ is_earlier self.now other.now }
     {
         self < other
+    }
+
+    /// Its JSON value: `[incarnation,attempt]`.
+    pub fn to_value(&self, alloc: Global) -> Result<Value, AllocError>
+        ensures { IfOk result (λ made. view made ≡ stamp_json self.now) }
+    {
+        json!(in alloc; [self.incarnation.get(), self.attempt.get()])
+    }
+}
+
+/// The incarnation and the attempt, as `1.2`.
+impl fmt::Display for Stamp {
+    fn fmt<W: fmt::Write>(&self, f: &mut fmt::Formatter<W>) -> fmt::Result {
+        write!(f, "{}.{}", self.incarnation, self.attempt)
     }
 }
 
@@ -217,6 +186,52 @@ impl SessionId {
     {
         Ok(SessionId::of(self.client.copy(alloc)?, self.stamp()))
     }
+
+    /// Its JSON value: `[client,incarnation,attempt]`. It is read again as this session.
+    pub fn to_value(&self, alloc: Global) -> Result<Value, AllocError>
+        ensures json { IfOk result (λ made. view made ≡ session_json self.now) }
+        ensures reads_back { IfOk result (λ made. session_of (view made) ≡ Some self.now) }
+    {
+        json!(in alloc; [self.client.text(), self.incarnation.get(), self.attempt.get()])
+    }
+
+    /// The session of a JSON value, none where it isn't the value of one.
+    pub fn from_value(alloc: Global, value: &Value) -> Result<Option<SessionId>, AllocError>
+        ensures { IfOk result (λ found. found ≡ session_of (view value.now)) }
+    {
+        let Some(items) = value.as_array() else {
+            return Ok(None);
+        };
+        let [client, incarnation, attempt] = items.as_slice() else {
+            return Ok(None);
+        };
+        let Some(text) = client.as_str() else {
+            return Ok(None);
+        };
+        let client = match ClientId::parse(alloc, text) {
+            Ok(client) => client,
+            Err(IdFault::NotAnId) => return Ok(None),
+            Err(IdFault::Memory) => return Err(AllocError),
+        };
+        let Some(incarnation) = Number::from_value(incarnation) else {
+            return Ok(None);
+        };
+        let Some(attempt) = Number::from_value(attempt) else {
+            return Ok(None);
+        };
+        Ok(Some(SessionId {
+            client,
+            incarnation,
+            attempt,
+        }))
+    }
+}
+
+/// The client and the stamp, as `alice/1.2`.
+impl fmt::Display for SessionId {
+    fn fmt<W: fmt::Write>(&self, f: &mut fmt::Formatter<W>) -> fmt::Result {
+        write!(f, "{}/{}", self.client, self.stamp())
+    }
 }
 
 /// Why a session ended.
@@ -234,36 +249,4 @@ pub enum Why {
     Slow,
     /// The server was started again.
     Restart,
-}
-
-#[cfg(test)]
-mod tests {
-    use super::*;
-    use std::test::Fail;
-
-    fn stamp(incarnation: u64, attempt: u64) -> Result<Stamp, Fail> {
-        Ok(Stamp {
-            incarnation: Number::new(incarnation).ok_or("no number")?,
-            attempt: Number::new(attempt).ok_or("no number")?,
-        })
-    }
-
-    #[test]
-    fn ids_are_plain_words(rt: HostRuntime) -> Result<(), Fail> {
-        assert_eq!(rt; ClientId::parse(rt.alloc(), "a-Z_09")?.text(), "a-Z_09");
-        assert!(rt; ClientId::parse(rt.alloc(), "a!").is_err());
-        assert!(rt; ClientId::parse(rt.alloc(), "").is_err());
-        Ok(())
-    }
-
-    #[test]
-    fn sessions_of_a_client(rt: HostRuntime) -> Result<(), Fail> {
-        let first = SessionId::of(ClientId::parse(rt.alloc(), "alice")?, stamp(1, 2)?);
-        let second = SessionId::of(first.client.copy(rt.alloc())?, stamp(2, 1)?);
-        assert!(rt; first.copy(rt.alloc())? == first);
-        assert!(rt; first < second);
-        assert!(rt; first.stamp().is_earlier(&second.stamp()));
-        assert!(rt; !second.stamp().is_earlier(&first.stamp()));
-        Ok(())
-    }
 }

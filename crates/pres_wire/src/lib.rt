@@ -12,7 +12,4 @@ pub use down::{Code, Down};
 pub use fault::{Field, WireFault};
 pub use id::{ClientId, IdFault, SessionId, Stamp, Why};
 pub use number::{Count, Number};
-pub use up::Up;
-
-#[cfg(test)]
-mod tests;
+pub use up::{MAX_TEXT_BYTES, Up};

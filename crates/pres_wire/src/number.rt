@@ -2,12 +2,14 @@
 
 ghost use Rattle.std.specs.Prelude.{◌≡◌, ◌+◌, ◌<◌, ◌≤◌, MatchOption};
 ghost use Rattle.std.specs.Option.{SomeIff};
+ghost use Rattle.serde_json.specs.View.{view};
+ghost use Rattle.pres_wire.specs.Fields.{message_number};
 ghost use Rattle.pres_wire.specs.Numbers.{greatest_number, IsNumber};
 
+use pres_write::MAX_SAFE_INTEGER;
+use serde_json::Value;
+use std::fmt;
 use std::marker::Model;
-
-// 2^53 - 1, the greatest whole number that JSON programs exchange safely (RFC 8259, section 6).
-const GREATEST: u64 = 9007199254740991;
 
 /// A whole number from 1 to 2^53 - 1. Contracts see it as that number.
 #[derive(Clone, Copy, Debug, PartialEq, Eq, PartialOrd, Ord)]
@@ -33,7 +35,7 @@ impl Number {
     pub fn new(value: u64) -> Option<Number>
         ensures { SomeIff result (IsNumber value) value }
     {
-        if value == 0 || value > GREATEST {
+        if value == 0 || value > MAX_SAFE_INTEGER {
             return None;
         }
         Some(Number { value })
@@ -56,9 +58,24 @@ impl Number {
 
     /// The number after it, none after 2^53 - 1.
     pub fn next(self) -> Option<Number>
-        ensures { MatchOption result (self ≡ greatest_number) (λ n. (self < greatest_number) × (n ≡ self + 1)) }
+        ensures { MatchOption result
+            (self ≡ greatest_number)
+            (λ n. (self < greatest_number) × (n ≡ self + 1)) }
     {
         Count::up_to(self).next()
+    }
+
+    // The number that a JSON value is.
+    pub(crate) fn from_value(value: &Value) -> Option<Number>
+        ensures { result ≡ message_number (view value.now) }
+    {
+        Number::new(value.as_u64()?)
+    }
+}
+
+impl fmt::Display for Number {
+    fn fmt<W: fmt::Write>(&self, f: &mut fmt::Formatter<W>) -> fmt::Result {
+        write!(f, "{}", self.value)
     }
 }
 
@@ -86,7 +103,7 @@ impl Count {
     pub fn new(value: u64) -> Option<Count>
         ensures { SomeIff result (value ≤ greatest_number) value }
     {
-        if value > GREATEST {
+        if value > MAX_SAFE_INTEGER {
             return None;
         }
         Some(Count { value })
@@ -116,9 +133,11 @@ impl Count {
 
     /// The number after so many, none after 2^53 - 1.
     pub fn next(self) -> Option<Number>
-        ensures { MatchOption result (self ≡ greatest_number) (λ n. (self < greatest_number) × (n ≡ self + 1)) }
+        ensures { MatchOption result
+            (self ≡ greatest_number)
+            (λ n. (self < greatest_number) × (n ≡ self + 1)) }
     {
-        if self.value == GREATEST {
+        if self.value == MAX_SAFE_INTEGER {
             return None;
         }
         Some(Number {
@@ -127,23 +146,8 @@ impl Count {
     }
 }
 
-#[cfg(test)]
-mod tests {
-    use super::*;
-    use std::test::Fail;
-
-    #[test]
-    fn numbers_count_from_1_to_the_greatest(rt: HostRuntime) -> Result<(), Fail> {
-        let first = Count::zero().next().ok_or("no number")?;
-        assert_eq!(rt; first, Number::first());
-        assert_eq!(rt; first.next().ok_or("no number")?.get(), 2);
-        let last = Number::new(9007199254740991).ok_or("no number")?;
-        assert_eq!(rt; last.next(), None);
-        assert_eq!(rt;
-            Count::new(9007199254740991).ok_or("no count")?,
-            Count::up_to(last)
-        );
-        assert_eq!(rt; Count::up_to(last).get(), last.get());
-        Ok(())
+impl fmt::Display for Count {
+    fn fmt<W: fmt::Write>(&self, f: &mut fmt::Formatter<W>) -> fmt::Result {
+        write!(f, "{}", self.value)
     }
 }

@@ -1,24 +1,24 @@
 //! Messages to the server.
 
-ghost use Rattle.std.specs.Prelude.{◌≡◌, ◌≤◌, ◌⊎◌, IfOk, MatchResult, Ok, Err, length, option_copied, string_bytes};
+ghost use Rattle.std.specs.Prelude.{◌≡◌, ◌≤◌, ◌⊎◌, IfOk, MatchResult, Ok, Err, length, string_bytes};
 ghost use Rattle.serde_json.specs.Data.{depth};
 ghost use Rattle.serde_json.specs.View.{view};
 ghost use Rattle.serde_json.specs.Written.{compact_text};
 ghost use Rattle.pres_write.specs.OpForms.{op_json, op_read};
-ghost use Rattle.pres_wire.specs.Messages.{session_in, q_in};
+ghost use Rattle.pres_wire.specs.Messages.{session_in};
 ghost use Rattle.pres_wire.specs.UpForms.{up_json, up_read, hello_read, op_message_read, bye_read, decoded, longest_text};
 ghost use Rattle.pres_wire.specs.declared.fault.WireFault.TheVariants.{Memory};
 
 use crate::fault::{Field, WireFault};
-use crate::field::{number_field, op_field, session_field, session_value};
+use crate::field::{number_field, op_field, session_field};
 use crate::id::SessionId;
 use crate::number::Number;
 use pres_write::Op;
 use serde_json::{Value, json};
 use std::alloc::{AllocError, Global};
 
-// The bytes of the longest text that is read.
-const LONGEST: usize = 1048576;
+/// The bytes of the longest text of a message that is read.
+pub const MAX_TEXT_BYTES: usize = 1_048_576;
 
 /// A message from a client to the server.
 #[derive(Drop)]
@@ -53,17 +53,6 @@ impl Up {
         }
     }
 
-    /// Its number in the session, which a Hello has not.
-    pub fn q(&self) -> Option<Number>
-        ensures { result ≡ q_in self.now }
-    {
-        match self {
-            Up::Hello { .. } => None,
-            Up::Op { q, .. } => Some(*q),
-            Up::Bye { q, .. } => Some(*q),
-        }
-    }
-
     /// An equal message.
     pub fn copy(&self, alloc: Global) -> Result<Up, AllocError>
         ensures { IfOk result (λ made. made ≡ self.now) }
@@ -93,7 +82,7 @@ impl Up {
             (λ m. decoded text.now ≡ Ok m)
             (λ e. (e ≡ Memory) ⊎ (decoded text.now ≡ Err e)) }
     {
-        if text.len() > LONGEST {
+        if text.len() > MAX_TEXT_BYTES {
             return Err(WireFault::TooLong);
         }
         match Value::from_str(alloc, text) {
@@ -145,16 +134,16 @@ impl Up {
     {
         match self {
             Up::Hello { session } => {
-                let session = session_value(alloc, session)?;
+                let session = session.to_value(alloc)?;
                 json!(in alloc; {"m": "hello", "s": session})
             }
             Up::Op { session, q, n, op } => {
-                let session = session_value(alloc, session)?;
+                let session = session.to_value(alloc)?;
                 let op = op_value(alloc, op)?;
                 json!(in alloc; {"m": "op", "n": n.get(), "op": op, "q": q.get(), "s": session})
             }
             Up::Bye { session, q } => {
-                let session = session_value(alloc, session)?;
+                let session = session.to_value(alloc)?;
                 json!(in alloc; {"m": "bye", "q": q.get(), "s": session})
             }
         }

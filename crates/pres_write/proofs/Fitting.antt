@@ -2,7 +2,6 @@
 use Rattle.std.proofs.Common.{◌≡◌, ℕ, [], ◌∷◌, Bool, false, cond, Option, Some, None, is_some, true, refl, sym, ap, ◌∙◌}
 use Rattle.std.specs.Option.{option_map}
 use Rattle.std.specs.Ordering.{eq_by_cmp}
-use Rattle.pres_tree.specs.declared.scalar.Scalar.{Scalar}
 use Rattle.pres_tree.specs.Paths.{Path, path_cmp}
 use Rattle.pres_tree.specs.Rows.{Rows, Fits, leaf_at, with_leaves}
 use Rattle.pres_write.specs.declared.draft.Slot.{Slot}

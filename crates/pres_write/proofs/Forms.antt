@@ -1,6 +1,6 @@
 -- A value without faults is read the same by both forms of values.
-use Rattle.std.proofs.Common.{◌≡◌, ℕ, ◌-◌, ◌+◌, ◌≤◌, ◌++◌, [], ◌∷◌, Bool, true, false, cond, Option, Some, None, is_none, refl, sym, ap, ◌∙◌, arith}
-use Rattle.std.specs.Option.{option_or, option_map}
+use Rattle.std.proofs.Common.{◌≡◌, ℕ, ◌-◌, ◌+◌, ◌++◌, [], ◌∷◌, Bool, true, false, cond, Option, Some, None, is_none, refl, ap, ◌∙◌, arith}
+use Rattle.std.specs.Option.{option_or}
 use Rattle.std.specs.Ordering.{is_lt}
 use Rattle.std.specs.Fmt.{decimal}
 use Rattle.serde_json.specs.Data.{Data, null, boolean, number, string, array, object, Items, no_items, item, Members, no_members, member}

@@ -1,5 +1,5 @@
 -- What a place of the tree holds, as code and as definitions tell it.
-use Rattle.std.proofs.Common.{◌≡◌, ℕ, [], ◌∷◌, Bool, true, false, cond, Option, Some, None, refl, sym, ap, subst, ◌∙◌, true≢false}
+use Rattle.std.proofs.Common.{◌≡◌, ℕ, [], ◌∷◌, Bool, false, cond, Option, Some, None, refl, sym, ap, ◌∙◌, true≢false}
 use Rattle.std.specs.Option.{unwrap_or}
 use Rattle.std.specs.Prelude.{MatchOption, IsTrue, ◌↔◌, option_map}
 use Rattle.pres_tree.specs.declared.scalar.Scalar.{Scalar}

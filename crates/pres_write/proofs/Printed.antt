@@ -1,10 +1,10 @@
 -- A printed operation is read as itself.
-use Rattle.std.proofs.Common.{◌≡◌, ◌-◌, ◌≤◌, [], length, None, Ok, Err, refl, sym, ap, ◌∙◌, arith}
+use Rattle.std.proofs.Common.{◌≡◌, ◌-◌, ◌≤◌, length, None, Ok, Err, ap, ◌∙◌}
 use Rattle.std.specs.Prelude.{IfOk, Result}
 use Rattle.std.specs.declared.alloc.AllocError.{AllocError}
 use Rattle.serde_json.specs.View.{view}
 use Rattle.serde_json.specs.declared.value.Value.{Value}
-use Rattle.serde_json.specs.Data.{Data, null}
+use Rattle.serde_json.specs.Data.{Data}
 use Rattle.pres_tree.specs.Paths.{Path, segments, path_fault, path_text}
 use Rattle.pres_tree.specs.Reading.{rows_of, fault_of}
 use Rattle.pres_tree.specs.Rows.{Rows, height}
@@ -13,7 +13,7 @@ use Rattle.pres_write.specs.declared.draft.Slot.{Slot}
 use Rattle.pres_write.specs.declared.op.Op.{Op}
 use Rattle.pres_write.specs.declared.op.Op.TheVariants.{Set, Tx}
 use Rattle.pres_write.specs.Drafts.{slot_reading, fixed_reading}
-use Rattle.pres_write.specs.OpForms.{unless, op_read, set_read, set_form, remove_form, tx_form}
+use Rattle.pres_write.specs.OpForms.{unless, op_read, set_read, set_form, tx_form}
 use Rattle.pres_write.specs.Transactions.{Comparison}
 use Rattle.pres_write.specs.declared.fault.WriteFault.{WriteFault}
 
@@ -24,11 +24,6 @@ reads_set p v d keys sound reads low =
     ∙ ap (λ q. unless (fault_of slot_reading (33 - length q) d) (Ok (Set (q, rows_of slot_reading d)))) keys
     ∙ ap (λ o. unless o (Ok (Set (p, rows_of slot_reading d)))) (reads.1 (33 - length p) low)
     ∙ ap (λ u. Ok (Set (p, u))) reads.0
-
-pub reads_remove : (p : Path) (v : Rows Slot) → segments (path_text p) ≡ p → path_fault (path_text p) ≡ None → v ≡ [] → op_read (remove_form (path_text p)) ≡ Ok (Set (p, v))
-reads_remove p v keys sound none =
-    let low : height v ≤ 33 - length p = omega (arith, ap height none) in
-    reads_set p v null keys sound (sym none, λ n h. refl) low
 
 pub reads_put : (p : Path) (v : Rows Slot) (d : Data) → segments (path_text p) ≡ p → path_fault (path_text p) ≡ None → ReadsBack slot_reading v d → height v ≤ 33 - length p → op_read (set_form (path_text p) d) ≡ Ok (Set (p, v))
 reads_put p v d keys sound reads low = reads_set p v d keys sound reads low

@@ -2,7 +2,7 @@
 use Rattle.std.proofs.Common.{◌≡◌, List, [], ◌∷◌, ◌++◌, map, Bool, true, false, ◌||◌, refl, sym, ap, ◌∙◌}
 use Rattle.std.specs.List.{list_any}
 use Rattle.pres_tree.specs.declared.scalar.Scalar.{Scalar}
-use Rattle.pres_tree.specs.Paths.{Path, is_prefix, meet, overlap}
+use Rattle.pres_tree.specs.Paths.{Path, meet, overlap}
 use Rattle.pres_tree.specs.Rows.{Rows, InOrder, rows_in}
 use Rattle.pres_tree.specs.Writes.{write, after}
 use Rattle.pres_tree.proofs.Found.{in_order-after, same_rows}

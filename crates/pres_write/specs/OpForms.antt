@@ -1,7 +1,6 @@
--- Operations as JSON:
--- {"op":"set","path":P,"value":V}, {"op":"remove","path":P}, which is the set of null,
--- {"op":"update","path":P,"values":{NAME:V, ..}} and {"expect":E,"op":"tx","path":P,"value":V}.
-use Rattle.std.specs.Prelude.{◌==◌, ◌-◌, ◌+◌, ◌++◌, List, [], ◌∷◌, ℕ, Bool, if◌then◌else◌, codes, drop, length, nat_lt, map, Option, Some, None, Result, Ok, Err}
+-- Operations as JSON: {"op":"set","path":P,"value":V}, {"op":"update","path":P,"values":{NAME:V, ..}} and
+-- {"expect":E,"op":"tx","path":P,"value":V}. Read, not printed: {"op":"remove","path":P}, the set of null.
+use Rattle.std.specs.Prelude.{◌==◌, ◌≡◌, ◌≢◌, ◌⊎◌, ◌-◌, ◌+◌, List, [], ◌∷◌, ℕ, Bool, if◌then◌else◌, codes, drop, length, nat_lt, map, Option, Some, None, Result, Ok, Err}
 use Rattle.std.specs.Option.{option_and_then, option_or}
 use Rattle.std.specs.Ordering.{nat_cmp}
 use Rattle.std.specs.Map.{keys_of}
@@ -9,20 +8,17 @@ use Rattle.std.specs.Cmp.Lexicographic.{pointwise, slice_cmp}
 use Rattle.serde_json.specs.Data.{Data, null, string, object, Members, no_members, member}
 use Rattle.serde_json.specs.Find.{get, as_str, as_object}
 use Rattle.pres_tree.specs.declared.fault.TreeFault.{TreeFault}
-use Rattle.pres_tree.specs.declared.fault.TreeFault.TheVariants.{TooDeep}
-use Rattle.pres_tree.specs.Paths.{Path, segments, path_fault, path_text, path_cmp, sorted_by, overlap}
-use Rattle.pres_tree.specs.Reading.{rows_of, fault_of}
-use Rattle.pres_tree.specs.Rows.{Rows, is_null}
+use Rattle.pres_tree.specs.declared.fault.TreeFault.TheVariants.{Memory, TooDeep}
+use Rattle.pres_tree.specs.Paths.{Path, max_depth, segments, path_fault, path_text, path_cmp, sorted_by, overlap}
+use Rattle.pres_tree.specs.Reading.{levels_below, rows_of, fault_of}
 use Rattle.pres_tree.specs.Printing.{json_of}
 use Rattle.pres_tree.specs.Scalars.{scalar_printing}
-use Rattle.pres_write.specs.declared.draft.Slot.{Slot}
 use Rattle.pres_write.specs.declared.fault.WriteFault.{WriteFault}
 use Rattle.pres_write.specs.declared.fault.WriteFault.TheVariants.{Tree, Overlap, ManyPaths, Shape}
 use Rattle.pres_write.specs.declared.op.Op.{Op}
 use Rattle.pres_write.specs.declared.op.Op.TheVariants.{Set, Update, Tx}
 use Rattle.pres_write.specs.Drafts.{slot_reading, slot_printing, fixed_reading}
 use Rattle.pres_write.specs.Updates.{Places, PlacesBelow, most_places}
-use Rattle.pres_write.specs.Transactions.{Comparison}
 
 -- ---- reading
 
@@ -39,7 +35,7 @@ with_part (Some a) f = f a
 -- the set of a path's text and a JSON value: the path's fault first, then the value's below that path
 abbrev pub set_read : List ℕ → Data → Result Op WriteFault
 set_read text d =
-    unless (path_fault text) (unless (fault_of slot_reading (33 - length (segments text)) d) (Ok (Set (segments text, rows_of slot_reading d))))
+    unless (path_fault text) (unless (fault_of slot_reading (levels_below (segments text)) d) (Ok (Set (segments text, rows_of slot_reading d))))
 
 -- the places of an update by their names, in byte order of these
 abbrev pub places_read : Members → Places
@@ -49,7 +45,9 @@ places_read (member name d ms) = (segments name, rows_of slot_reading d) ∷ pla
 -- what is wrong with a place below the path p: its name as a path, its depth there, its draft there
 abbrev pub place_fault : Path → List ℕ → Data → Option TreeFault
 place_fault p name d =
-    option_or (path_fault name) (if nat_lt 32 (length p + length (segments name)) then Some TooDeep else fault_of slot_reading (33 - (length p + length (segments name))) d)
+    option_or (path_fault name)
+    (if nat_lt max_depth (length p + length (segments name)) then Some TooDeep
+    else fault_of slot_reading (max_depth + 1 - (length p + length (segments name))) d)
 
 abbrev pub places_fault : Path → Members → Option TreeFault
 places_fault p no_members = None
@@ -71,7 +69,7 @@ update_read text ms = unless (path_fault text) (as_update (below_read (segments 
 -- a transaction's expected value, without placeholders, comes before its new one
 abbrev pub tx_read : List ℕ → Data → Data → Result Op WriteFault
 tx_read text expect d =
-    unless (path_fault text) (unless (fault_of fixed_reading (33 - length (segments text)) expect) (unless (fault_of slot_reading (33 - length (segments text)) d)
+    unless (path_fault text) (unless (fault_of fixed_reading (levels_below (segments text)) expect) (unless (fault_of slot_reading (levels_below (segments text)) d)
     (Ok (Tx (record { path = segments text; expect = rows_of fixed_reading expect; new = rows_of slot_reading d })))))
 
 abbrev pub is_word : List ℕ → List ℕ → Bool
@@ -89,10 +87,11 @@ form_read d word text =
 abbrev pub op_read : Data → Result Op WriteFault
 op_read d = with_part (option_and_then as_str (get (codes "op") d)) (λ word. with_part (option_and_then as_str (get (codes "path") d)) (form_read d word))
 
--- ---- printing
+-- the fault by which code refuses what is read so: Memory never in the place of Shape
+abbrev pub IsRefusal : Result Op WriteFault → WriteFault → Type 0
+IsRefusal read e = ((e ≡ Tree Memory) × (read ≢ Err Shape)) ⊎ (read ≡ Err e)
 
-abbrev pub remove_form : List ℕ → Data
-remove_form path = object (member (codes "op") (string (codes "remove")) (member (codes "path") (string path) no_members))
+-- ---- printing
 
 abbrev pub set_form : List ℕ → Data → Data
 set_form path value = object (member (codes "op") (string (codes "set")) (member (codes "path") (string path) (member (codes "value") value no_members)))
@@ -103,10 +102,6 @@ update_form path values = object (member (codes "op") (string (codes "update")) 
 abbrev pub tx_form : List ℕ → Data → Data → Data
 tx_form path expect value =
     object (member (codes "expect") expect (member (codes "op") (string (codes "tx")) (member (codes "path") (string path) (member (codes "value") value no_members))))
-
--- a set of null is printed as a remove
-abbrev pub set_json : Path → Rows Slot → Data
-set_json p v = if is_null v then remove_form (path_text p) else set_form (path_text p) (json_of slot_printing v)
 
 -- a place's name is its text without the leading slash
 abbrev pub named : Places → List (List ℕ × Data)
@@ -122,6 +117,6 @@ values_json places = members_from (sorted_by (slice_cmp nat_cmp) (named places))
 
 -- the JSON value of an operation
 abbrev pub op_json : Op → Data
-op_json (Set p) = set_json p.0 p.1
+op_json (Set p) = set_form (path_text p.0) (json_of slot_printing p.1)
 op_json (Update u) = update_form (path_text u.path) (object (values_json u.places))
 op_json (Tx t) = tx_form (path_text t.path) (json_of scalar_printing t.expect) (json_of slot_printing t.new)

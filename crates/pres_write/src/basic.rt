@@ -1,6 +1,7 @@
 //! Basic writes, and how they change the tree.
 
 ghost use Rattle.std.specs.Prelude.{◌≡◌, ◌+◌, ◌<◌, [], IfOk, IfErr, MatchResult, length, option_copied};
+ghost use Rattle.pres_tree.specs.Paths.{max_depth};
 ghost use Rattle.pres_tree.specs.Rows.{Fits, depth_of, option_of, rows_in};
 ghost use Rattle.pres_tree.specs.declared.fault.TreeFault.TheVariants.{Memory};
 ghost use Rattle.pres_write.specs.Basics.{Apart, basic, FitsThere, AppliesFirst, applied};
@@ -11,14 +12,13 @@ use crate::draft::{Draft, settle};
 use crate::fault::WriteFault;
 use crate::items::Items;
 use crate::moment::Moment;
-use crate::placement::DEEPEST;
-use pres_tree::{Path, Tree, TreeFault};
+use pres_tree::{MAX_DEPTH, Path, Tree, TreeFault};
 use std::alloc::{AllocError, Global};
 use std::marker::Model;
 
 /// One write: a value that takes the place of all that stands at the path, or none, which
-/// removes it. No leaf of the value is more than 32 keys from the root, and null has one form,
-/// none. Contracts see it as the record of both.
+/// removes it. No leaf of the value is more than `MAX_DEPTH` keys from the root, and null has one
+/// form, none. Contracts see it as the record of both.
 #[derive(Drop)]
 pub struct Basic {
     path: Path,
@@ -36,15 +36,15 @@ impl Model for Basic {
 }
 
 impl Basic {
-    /// The write of the value at the path, refused as TooDeep where a leaf would stand below 32
-    /// keys. An empty value counts as none.
+    /// The write of the value at the path, refused as TooDeep where a leaf would stand below
+    /// `MAX_DEPTH` keys. An empty value counts as none.
     pub fn new(path: Path, value: Option<Tree>) -> Result<Basic, TreeFault>
         ensures { MatchResult result
             (λ made. made ≡ basic path (rows_in value))
-            (λ e. (e ≡ TreeFault.TooDeep) × (32 < length path + depth_of (rows_in value))) }
+            (λ e. (e ≡ TreeFault.TooDeep) × (max_depth < length path + depth_of (rows_in value))) }
     {
         let value = value.unwrap_or(Tree::empty());
-        if path.len() + value.depth() > DEEPEST {
+        if path.len() + value.depth() > MAX_DEPTH {
             return Err(TreeFault::TooDeep);
         }
         Ok(Basic {
@@ -81,15 +81,32 @@ impl Basic {
     pub fn copy(&self, alloc: Global) -> Result<Basic, AllocError>
         ensures { IfOk result (λ made. made ≡ self.now) }
     {
-        let value = match &self.value {
-            Some(value) => Some(value.copy(alloc)?),
-            None => None,
-        };
         Ok(Basic {
             path: self.path.copy(alloc)?,
-            value,
+            value: copy_value(alloc, self.value.as_ref())?,
         })
     }
+}
+
+// An equal value, or none.
+pub(crate) fn copy_value(alloc: Global, value: Option<&Tree>) -> Result<Option<Tree>, AllocError>
+    ensures { IfOk result (λ made. made ≡ option_copied value.entry) }
+{
+    match value {
+        Some(value) => Ok(Some(value.copy(alloc)?)),
+        None => Ok(None),
+    }
+}
+
+/// Equal writes.
+pub fn copy_writes(alloc: Global, writes: &[Basic]) -> Result<Items<Basic>, AllocError>
+    ensures { IfOk result (λ made. made ≡ writes.now) }
+{
+    let mut made = Vec::new(alloc);
+    for write in writes {
+        made.push(write.copy(alloc)?)?;
+    }
+    Ok(Items::of(made))
 }
 
 // The write of a draft at its path, its placeholders made the moment.
@@ -123,10 +140,7 @@ pub fn apply(alloc: Global, tree: &mut Tree, writes: &[Basic]) -> Result<(), Wri
     // it ensures that the tree's rows are in order
     let _ = tree.is_empty();
     for write in writes {
-        let value = match &write.value {
-            Some(value) => Some(value.copy(alloc)?),
-            None => None,
-        };
+        let value = copy_value(alloc, write.value.as_ref())?;
         tree.set(alloc, &write.path, value)?;
     }
     Ok(())

@@ -12,7 +12,7 @@ mod placement;
 mod transaction;
 mod update;
 
-pub use basic::{Basic, apply, apply_all, apply_owned};
+pub use basic::{Basic, apply, apply_all, apply_owned, copy_writes};
 pub use draft::{Draft, FixedForm, Slot, settle};
 pub use fault::WriteFault;
 pub use items::Items;
@@ -22,6 +22,3 @@ pub use outcome::{Kept, Outcome};
 pub use placement::Placement;
 pub use transaction::Transaction;
 pub use update::Update;
-
-#[cfg(test)]
-mod tests;

@@ -1,13 +1,13 @@
 //! Operations, in code and in JSON, and what they come to.
 
-ghost use Rattle.std.specs.Prelude.{◌≡◌, ◌⊎◌, [], IfOk, IfErr, Ok, Err, MatchResult, string_bytes};
+ghost use Rattle.std.specs.Prelude.{◌≡◌, [], IfOk, IfErr, Ok, Err, MatchResult, string_bytes};
 ghost use Rattle.serde_json.specs.View.{view};
 ghost use Rattle.pres_tree.specs.declared.fault.TreeFault.TheVariants.{Memory};
 ghost use Rattle.serde_json.specs.Find.{as_object};
 ghost use Rattle.pres_tree.specs.Rows.{Fits};
 ghost use Rattle.pres_write.specs.Basics.{Apart};
 ghost use Rattle.pres_write.specs.Outcomes.{resolved, writes_in};
-ghost use Rattle.pres_write.specs.OpForms.{op_read, form_read, set_read, update_read, tx_read, with_part, op_json, set_json, remove_form, set_form, update_form, tx_form};
+ghost use Rattle.pres_write.specs.OpForms.{op_read, form_read, set_read, update_read, tx_read, with_part, IsRefusal, op_json, set_form, update_form, tx_form};
 ghost use Rattle.pres_write.specs.declared.fault.WriteFault.TheVariants.{Tree as TreeRefused};
 
 use crate::basic::settled_write;
@@ -34,13 +34,6 @@ pub enum Op {
     Tx(Transaction),
 }
 
-// The JSON value of a remove at the path of the text.
-fn remove_form(alloc: Global, path: String) -> Result<Value, AllocError>
-    ensures { IfOk result (λ made. view made ≡ remove_form (string_bytes path)) }
-{
-    json!(in alloc; {"op": "remove", "path": path})
-}
-
 // The JSON value of a set at the path of the text.
 fn set_form(alloc: Global, path: String, value: Value) -> Result<Value, AllocError>
     ensures { IfOk result (λ made. view made ≡ set_form (string_bytes path) (view value)) }
@@ -57,7 +50,8 @@ fn update_form(alloc: Global, path: String, values: Value) -> Result<Value, Allo
 
 // The JSON value of a transaction at the path of the text.
 fn tx_form(alloc: Global, path: String, expect: Value, value: Value) -> Result<Value, AllocError>
-    ensures { IfOk result (λ made. view made ≡ tx_form (string_bytes path) (view expect) (view value)) }
+    ensures { IfOk result (λ made.
+        view made ≡ tx_form (string_bytes path) (view expect) (view value)) }
 {
     json!(in alloc; {"expect": expect, "op": "tx", "path": path, "value": value})
 }
@@ -85,13 +79,10 @@ fn tx_value(alloc: Global, tx: &Transaction) -> Result<Value, AllocError>
 
 // The JSON value of the set of a draft at its path.
 fn set_value(alloc: Global, placement: &Placement) -> Result<Value, AllocError>
-    ensures json { IfOk result (λ made. view made ≡ set_json placement.now.0 placement.now.1) }
+    ensures json { IfOk result (λ made. view made ≡ op_json (Op.Set placement.now)) }
     ensures reads_back { IfOk result (λ made. op_read (view made) ≡ Ok (Op.Set placement.now)) }
 {
     let path = placement.path().text(alloc)?;
-    if placement.draft().is_empty() {
-        return remove_form(alloc, path);
-    }
     let value = placement.draft().to_value(alloc)?;
     set_form(alloc, path, value)
 }
@@ -104,7 +95,8 @@ fn one_write(
     moment: Moment,
 ) -> Result<Outcome, AllocError>
     requires { Fits path draft.now }
-    ensures outcome { IfOk result (λ outcome. outcome ≡ resolved [] moment (Op.Set (path, draft.now))) }
+    ensures outcome { IfOk result (λ outcome.
+        outcome ≡ resolved [] moment (Op.Set (path, draft.now))) }
     ensures apart { IfOk result (λ outcome. Apart (writes_in outcome)) }
 {
     let write = settled_write(alloc, path, draft, moment)?;
@@ -115,7 +107,7 @@ fn one_write(
 fn read_update(alloc: Global, text: &str, values: &Value) -> Result<Op, WriteFault>
     ensures { MatchResult result
         (λ op. with_part (as_object (view values.now)) (update_read text.now) ≡ Ok op)
-        (λ e. (e ≡ TreeRefused Memory) ⊎ (with_part (as_object (view values.now)) (update_read text.now) ≡ Err e)) }
+        (λ e. IsRefusal (with_part (as_object (view values.now)) (update_read text.now)) e) }
 {
     let Some(members) = values.as_object() else {
         return Err(WriteFault::Shape);
@@ -128,7 +120,7 @@ fn read_update(alloc: Global, text: &str, values: &Value) -> Result<Op, WriteFau
 fn read_set(alloc: Global, text: &str, value: &Value) -> Result<Op, WriteFault>
     ensures { MatchResult result
         (λ op. set_read text.now (view value.now) ≡ Ok op)
-        (λ e. (e ≡ TreeRefused Memory) ⊎ (set_read text.now (view value.now) ≡ Err e)) }
+        (λ e. IsRefusal (set_read text.now (view value.now)) e) }
 {
     let path = Path::parse(alloc, text)?;
     let draft = Draft::from_value_below(alloc, value, &path)?;
@@ -139,7 +131,7 @@ fn read_set(alloc: Global, text: &str, value: &Value) -> Result<Op, WriteFault>
 fn read_tx(alloc: Global, text: &str, expect: &Value, value: &Value) -> Result<Op, WriteFault>
     ensures { MatchResult result
         (λ op. tx_read text.now (view expect.now) (view value.now) ≡ Ok op)
-        (λ e. (e ≡ TreeRefused Memory) ⊎ (tx_read text.now (view expect.now) (view value.now) ≡ Err e)) }
+        (λ e. IsRefusal (tx_read text.now (view expect.now) (view value.now)) e) }
 {
     let path = Path::parse(alloc, text)?;
     let expect = Tree::from_value_as::<FixedForm>(alloc, expect, &path)?;
@@ -151,7 +143,7 @@ fn read_tx(alloc: Global, text: &str, expect: &Value, value: &Value) -> Result<O
 fn read_form(alloc: Global, value: &Value, word: &str, text: &str) -> Result<Op, WriteFault>
     ensures { MatchResult result
         (λ op. form_read (view value.now) word.now text.now ≡ Ok op)
-        (λ e. (e ≡ TreeRefused Memory) ⊎ (form_read (view value.now) word.now text.now ≡ Err e)) }
+        (λ e. IsRefusal (form_read (view value.now) word.now text.now) e) }
 {
     if word == "remove" {
         return read_set(alloc, text, &Value::Null);
@@ -183,11 +175,11 @@ impl Op {
     /// Shape; what the path is refused for; of a set what the value is refused for below that
     /// path, of an update ManyPaths, then in byte order of the names what each name as a path and
     /// its value are refused for, then Overlap, of a transaction what the expected value and then
-    /// the new one are refused for.
+    /// the new one are refused for. Memory comes only where it isn't Shape.
     pub fn from_value(alloc: Global, value: &Value) -> Result<Op, WriteFault>
         ensures { MatchResult result
             (λ op. op_read (view value.now) ≡ Ok op)
-            (λ e. (e ≡ TreeRefused Memory) ⊎ (op_read (view value.now) ≡ Err e)) }
+            (λ e. IsRefusal (op_read (view value.now)) e) }
     {
         let Some(word) = value.get("op").and_then(Value::as_str) else {
             return Err(WriteFault::Shape);
@@ -198,8 +190,7 @@ impl Op {
         read_form(alloc, value, word, text)
     }
 
-    /// The JSON value of the operation: a set of null is printed as remove. Read again, it is an
-    /// equal operation.
+    /// The JSON value of the operation. Read again, it is an equal operation.
     pub fn to_value(&self, alloc: Global) -> Result<Value, AllocError>
         ensures json { IfOk result (λ made. view made ≡ op_json self.now) }
         ensures reads_back { IfOk result (λ made. op_read (view made) ≡ Ok self.now) }

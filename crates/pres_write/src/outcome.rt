@@ -3,7 +3,7 @@
 ghost use Rattle.std.specs.Prelude.{◌≡◌, IfOk};
 ghost use Rattle.pres_write.specs.Outcomes.{kept_of};
 
-use crate::basic::Basic;
+use crate::basic::{Basic, copy_value, copy_writes};
 use crate::items::Items;
 use pres_tree::Tree;
 use std::alloc::{AllocError, Global};
@@ -24,15 +24,6 @@ pub enum Kept {
     Stale(Option<Tree>),
 }
 
-fn held_copy(alloc: Global, held: &Option<Tree>) -> Result<Option<Tree>, AllocError>
-    ensures { IfOk result (λ made. made ≡ held.now) }
-{
-    match held {
-        Some(value) => Ok(Some(value.copy(alloc)?)),
-        None => Ok(None),
-    }
-}
-
 impl Outcome {
     /// The outcome without its writes.
     pub fn kept(&self, alloc: Global) -> Result<Kept, AllocError>
@@ -40,7 +31,7 @@ impl Outcome {
     {
         match self {
             Outcome::Wrote(_) => Ok(Kept::Wrote),
-            Outcome::Stale(held) => Ok(Kept::Stale(held_copy(alloc, held)?)),
+            Outcome::Stale(held) => Ok(Kept::Stale(copy_value(alloc, held.as_ref())?)),
         }
     }
 
@@ -49,20 +40,10 @@ impl Outcome {
         ensures { IfOk result (λ made. made ≡ self.now) }
     {
         match self {
-            Outcome::Wrote(writes) => Ok(Outcome::Wrote(copies(alloc, writes)?)),
-            Outcome::Stale(held) => Ok(Outcome::Stale(held_copy(alloc, held)?)),
+            Outcome::Wrote(writes) => Ok(Outcome::Wrote(copy_writes(alloc, writes.as_slice())?)),
+            Outcome::Stale(held) => Ok(Outcome::Stale(copy_value(alloc, held.as_ref())?)),
         }
     }
-}
-
-fn copies(alloc: Global, writes: &Items<Basic>) -> Result<Items<Basic>, AllocError>
-    ensures { IfOk result (λ made. made ≡ writes.now) }
-{
-    let mut made = Vec::new(alloc);
-    for write in writes.as_slice() {
-        made.push(write.copy(alloc)?)?;
-    }
-    Ok(Items::of(made))
 }
 
 impl Kept {
@@ -72,7 +53,7 @@ impl Kept {
     {
         match self {
             Kept::Wrote => Ok(Kept::Wrote),
-            Kept::Stale(held) => Ok(Kept::Stale(held_copy(alloc, held)?)),
+            Kept::Stale(held) => Ok(Kept::Stale(copy_value(alloc, held.as_ref())?)),
         }
     }
 }

@@ -1,19 +1,16 @@
 //! Drafts at their paths.
 
 ghost use Rattle.std.specs.Prelude.{◌≡◌, ◌+◌, ◌<◌, length, IfOk, MatchResult};
-ghost use Rattle.pres_tree.specs.Paths.{IsPath};
+ghost use Rattle.pres_tree.specs.Paths.{IsPath, max_depth};
 ghost use Rattle.pres_tree.specs.Rows.{Fits, depth_of};
 
 use crate::draft::Draft;
-use pres_tree::{Path, TreeFault};
+use pres_tree::{MAX_DEPTH, Path, TreeFault};
 use std::alloc::{AllocError, Global};
 use std::marker::Model;
 
-// The keys from the root to the deepest leaf.
-pub(crate) const DEEPEST: usize = 32;
-
-/// A draft and the path that it is to stand at, where no leaf of it is more than 32 keys from
-/// the root. Contracts see the pair of both.
+/// A draft and the path that it is to stand at, where no leaf of it is more than `MAX_DEPTH`
+/// keys from the root. Contracts see the pair of both.
 #[derive(Drop)]
 pub struct Placement {
     path: Path,
@@ -33,13 +30,14 @@ impl Model for Placement {
 }
 
 impl Placement {
-    /// The draft at the path, refused as TooDeep where a leaf would stand below 32 keys.
+    /// The draft at the path, refused as TooDeep where a leaf would stand below `MAX_DEPTH`
+    /// keys.
     pub fn new(path: Path, draft: Draft) -> Result<Placement, TreeFault>
         ensures { MatchResult result
             (λ p. p ≡ (path, draft))
-            (λ e. (e ≡ TreeFault.TooDeep) × (32 < length path + depth_of draft)) }
+            (λ e. (e ≡ TreeFault.TooDeep) × (max_depth < length path + depth_of draft)) }
     {
-        if path.len() + draft.depth() > DEEPEST {
+        if path.len() + draft.depth() > MAX_DEPTH {
             return Err(TreeFault::TooDeep);
         }
         Ok(Placement { path, draft })

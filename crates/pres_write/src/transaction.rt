@@ -1,25 +1,22 @@
 //! Transactions: a new draft for a place, if that holds the expected value.
 
 ghost use Rattle.std.specs.Prelude.{◌≡◌, ◌↔◌, ◌+◌, ◌<◌, ◌⊎◌, IfOk, IsTrue, MatchResult, length, option_copied};
-ghost use Rattle.pres_tree.specs.Paths.{IsPath};
+ghost use Rattle.pres_tree.specs.Paths.{IsPath, max_depth};
 ghost use Rattle.pres_tree.specs.Rows.{Fits, depth_of, rows_in};
 ghost use Rattle.pres_write.specs.Basics.{Apart};
 ghost use Rattle.pres_write.specs.Outcomes.{compared, writes_in};
 
-use crate::basic::settled_write;
+use crate::basic::{copy_value, settled_write};
 use crate::draft::Draft;
 use crate::items::Items;
 use crate::moment::Moment;
 use crate::outcome::Outcome;
-use pres_tree::{Path, Tree, TreeFault};
+use pres_tree::{MAX_DEPTH, Path, Tree, TreeFault};
 use std::alloc::{AllocError, Global};
 use std::marker::Model;
 
-// The keys from the root to the deepest leaf.
-const DEEPEST: usize = 32;
-
 /// A draft for the path, which is written if the path holds exactly the expected value. No leaf of
-/// either is more than 32 keys from the root.
+/// either is more than `MAX_DEPTH` keys from the root.
 #[derive(Drop)]
 pub struct Transaction {
     path: Path,
@@ -28,25 +25,27 @@ pub struct Transaction {
 }
 
 impl Model for Transaction {
-    ghost use Rattle.pres_write.specs.Transactions.{Comparison, IsTransaction};
+    ghost use Rattle.pres_write.specs.Transactions.{Comparison, comparison, IsTransaction};
 
     ghost Value = { Comparison };
 
-    ghost view = { λ t. record { path = t.path; expect = t.expect; new = t.new } };
+    ghost view = { λ t. comparison t.path t.expect t.new };
 
-    ghost invariant = { λ t. IsTransaction (record { path = t.path; expect = t.expect; new = t.new }) };
+    ghost invariant = { λ t. IsTransaction (comparison t.path t.expect t.new) };
 }
 
 impl Transaction {
-    /// The transaction, refused as TooDeep where a leaf of one of its values would stand below 32
-    /// keys.
+    /// The transaction, refused as TooDeep where a leaf of one of its values would stand below
+    /// `MAX_DEPTH` keys.
     pub fn new(path: Path, expect: Tree, new: Draft) -> Result<Transaction, TreeFault>
         ensures { MatchResult result
             (λ t. t ≡ record { path = path; expect = expect; new = new })
-            (λ e. (e ≡ TreeFault.TooDeep) × ((32 < length path + depth_of expect) ⊎ (32 < length path + depth_of new))) }
+            (λ e. (e ≡ TreeFault.TooDeep)
+            × ((max_depth < length path + depth_of expect)
+            ⊎ (max_depth < length path + depth_of new))) }
     {
         let keys = path.len();
-        if keys + expect.depth() > DEEPEST || keys + new.depth() > DEEPEST {
+        if keys + expect.depth() > MAX_DEPTH || keys + new.depth() > MAX_DEPTH {
             return Err(TreeFault::TooDeep);
         }
         Ok(Transaction { path, expect, new })
@@ -104,7 +103,7 @@ impl Transaction {
     {
         let held = tree.at(&self.path);
         if !self.is_expected(held) {
-            return Ok(Outcome::Stale(copied(alloc, held)?));
+            return Ok(Outcome::Stale(copy_value(alloc, held)?));
         }
         let path = self.path.copy(alloc)?;
         let write = settled_write(alloc, path, &self.new, moment)?;
@@ -120,14 +119,5 @@ impl Transaction {
             expect: self.expect.copy(alloc)?,
             new: self.new.copy(alloc)?,
         })
-    }
-}
-
-fn copied(alloc: Global, held: Option<&Tree>) -> Result<Option<Tree>, AllocError>
-    ensures { IfOk result (λ made. made ≡ option_copied held.entry) }
-{
-    match held {
-        Some(held) => Ok(Some(held.copy(alloc)?)),
-        None => Ok(None),
     }
 }

@@ -10,7 +10,7 @@ ghost use Rattle.pres_tree.specs.declared.fault.TreeFault.TheVariants.{Memory};
 ghost use Rattle.pres_write.specs.Basics.{Apart};
 ghost use Rattle.pres_write.specs.Drafts.{slot_reading};
 ghost use Rattle.pres_write.specs.OpForms.{below_read, place_fault, values_json};
-ghost use Rattle.pres_write.specs.Updates.{FitsBelow, update_writes};
+ghost use Rattle.pres_write.specs.Updates.{FitsBelow, most_places, update_writes};
 ghost use Rattle.pres_write.specs.declared.fault.WriteFault.TheVariants.{Tree as TreeRefused};
 
 use crate::basic::{Basic, settled_write};
@@ -48,7 +48,8 @@ impl Model for Update {
 impl Update {
     /// The update of the drafts under their names, path texts below the path. Refused, in this
     /// order: ManyPaths, then in byte order of the names what a name is refused for as a path,
-    /// TooDeep, what its draft is refused for, and at last Overlap.
+    /// TooDeep, what its draft is refused for, and at last Overlap. Memory comes only where
+    /// the names are not too many.
     pub fn from_members(
         alloc: Global,
         path: Path,
@@ -56,7 +57,8 @@ impl Update {
     ) -> Result<Update, WriteFault>
         ensures { MatchResult result
             (λ update. below_read path (members_view members.now.entries) ≡ Ok update)
-            (λ e. (e ≡ TreeRefused Memory) ⊎ (below_read path (members_view members.now.entries) ≡ Err e)) }
+            (λ e. ((e ≡ TreeRefused Memory) × (length members.now.entries ≤ most_places))
+            ⊎ (below_read path (members_view members.now.entries) ≡ Err e)) }
     {
         if members.len() > MOST {
             return Err(WriteFault::ManyPaths);
@@ -85,18 +87,12 @@ impl Update {
         &self.path
     }
 
-    /// How many places it has.
-    pub fn len(&self) -> usize
-        ensures len { result ≡ length self.now.places }
-        ensures few { result ≤ 256 }
-    {
-        self.places.len()
-    }
-
     /// The JSON object of the drafts under their names. Read again, it is the same update.
     pub fn values(&self, alloc: Global) -> Result<Map<String, Value>, AllocError>
-        ensures json { IfOk result (λ made. members_view made.entries ≡ values_json self.now.places) }
-        ensures reads_back { IfOk result (λ made. below_read self.now.path (members_view made.entries) ≡ Ok self.now) }
+        ensures json { IfOk result (λ made.
+            members_view made.entries ≡ values_json self.now.places) }
+        ensures reads_back { IfOk result (λ made.
+            below_read self.now.path (members_view made.entries) ≡ Ok self.now) }
     {
         let mut values = Map::new(alloc);
         for (place, draft) in self.places.iter() {
@@ -144,7 +140,8 @@ fn read_place(
     value: &Value,
 ) -> Result<(Path, Draft), TreeFault>
     ensures read { MatchResult result
-        (λ place. (place_fault path.now name.now (view value.now) ≡ None) × (place ≡ (segments name.now, rows_of slot_reading (view value.now))))
+        (λ place. (place_fault path.now name.now (view value.now) ≡ None)
+        × (place ≡ (segments name.now, rows_of slot_reading (view value.now))))
         (λ e. (e ≡ Memory) ⊎ (place_fault path.now name.now (view value.now) ≡ Some e)) }
     ensures fits { IfOk result (λ place. FitsBelow path.now place) }
 {
@@ -178,7 +175,7 @@ fn whole_path(alloc: Global, path: &Path, place: &Path) -> Result<Path, AllocErr
 {
     match path.join(alloc, place) {
         Ok(whole) => Ok(whole),
-        // of 32 keys at most, it is never too deep
-        Err(_) => Err(AllocError),
+        Err(TreeFault::Memory) => Err(AllocError),
+        Err(_) => unreachable!(),
     }
 }

@@ -2,7 +2,8 @@
 use Rattle.std.specs.Prelude.{◌≡◌, ◌==◌, ◌≤◌, ℕ, Bool, false, nat_lt, List, [], ◌∷◌, ◌++◌, length, Option, IfSome}
 use Rattle.std.specs.Io.KnownBytes.{Appends, Consumes}
 use Rattle.std.specs.List.{list_any, slice_split}
-use Rattle.presence.specs.Replies.{State, start, limit, reply, next, tree_line}
+use Rattle.pres_wire.specs.UpForms.{longest_text}
+use Rattle.presence.specs.Replies.{State, start, reply, next, tree_line}
 
 -- the pieces between line feeds, also the one after the last
 unfoldable pub lines_of : List ℕ → List (List ℕ)
@@ -62,7 +63,7 @@ pub record Stopped (input rest before after : Option (List ℕ)) : Type 0 where
 
 -- what is kept of a line that has come so far: all of it, or that it is too long
 abbrev pub Holds : List ℕ → List ℕ → Bool → Type 0
-Holds line bytes cut = (cut ≡ nat_lt limit (length line)) × (cut ≡ false → bytes ≡ line)
+Holds line bytes cut = (cut ≡ nat_lt longest_text (length line)) × (cut ≡ false → bytes ≡ line)
 
 -- the bytes have no line feed
 unfoldable pub IsFeedless : List ℕ → Type 0

@@ -15,6 +15,7 @@ use Rattle.pres_write.specs.declared.outcome.Kept.TheVariants.{Wrote, Stale}
 use Rattle.pres_write.specs.declared.op.Op.{Op}
 use Rattle.pres_write.specs.Moments.{last_moment}
 use Rattle.pres_write.specs.OpForms.{op_read}
+use Rattle.pres_wire.specs.UpForms.{longest_text}
 use Rattle.pres_log.specs.Plains.{PlainState, fresh, state_after, kept_after}
 use Rattle.presence.specs.declared.faults.LineFault.{LineFault}
 use Rattle.presence.specs.declared.faults.LineFault.TheVariants.{Write, NotJson, NoMoment, TooLong}
@@ -28,10 +29,6 @@ pub record State : Type 0 where
 -- before the first line
 abbrev pub start : State
 start = record { log = fresh; refused = false }
-
--- the bytes of the longest line that is taken
-abbrev pub limit : ℕ
-limit = 1048576
 
 -- what is answered, and the state then
 abbrev pub Step : Type 0
@@ -86,9 +83,9 @@ data_of line = if is_utf8 line then read line else None
 abbrev pub taken : State → List ℕ → Step
 taken s line = on_data s (data_of line)
 
--- any line: one without bytes is skipped
+-- any line: one without bytes is skipped, and one that is longer than a message may be is refused
 abbrev pub on_line : State → List ℕ → Step
-on_line s line = if length line == 0 then ([], s) else (if nat_lt limit (length line) then refuse s TooLong else taken s line)
+on_line s line = if length line == 0 then ([], s) else (if nat_lt longest_text (length line) then refuse s TooLong else taken s line)
 
 unfoldable pub reply : State → List ℕ → List ℕ
 reply s line = (on_line s line).0

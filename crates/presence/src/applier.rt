@@ -9,13 +9,10 @@ ghost use Rattle.presence.specs.Faults.{EndsAt};
 use crate::faults::{LineFault, RunFault};
 use pres_log::{Fault, Plain};
 use pres_tree::{Tree, TreeFault};
-use pres_write::{Kept, Moment, Op, WriteFault};
+use pres_write::{Kept, MAX_SAFE_INTEGER, Moment, Op, WriteFault};
 use serde_json::Value;
 use std::alloc::{AllocError, Global};
 use std::marker::Model;
-
-// 2^53 - 1, the greatest moment that a line may name.
-const LAST_MOMENT: u64 = 9007199254740991;
 
 /// The log that the lines so far have made, and whether one of them was refused.
 #[derive(Drop)]
@@ -73,7 +70,8 @@ impl Applier {
     }
 
     fn carry_out(&mut self, op: Op, now: Moment, out: &mut Vec<u8>) -> Result<(), RunFault>
-        ensures text { OnOk result (out.new.items ≡ out.old.items ++ (carry_out self.old op now).0) }
+        ensures text { OnOk result
+            (out.new.items ≡ out.old.items ++ (carry_out self.old op now).0) }
         ensures state { OnOk result (self.new ≡ (carry_out self.old op now).1) }
         ensures err { IfErr result (EndsAt self.old.log.number) }
         ensures silent { OnErr result (out.new.items ≡ out.old.items) }
@@ -83,7 +81,7 @@ impl Applier {
             Err(Fault::Spent) => return Err(RunFault::Spent),
             Err(_) => return Err(RunFault::Memory),
         };
-        let text = kept_text(self.alloc, number, &kept)?;
+        let text = kept_text(self.alloc, number.get(), &kept)?;
         out.extend_from_slice(text.as_bytes())?;
         Ok(())
     }
@@ -168,7 +166,7 @@ fn moment_of(value: &Value) -> Option<Moment>
     ensures { result ≡ moment_in (view value.now) }
 {
     let now = value.get("now").and_then(Value::as_u64)?;
-    if now > LAST_MOMENT {
+    if now > MAX_SAFE_INTEGER {
         return None;
     }
     Some(Moment::at(now))

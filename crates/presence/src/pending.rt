@@ -1,20 +1,19 @@
 //! The line that has come so far.
 
 ghost use Rattle.std.specs.Prelude.{◌≡◌, ◌≤◌, ◌++◌, List, ℕ, [], OnOk, vec_len, false};
+ghost use Rattle.pres_wire.specs.UpForms.{longest_text};
 ghost use Rattle.presence.specs.Lines.{Holds};
 
+use pres_wire::MAX_TEXT_BYTES;
 use std::alloc::{AllocError, Global};
 
-// The bytes of the longest line that is taken.
-const LIMIT: usize = 1048576;
-
-/// The line that has come so far, or that it is too long. Of one that is too long nothing is
-/// kept.
+/// The line that has come so far, or that it is too long, as no message may be. Of one that is too
+/// long nothing is kept.
 #[derive(Drop)]
 pub struct Pending {
     bytes: Vec<u8>,
     cut: bool,
-    ghost short: { vec_len bytes ≤ 1048576 },
+    ghost short: { vec_len bytes ≤ longest_text },
 }
 
 impl Pending {
@@ -36,7 +35,7 @@ impl Pending {
         if self.cut {
             return Ok(());
         }
-        if piece.len() > LIMIT - self.bytes.len() {
+        if piece.len() > MAX_TEXT_BYTES - self.bytes.len() {
             self.bytes.clear();
             self.cut = true;
             return Ok(());

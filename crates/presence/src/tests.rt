@@ -102,27 +102,39 @@ fn answers_inputs(rt: HostRuntime) -> Result<(), Fail> {
             0,
         ),
         (
-            "{\"now\":5,\"op\":\"set\",\"path\":\"/t\",\"value\":{\".sv\":\"timestamp\"}}\n{\"now\":3,\"op\":\"set\",\"path\":\"/t\",\"value\":{\".sv\":\"timestamp\"}}\n",
+            r#"{"now":5,"op":"set","path":"/t","value":{".sv":"timestamp"}}
+{"now":3,"op":"set","path":"/t","value":{".sv":"timestamp"}}
+"#,
             "1 wrote\n2 wrote\ntree {\"t\":5}\n",
             0,
         ),
         (
-            "{\"now\":1,\"op\":\"set\",\"path\":\"/é\",\"value\":\"ß\"}\nx\n{\"now\":1,\"op\":\"remove\",\"path\":\"/b\"}\n",
+            r#"{"now":1,"op":"set","path":"/é","value":"ß"}
+x
+{"now":1,"op":"remove","path":"/b"}
+"#,
             "1 wrote\nrefused 12 NotJson\n2 wrote\ntree {\"é\":\"ß\"}\n",
             1,
         ),
         (
-            "{\"now\":1,\"op\":\"set\",\"path\":\"/\",\"value\":null}\n{\"now\":1,\"op\":\"update\",\"path\":\"/\",\"values\":{}}\n",
+            r#"{"now":1,"op":"set","path":"/","value":null}
+{"now":1,"op":"update","path":"/","values":{}}
+"#,
             "1 wrote\n2 wrote\ntree null\n",
             0,
         ),
         (
-            "{\"now\":1,\"op\":\"update\",\"path\":\"/\",\"values\":{\"a/b\":1,\"a\":2}}\n{\"now\":1,\"op\":\"update\",\"path\":\"/\",\"values\":{\"a/b\":1,\"a/c\":null}}\n",
+            r#"{"now":1,"op":"update","path":"/","values":{"a/b":1,"a":2}}
+{"now":1,"op":"update","path":"/","values":{"a/b":1,"a/c":null}}
+"#,
             "refused 9 Overlap\n1 wrote\ntree {\"a\":{\"b\":1}}\n",
             1,
         ),
         (
-            "{\"expect\":null,\"now\":1,\"op\":\"tx\",\"path\":\"/n\",\"value\":1}\n{\"expect\":null,\"now\":1,\"op\":\"tx\",\"path\":\"/n\",\"value\":1}\n{\"expect\":2,\"now\":1,\"op\":\"tx\",\"path\":\"/m\",\"value\":1}\n",
+            r#"{"expect":null,"now":1,"op":"tx","path":"/n","value":1}
+{"expect":null,"now":1,"op":"tx","path":"/n","value":1}
+{"expect":2,"now":1,"op":"tx","path":"/m","value":1}
+"#,
             "1 wrote\n2 stale 1\n3 stale null\ntree {\"n\":1}\n",
             0,
         ),

@@ -1,1 +1,446 @@
-//! Tests of messages.
+//! Tests of messages: what is read and printed, and why texts are refused. A table is a text of
+//! lines, each a case and what it must answer. Each helper holds one message at most.
+
+use pres_tree::{Scalar, Tree};
+use pres_wire::{
+    ClientId, Code, Count, Down, Field, IdFault, MAX_TEXT_BYTES, Number, SessionId, Stamp, Up, Why,
+    WireFault,
+};
+use pres_write::{Kept, MAX_SAFE_INTEGER};
+use serde_json::Value;
+use std::alloc::Global;
+use std::test::Fail;
+
+// The number, and 1 in the place of what is none.
+fn number(value: u64) -> Number {
+    Number::new(value).unwrap_or(Number::first())
+}
+
+fn stamp(incarnation: u64, attempt: u64) -> Stamp {
+    Stamp {
+        incarnation: number(incarnation),
+        attempt: number(attempt),
+    }
+}
+
+fn session(alloc: Global, client: &str) -> Result<SessionId, Fail> {
+    Ok(SessionId::of(ClientId::parse(alloc, client)?, stamp(1, 1)))
+}
+
+// ---- numbers
+
+#[test]
+fn numbers_count_from_1_to_the_greatest(rt: HostRuntime) -> Result<(), Fail> {
+    let first = Count::zero().next().ok_or("no number")?;
+    assert_eq!(rt; first, Number::first());
+    assert_eq!(rt; first.next().ok_or("no number")?.get(), 2);
+    let last = Number::new(9007199254740991).ok_or("no number")?;
+    assert_eq!(rt; last.get(), MAX_SAFE_INTEGER);
+    assert_eq!(rt; last.next(), None);
+    assert_eq!(rt; Number::new(9007199254740992), None);
+    assert_eq!(rt; Number::new(0), None);
+    let all = Count::new(9007199254740991).ok_or("no count")?;
+    assert_eq!(rt; all, Count::up_to(last));
+    assert_eq!(rt; Count::up_to(last).get(), last.get());
+    Ok(())
+}
+
+#[test]
+fn numbers_are_displayed(rt: HostRuntime) -> Result<(), Fail> {
+    let said = format!(in rt.alloc(); "{} {}", number(12), Count::up_to(number(34)))?;
+    assert_eq!(rt; said.as_str(), "12 34");
+    Ok(())
+}
+
+// ---- clients and sessions
+
+// The text of a client id, or why it is refused.
+fn id_answer(alloc: Global, text: &str) -> Result<String, Fail> {
+    match ClientId::parse(alloc, text) {
+        Ok(id) => Ok(String::from_str(alloc, id.text())?),
+        Err(IdFault::NotAnId) => Ok(String::from_str(alloc, "refused")?),
+        Err(IdFault::Memory) => Err("out of memory")?,
+    }
+}
+
+fn second_of(alloc: Global, first: &SessionId) -> Result<SessionId, Fail> {
+    Ok(SessionId::of(first.client.copy(alloc)?, stamp(2, 1)))
+}
+
+#[test]
+fn sessions_of_a_client(rt: HostRuntime) -> Result<(), Fail> {
+    let alice = ClientId::parse(rt.alloc(), "alice")?;
+    let first = SessionId::of(alice, stamp(1, 2));
+    let second = second_of(rt.alloc(), &first)?;
+    let copied = first.copy(rt.alloc())?;
+    assert!(rt; copied == first);
+    assert!(rt; first < second);
+    assert!(rt; first.stamp().is_earlier(&second.stamp()));
+    assert!(rt; !second.stamp().is_earlier(&first.stamp()));
+    let said = format!(in rt.alloc(); "{} {first} {second}", first.stamp())?;
+    assert_eq!(rt; said.as_str(), "1.2 alice/1.2 alice/2.1");
+    Ok(())
+}
+
+fn session_in(alloc: Global, text: &str) -> Result<Option<SessionId>, Fail> {
+    let value = Value::from_str(alloc, text)?;
+    Ok(SessionId::from_value(alloc, &value)?)
+}
+
+// The JSON of the session and of its stamp.
+fn session_json(alloc: Global, session: &SessionId) -> Result<String, Fail> {
+    let value = session.to_value(alloc)?;
+    let stamp = session.stamp().to_value(alloc)?;
+    Ok(format!(in alloc; "{value} {stamp}")?)
+}
+
+// The JSON of a session's JSON, or `none`.
+fn session_answer(alloc: Global, text: &str) -> Result<String, Fail> {
+    match session_in(alloc, text)? {
+        Some(session) => session_json(alloc, &session),
+        None => Ok(String::from_str(alloc, "none")?),
+    }
+}
+
+// ---- messages to the server
+
+fn copied_text(alloc: Global, message: &Up) -> Result<String, Fail> {
+    let copied = message.copy(alloc)?;
+    Ok(copied.encode(alloc)?)
+}
+
+// The text that the message of a text is printed as, or `same`.
+fn message_answer(alloc: Global, text: &str) -> Result<String, Fail> {
+    let message = Up::decode(alloc, text)?;
+    let printed = copied_text(alloc, &message)?;
+    if printed.as_str() == text {
+        return Ok(String::from_str(alloc, "same")?);
+    }
+    Ok(printed)
+}
+
+// The text of the client's write 1, of a case such as `2 OPERATION`.
+fn write_text(alloc: Global, case: &str) -> Result<String, Fail> {
+    let (q, op) = case.split_once(' ').ok_or("no operation")?;
+    Ok(format!(in alloc; r#"{{"m":"op","n":1,"op":{op},"q":{q},"s":["alice",1,1]}}"#)?)
+}
+
+fn fault_of(alloc: Global, text: &str) -> Result<WireFault, Fail> {
+    Ok(Up::decode(alloc, text).err().ok_or("accepted")?)
+}
+
+// The number and the name of a text's refusal, and the refusal.
+fn refusal(alloc: Global, text: &str) -> Result<String, Fail> {
+    let fault = fault_of(alloc, text)?;
+    Ok(format!(in alloc; "{} {} {fault:?}", fault.number(), fault.name())?)
+}
+
+// The message with each value in the place of `_`: its refusal, where another one follows.
+fn field_refusals(alloc: Global, message: &str, values: &str) -> Result<String, Fail> {
+    let (before, after) = message.split_once('_').ok_or("no place")?;
+    let mut last = String::new(alloc);
+    let mut all = String::new(alloc);
+    for value in values.split(" ; ") {
+        let text = format!(in alloc; "{before}{value}{after}")?;
+        let said = refusal(alloc, text.as_str())?;
+        if said != last {
+            all.push_str(said.as_str())?;
+        }
+        last = said;
+    }
+    Ok(all)
+}
+
+fn fields_answer(alloc: Global, case: &str) -> Result<String, Fail> {
+    let (message, values) = case.split_once(" with ").ok_or("no values")?;
+    field_refusals(alloc, message, values)
+}
+
+// What a line of a table is about.
+#[derive(Clone, Copy)]
+enum Table {
+    Ids,
+    Sessions,
+    Messages,
+    Writes,
+    Refusals,
+    RefusedWrites,
+    Fields,
+}
+
+fn answer(alloc: Global, table: Table, case: &str) -> Result<String, Fail> {
+    match table {
+        Table::Ids => id_answer(alloc, case),
+        Table::Sessions => session_answer(alloc, case),
+        Table::Messages => message_answer(alloc, case),
+        Table::Writes => message_answer(alloc, write_text(alloc, case)?.as_str()),
+        Table::Refusals => refusal(alloc, case),
+        Table::RefusedWrites => refusal(alloc, write_text(alloc, case)?.as_str()),
+        Table::Fields => fields_answer(alloc, case),
+    }
+}
+
+// Notes the line where something else is answered.
+fn try_line(alloc: Global, table: Table, line: &str, wrong: &mut String) -> Result<(), Fail> {
+    let (case, wanted) = line.split_once(" => ").ok_or("no answer")?;
+    let said = answer(alloc, table, case)?;
+    if said.as_str() != wanted {
+        wrong.push_str(case)?;
+        wrong.push_str(" => ")?;
+        wrong.push_str(said.as_str())?;
+        wrong.push_str("\n")?;
+    }
+    Ok(())
+}
+
+// The lines that answer something else, each with that.
+fn wrong_in(alloc: Global, table: Table, lines: &str) -> Result<String, Fail> {
+    let mut wrong = String::new(alloc);
+    for line in lines.lines() {
+        try_line(alloc, table, line, &mut wrong)?;
+    }
+    Ok(wrong)
+}
+
+const IDS: &str = "a-Z_09 => a-Z_09
+a! => refused
+ => refused";
+
+const SESSIONS: &str = r#"[ "alice", 1, 2 ] => ["alice",1,2] [1,2]
+["alice",1] => none
+["alice",0,1] => none
+["",1,1] => none
+{"client":"alice"} => none"#;
+
+const MESSAGES: &str = r#"{"m":"hello","s":["alice",1,1]} => same"#;
+
+const WRITES: &str = r#"1 {"op":"set","path":"/a","value":1} => same
+1 {"op":"update","path":"/","values":{"last":{".sv":"timestamp"},"online":null}} => same
+2 {"expect":0,"op":"tx","path":"/n","value":1} => same"#;
+
+const REFUSALS: &str = r#" => 2 NotJson NotJson
+{"m":"beat" => 2 NotJson NotJson
+[] => 4 NoSuchMessage NoSuchMessage
+{} => 4 NoSuchMessage NoSuchMessage
+{"m":"hi"} => 4 NoSuchMessage NoSuchMessage
+{"m":1} => 4 NoSuchMessage NoSuchMessage
+{"m":"hello"} => 5 Field Field(Session)
+{"m":"hello","s":["a!",1,1]} => 5 Field Field(Session)
+{"m":"hello","s":["a",0,1]} => 5 Field Field(Session)
+{"m":"bye","q":0,"s":["a",1,1]} => 5 Field Field(Q)
+{"m":"op","q":1,"n":1} => 5 Field Field(Session)
+{"m":"op","s":["a",1,1],"n":1} => 5 Field Field(Q)
+{"m":"op","s":["a",1,1],"q":1} => 5 Field Field(N)
+{"m":"op","s":["a",1,1],"q":1,"n":1} => 5 Field Field(Op)
+{"m":"op","s":["a",1,1],"q":1,"n":1,"op":null} => 6 Write Write(Shape)
+{"m":"bye","q":1} => 5 Field Field(Session)
+{"m":"bye","s":["a",1,1]} => 5 Field Field(Q)"#;
+
+const REFUSED_WRITES: &str =
+    r#"1 {"op":"set","path":"/a.b","value":1} => 6 Write Write(Tree(BadKey))
+1 {"op":"update","path":"/","values":{"a":2,"a/b":1}} => 6 Write Write(Overlap)"#;
+
+const HELLO_SESSIONS: &str =
+    r#"{"m":"hello","s":_} with null ; {"s":1} ; ["a",1] => 5 Field Field(Session)
+{"m":"hello","s":_} with ["a",1,1,1] ; [1,1,1] ; ["",1,1] => 5 Field Field(Session)
+{"m":"hello","s":_} with ["a",9007199254740992,1] ; ["a",1,"1"] => 5 Field Field(Session)"#;
+
+const OP_SESSIONS: &str =
+    r#"{"m":"op","q":0,"s":_} with null ; "a" ; [] ; ["a",1,0] => 5 Field Field(Session)
+{"m":"op","q":0,"s":_} with ["a",1.0,1] ; ["a",1,9007199254740992] => 5 Field Field(Session)
+{"m":"op","q":0,"s":_} with ["a b",1,1] ; [null,1,1] => 5 Field Field(Session)"#;
+
+const BYE_SESSIONS: &str =
+    r#"{"m":"bye","q":1,"s":_} with null ; true ; ["a"] => 5 Field Field(Session)
+{"m":"bye","q":1,"s":_} with ["a",0,1] ; ["a",1,-1] => 5 Field Field(Session)
+{"m":"bye","q":1,"s":_} with ["a",1,18446744073709551616] => 5 Field Field(Session)
+{"m":"bye","q":1,"s":_} with ["ä",1,1] ; [["a"],1,1] => 5 Field Field(Session)"#;
+
+const NUMBERS: &str = r#"{"m":"op","s":["a",1,1],"q":_} with null ; 0 ; 1.0 ; -1 => 5 Field Field(Q)
+{"m":"op","s":["a",1,1],"q":_} with 9007199254740992 ; "1" ; [1] ; true => 5 Field Field(Q)
+{"m":"op","op":{},"q":1,"s":["a",1,1],"n":_} with null ; 0 ; 1e2 ; -1 => 5 Field Field(N)
+{"m":"op","op":{},"q":1,"s":["a",1,1],"n":_} with 9007199254740992 => 5 Field Field(N)
+{"m":"op","op":{},"q":1,"s":["a",1,1],"n":_} with "1" ; {} ; false => 5 Field Field(N)
+{"m":"bye","s":["a",1,1],"q":_} with null ; 0 ; -0 ; "1" ; [] ; true => 5 Field Field(Q)
+{"m":"bye","s":["a",1,1],"q":_} with 9007199254740992 => 5 Field Field(Q)
+{"m":"bye","s":["a",1,1],"q":_} with 18446744073709551616 => 5 Field Field(Q)"#;
+
+#[test]
+fn ids_are_plain_words(rt: HostRuntime) -> Result<(), Fail> {
+    let wrong = wrong_in(rt.alloc(), Table::Ids, IDS)?;
+    assert_eq!(rt; wrong.as_str(), "");
+    Ok(())
+}
+
+#[test]
+fn sessions_are_read_and_printed(rt: HostRuntime) -> Result<(), Fail> {
+    let wrong = wrong_in(rt.alloc(), Table::Sessions, SESSIONS)?;
+    assert_eq!(rt; wrong.as_str(), "");
+    Ok(())
+}
+
+#[test]
+fn messages_are_read_and_printed(rt: HostRuntime) -> Result<(), Fail> {
+    let wrong = wrong_in(rt.alloc(), Table::Messages, MESSAGES)?;
+    assert_eq!(rt; wrong.as_str(), "");
+    let wrong = wrong_in(rt.alloc(), Table::Writes, WRITES)?;
+    assert_eq!(rt; wrong.as_str(), "");
+    let bye = message_answer(
+        rt.alloc(),
+        r#" {"s":["a",9007199254740991,2],"q":9007199254740991,"m":"bye","more":{"q":0}} "#,
+    )?;
+    assert_eq!(rt;
+        bye.as_str(),
+        r#"{"m":"bye","q":9007199254740991,"s":["a",9007199254740991,2]}"#
+    );
+    Ok(())
+}
+
+#[test]
+fn texts_are_refused(rt: HostRuntime) -> Result<(), Fail> {
+    let wrong = wrong_in(rt.alloc(), Table::Refusals, REFUSALS)?;
+    assert_eq!(rt; wrong.as_str(), "");
+    let wrong = wrong_in(rt.alloc(), Table::RefusedWrites, REFUSED_WRITES)?;
+    assert_eq!(rt; wrong.as_str(), "");
+    let told = WireFault::Field(Field::N).to_string(rt.alloc())?;
+    assert_eq!(rt; told.as_str(), "the field n is missing or wrong");
+    Ok(())
+}
+
+#[test]
+fn fields_are_checked(rt: HostRuntime) -> Result<(), Fail> {
+    for lines in [HELLO_SESSIONS, OP_SESSIONS, BYE_SESSIONS, NUMBERS] {
+        let wrong = wrong_in(rt.alloc(), Table::Fields, lines)?;
+        assert_eq!(rt; wrong.as_str(), "");
+    }
+    Ok(())
+}
+
+// The text of a Hello, filled up with spaces to the longest that is read.
+fn longest_text(alloc: Global) -> Result<String, Fail> {
+    let mut text = String::from_str(alloc, r#"{"m":"hello","s":["a",1,1]}"#)?;
+    for _ in 0..1048576 - 27 {
+        text.push(' ')?;
+    }
+    Ok(text)
+}
+
+#[test]
+fn long_texts_are_refused_first(rt: HostRuntime) -> Result<(), Fail> {
+    assert_eq!(rt; MAX_TEXT_BYTES, 1048576);
+    let mut text = longest_text(rt.alloc())?;
+    assert_eq!(rt; text.len(), 1048576);
+    assert!(rt; Up::decode(rt.alloc(), text.as_str()).is_ok());
+    text.push('x')?;
+    let refused = fault_of(rt.alloc(), text.as_str())?;
+    assert_eq!(rt; refused, WireFault::TooLong);
+    assert_eq!(rt; refused.name(), "TooLong");
+    Ok(())
+}
+
+// ---- messages to clients
+
+fn printed(alloc: Global, message: &Down) -> Result<String, Fail> {
+    let copied = message.copy(alloc)?;
+    Ok(copied.encode(alloc)?)
+}
+
+fn welcome_text(alloc: Global) -> Result<String, Fail> {
+    let message = Down::Welcome {
+        session: session(alloc, "alice")?,
+        z: number(1),
+        ops: Count::zero(),
+    };
+    printed(alloc, &message)
+}
+
+// What a reply's write came to: it wrote, or it was stale over a number.
+fn kept(held: Option<i64>) -> Kept {
+    match held {
+        Some(number) => Kept::Stale(Some(Tree::scalar(Scalar::Int(number)))),
+        None => Kept::Wrote,
+    }
+}
+
+// The reply `r` to the write that the server has under its newest number.
+fn reply_text(
+    alloc: Global,
+    client: &str,
+    r: u64,
+    z: u64,
+    held: Option<i64>,
+) -> Result<String, Fail> {
+    let message = Down::Reply {
+        session: session(alloc, client)?,
+        r: number(r),
+        z: number(z),
+        q: number(2),
+        n: number(1),
+        done: number(z),
+        out: kept(held),
+    };
+    printed(alloc, &message)
+}
+
+fn gone_text(alloc: Global) -> Result<String, Fail> {
+    let message = Down::Gone {
+        session: session(alloc, "alice")?,
+        r: number(3),
+        z: number(6),
+        why: Why::Lost,
+    };
+    printed(alloc, &message)
+}
+
+fn old_text(alloc: Global) -> Result<String, Fail> {
+    let message = Down::Fault {
+        session: Some(session(alloc, "a")?),
+        code: Code::Old(stamp(1, 1)),
+    };
+    printed(alloc, &message)
+}
+
+fn bad_text(alloc: Global) -> Result<String, Fail> {
+    let message = Down::Fault {
+        session: None,
+        code: Code::Bad,
+    };
+    printed(alloc, &message)
+}
+
+#[test]
+fn messages_to_clients_are_printed(rt: HostRuntime) -> Result<(), Fail> {
+    let welcome = welcome_text(rt.alloc())?;
+    assert_eq!(rt;
+        welcome.as_str(),
+        r#"{"m":"welcome","ops":0,"s":["alice",1,1],"z":1}"#
+    );
+    let gone = gone_text(rt.alloc())?;
+    assert_eq!(rt;
+        gone.as_str(),
+        r#"{"m":"gone","r":3,"s":["alice",1,1],"why":"lost","z":6}"#
+    );
+    let old = old_text(rt.alloc())?;
+    assert_eq!(rt;
+        old.as_str(),
+        r#"{"code":2,"last":[1,1],"m":"fault","s":["a",1,1]}"#
+    );
+    let bad = bad_text(rt.alloc())?;
+    assert_eq!(rt; bad.as_str(), r#"{"code":1,"m":"fault","s":null}"#);
+    Ok(())
+}
+
+#[test]
+fn replies_are_printed(rt: HostRuntime) -> Result<(), Fail> {
+    let wrote = reply_text(rt.alloc(), "alice", 2, 5, None)?;
+    assert_eq!(rt;
+        wrote.as_str(),
+        r#"{"done":5,"m":"reply","n":1,"out":"wrote","q":2,"r":2,"s":["alice",1,1],"z":5}"#
+    );
+    let stale = reply_text(rt.alloc(), "bob", 3, 7, Some(1))?;
+    assert_eq!(rt;
+        stale.as_str(),
+        r#"{"done":7,"m":"reply","n":1,"out":{"stale":1},"q":2,"r":3,"s":["bob",1,1],"z":7}"#
+    );
+    Ok(())
+}

@@ -1,1 +1,478 @@
-//! Tests of operations.
+//! Tests of operations as JSON texts: what they leave in a tree, and why they are refused. A table
+//! is a text of lines, each a case and what it must answer. Each helper holds few values at once.
+
+ghost use Rattle.std.specs.Prelude.{IfOk};
+ghost use Rattle.pres_write.specs.Basics.{Apart};
+ghost use Rattle.pres_write.specs.Outcomes.{writes_in};
+
+use pres_tree::{Path, Tree, TreeFault};
+use pres_write::{
+    Basic, Draft, Items, Kept, Moment, Op, Outcome, Placement, Transaction, WriteFault, apply,
+    apply_all, apply_owned, copy_writes,
+};
+use serde_json::Value;
+use std::alloc::Global;
+use std::test::Fail;
+
+// What a line of a table is about.
+#[derive(Clone, Copy)]
+enum Table {
+    Trees,
+    Forms,
+    Faults,
+    Depths,
+    Places,
+    Names,
+    Compares,
+    Writes,
+    Sets,
+    Txs,
+}
+
+fn printed(alloc: Global, tree: &Tree) -> Result<String, Fail> {
+    let value = tree.to_value(alloc)?;
+    Ok(value.to_string(alloc)?)
+}
+
+fn value_of(alloc: Global, text: &str) -> Result<Value, Fail> {
+    Ok(Value::from_str(alloc, text)?)
+}
+
+fn tree_of(alloc: Global, text: &str) -> Result<Tree, Fail> {
+    let value = value_of(alloc, text)?;
+    Ok(Tree::from_value(alloc, &value)?)
+}
+
+fn draft_of(alloc: Global, text: &str) -> Result<Draft, Fail> {
+    let value = value_of(alloc, text)?;
+    Ok(Draft::from_value(alloc, &value)?)
+}
+
+fn op_of(alloc: Global, text: &str) -> Result<Op, Fail> {
+    let value = value_of(alloc, text)?;
+    Ok(Op::from_value(alloc, &value)?)
+}
+
+fn fault_of(alloc: Global, text: &str) -> Result<Option<WriteFault>, Fail> {
+    let value = value_of(alloc, text)?;
+    Ok(Op::from_value(alloc, &value).err())
+}
+
+fn resolved(alloc: Global, op: &Op) -> Result<Outcome, Fail>
+    ensures { IfOk result (λ outcome. Apart (writes_in outcome)) }
+{
+    let tree = Tree::empty();
+    Ok(op.resolve(alloc, &tree, Moment::at(5))?)
+}
+
+fn outcome_of(alloc: Global, op: &Op) -> Result<Outcome, Fail>
+    ensures { IfOk result (λ outcome. Apart (writes_in outcome)) }
+{
+    let outcome = resolved(alloc, op)?;
+    Ok(outcome.copy(alloc)?)
+}
+
+// What the operation writes on the empty tree at the moment 5.
+fn writes_of(alloc: Global, op: &Op) -> Result<Items<Basic>, Fail>
+    ensures { IfOk result (λ writes. Apart writes) }
+{
+    match outcome_of(alloc, op)? {
+        Outcome::Wrote(writes) => Ok(writes),
+        Outcome::Stale(_) => Err("stale")?,
+    }
+}
+
+fn left(alloc: Global, op: &Op) -> Result<String, Fail> {
+    let writes = writes_of(alloc, op)?;
+    let mut tree = Tree::empty();
+    apply(alloc, &mut tree, writes.as_slice())?;
+    printed(alloc, &tree)
+}
+
+fn left_together(alloc: Global, op: &Op) -> Result<String, Fail> {
+    let mut tree = Tree::empty();
+    apply_all(alloc, &mut tree, writes_of(alloc, op)?)?;
+    printed(alloc, &tree)
+}
+
+fn left_moved(alloc: Global, op: &Op) -> Result<String, Fail> {
+    let mut tree = Tree::empty();
+    let writes = writes_of(alloc, op)?.into_vec();
+    apply_owned(alloc, &mut tree, Items::of(writes))?;
+    printed(alloc, &tree)
+}
+
+// The tree that the operation leaves, which each way to apply its writes has to leave.
+fn carried_out(alloc: Global, op: &Op) -> Result<String, Fail> {
+    let text = left(alloc, op)?;
+    if text != left_together(alloc, op)? {
+        return Err("the writes together left another tree")?;
+    }
+    if text != left_moved(alloc, op)? {
+        return Err("the moved writes left another tree")?;
+    }
+    Ok(text)
+}
+
+fn form_of(alloc: Global, op: &Op) -> Result<String, Fail> {
+    let value = op.to_value(alloc)?;
+    Ok(value.to_string(alloc)?)
+}
+
+fn copied_form(alloc: Global, op: &Op) -> Result<String, Fail> {
+    let copied = op.copy(alloc)?;
+    form_of(alloc, &copied)
+}
+
+fn left_by(alloc: Global, text: &str) -> Result<String, Fail> {
+    let op = op_of(alloc, text)?;
+    carried_out(alloc, &op)
+}
+
+fn again(alloc: Global, text: &str) -> Result<String, Fail> {
+    let op = op_of(alloc, text)?;
+    copied_form(alloc, &op)
+}
+
+fn refused(alloc: Global, text: &str) -> Result<String, Fail> {
+    let fault = fault_of(alloc, text)?.ok_or("accepted")?;
+    Ok(format!(in alloc; "{} {}", fault.number(), fault.name())?)
+}
+
+// The number of the operation's refusal, or 0.
+fn number_of(alloc: Global, text: &str) -> Result<u8, Fail> {
+    match fault_of(alloc, text)? {
+        Some(fault) => Ok(fault.number()),
+        None => Ok(0),
+    }
+}
+
+fn number_text(alloc: Global, text: &str) -> Result<String, Fail> {
+    Ok(number_of(alloc, text)?.to_string(alloc)?)
+}
+
+// A path of so many keys.
+fn path_of(alloc: Global, keys: usize) -> Result<String, Fail> {
+    let mut text = String::new(alloc);
+    for _ in 0..keys {
+        text.push_str("/k")?;
+    }
+    Ok(text)
+}
+
+// The set of a value below so many keys.
+fn set_below(alloc: Global, case: &str) -> Result<String, Fail> {
+    let (keys, value) = case.split_once(' ').ok_or("no value")?;
+    let path = path_of(alloc, keys.parse()?)?;
+    Ok(format!(in alloc; r#"{{"op":"set","path":"{path}","value":{value}}}"#)?)
+}
+
+// An update of so many places.
+fn update_of(alloc: Global, places: usize) -> Result<String, Fail> {
+    let mut text = String::from_str(alloc, r#"{"op":"update","path":"/","values":{"p":1"#)?;
+    for place in 1..places {
+        text.push_str(format!(in alloc; ",\"p{place}\":1")?.as_str())?;
+    }
+    text.push_str("}}")?;
+    Ok(text)
+}
+
+// An update of one place by its name and value, below 31 keys.
+fn update_below(alloc: Global, case: &str) -> Result<String, Fail> {
+    let (name, value) = case.split_once(' ').ok_or("no value")?;
+    let path = path_of(alloc, 31)?;
+    Ok(format!(in alloc; r#"{{"op":"update","path":"{path}","values":{{"{name}":{value}}}}}"#)?)
+}
+
+fn compare(alloc: Global, expect: &str) -> Result<Op, Fail> {
+    let text = format!(in alloc; r#"{{"expect":{expect},"op":"tx","path":"/n","value":1}}"#)?;
+    op_of(alloc, text.as_str())
+}
+
+fn compared(alloc: Global, expect: &str) -> Result<Outcome, Fail> {
+    let tree = tree_of(alloc, r#"{"n":{"0":1,"2":{"a":"x"}}}"#)?;
+    Ok(compare(alloc, expect)?.resolve_owned(alloc, &tree, Moment::at(5))?)
+}
+
+fn kept_of(alloc: Global, expect: &str) -> Result<Kept, Fail> {
+    let outcome = compared(alloc, expect)?;
+    Ok(outcome.kept(alloc)?)
+}
+
+fn copied_kept(alloc: Global, expect: &str) -> Result<Kept, Fail> {
+    let kept = kept_of(alloc, expect)?;
+    Ok(kept.copy(alloc)?)
+}
+
+// The value held where a transaction is stale, or none.
+fn held(alloc: Global, expect: &str) -> Result<String, Fail> {
+    match copied_kept(alloc, expect)? {
+        Kept::Stale(Some(held)) => printed(alloc, &held),
+        Kept::Stale(None) => Err("null")?,
+        Kept::Wrote => Ok(String::from_str(alloc, "none")?),
+    }
+}
+
+fn basic_of(alloc: Global, path: &str, value: &str) -> Result<Result<Basic, TreeFault>, Fail> {
+    let tree = tree_of(alloc, value)?;
+    let path = Path::parse(alloc, path)?;
+    Ok(Basic::new(path, Some(tree)))
+}
+
+fn write_text(alloc: Global, write: &Basic) -> Result<String, Fail> {
+    let mut text = write.path().text(alloc)?;
+    text.push(' ')?;
+    match write.value() {
+        Some(value) => text.push_str(printed(alloc, value)?.as_str())?,
+        None => text.push_str("none")?,
+    }
+    Ok(text)
+}
+
+// The first of copies of the write alone.
+fn copied_write(alloc: Global, write: Basic) -> Result<String, Fail> {
+    let one = Items::one(alloc, write)?;
+    let copies = copy_writes(alloc, one.as_slice())?;
+    write_text(alloc, copies.as_slice().first().ok_or("no write")?)
+}
+
+// The write of a value at a path, or the name of its refusal.
+fn write_of(alloc: Global, case: &str) -> Result<String, Fail> {
+    let (path, value) = case.split_once(' ').ok_or("no value")?;
+    match basic_of(alloc, path, value)? {
+        Ok(write) => copied_write(alloc, write),
+        Err(fault) => Ok(String::from_str(alloc, fault.name())?),
+    }
+}
+
+fn placed(alloc: Global, path: &str, value: &str) -> Result<Op, Fail> {
+    let draft = draft_of(alloc, value)?;
+    let path = Path::parse(alloc, path)?;
+    Ok(Op::Set(Placement::new(path, draft)?))
+}
+
+fn expecting(alloc: Global, path: &str, value: &str) -> Result<Op, Fail> {
+    let draft = draft_of(alloc, value)?;
+    let expect = tree_of(alloc, "1")?;
+    let path = Path::parse(alloc, path)?;
+    Ok(Op::Tx(Transaction::new(path, expect, draft)?))
+}
+
+// The set of a value at a path, as it is printed.
+fn set_form(alloc: Global, case: &str) -> Result<String, Fail> {
+    let (path, value) = case.split_once(' ').ok_or("no value")?;
+    let op = placed(alloc, path, value)?;
+    form_of(alloc, &op)
+}
+
+// The transaction that expects 1 at a path, as it is printed.
+fn tx_form(alloc: Global, case: &str) -> Result<String, Fail> {
+    let (path, value) = case.split_once(' ').ok_or("no value")?;
+    let op = expecting(alloc, path, value)?;
+    form_of(alloc, &op)
+}
+
+fn answer(alloc: Global, table: Table, case: &str) -> Result<String, Fail> {
+    match table {
+        Table::Trees => left_by(alloc, case),
+        Table::Forms => again(alloc, case),
+        Table::Faults => refused(alloc, case),
+        Table::Depths => number_text(alloc, set_below(alloc, case)?.as_str()),
+        Table::Places => number_text(alloc, update_of(alloc, case.parse()?)?.as_str()),
+        Table::Names => number_text(alloc, update_below(alloc, case)?.as_str()),
+        Table::Compares => held(alloc, case),
+        Table::Writes => write_of(alloc, case),
+        Table::Sets => set_form(alloc, case),
+        Table::Txs => tx_form(alloc, case),
+    }
+}
+
+fn try_line(alloc: Global, table: Table, line: &str, wrong: &mut String) -> Result<(), Fail> {
+    let (case, wanted) = line.split_once(" => ").ok_or("no answer")?;
+    let got = answer(alloc, table, case)?;
+    if got.as_str() != wanted {
+        wrong.push_str(case)?;
+        wrong.push_str(" => ")?;
+        wrong.push_str(got.as_str())?;
+        wrong.push_str("\n")?;
+    }
+    Ok(())
+}
+
+// The lines that answer something else, each with that.
+fn wrong_in(alloc: Global, table: Table, lines: &str) -> Result<String, Fail> {
+    let mut wrong = String::new(alloc);
+    for line in lines.lines() {
+        try_line(alloc, table, line, &mut wrong)?;
+    }
+    Ok(wrong)
+}
+
+const REFUSED: &str = r#"{"op":"remove"} => 11 Shape
+{"op":"set","path":"/a"} => 11 Shape
+{"op":"update","path":"/a","value":{}} => 11 Shape
+{"op":"update","path":"/a","values":[]} => 11 Shape
+{"op":"tx","path":"/a","value":1} => 11 Shape
+{"op":"tx","path":"/a","expect":1} => 11 Shape
+{"op":"update","path":"/","values":{"a/b":1,"a":2}} => 9 Overlap
+{"op":"update","path":"/","values":{"/a":1,"a":2}} => 9 Overlap
+{"op":"update","path":"/","values":{"":1,"a":null}} => 9 Overlap
+{"op":"update","path":"/","values":{"/a":1,"a":2,"b":{"$":1}}} => 4 BadKey
+{"expect":{".sv":"timestamp"},"op":"tx","path":"/","value":1.0} => 8 Placeholder
+{"expect":1.0,"op":"tx","path":"/","value":{".sv":"now"}} => 6 NotWhole
+[] => 11 Shape
+{"op":"set","path":"/a.b","value":1.0} => 4 BadKey
+{"op":"set","path":"/a","value":{"":1}} => 2 EmptyKey
+{"op":"set","path":"/a","value":{".sv":"timestamp","x":1}} => 8 Placeholder
+{"op":"set","path":"/a","value":{".sv":"time"}} => 8 Placeholder
+{"op":"set","path":"/a","value":9223372036854775808} => 7 Range
+{"op":"set","path":"/a","value":18446744073709551616} => 6 NotWhole
+{"op":"set","path":"/a","value":1.0} => 6 NotWhole
+{"op":"set","path":"/a","value":1e2} => 6 NotWhole"#;
+
+const DEPTHS: &str = r#"31 {"x":1} => 0
+31 {"x":{"y":1}} => 5
+31 {"x":{"y":{".sv":"timestamp"}}} => 5
+32 1 => 0
+33 1 => 5
+33 null => 5"#;
+
+const NAMES: &str = r#"x 1 => 0
+x {"y":1} => 5
+x/y null => 5"#;
+
+const COMPARES: &str = r#"[1,null,{"a":"x"}] => none
+{"2":{"a":"x","b":{}},"0":1} => none
+null => {"0":1,"2":{"a":"x"}}
+[1,null,{"a":"y"}] => {"0":1,"2":{"a":"x"}}"#;
+
+#[test]
+fn operations_leave_trees(rt: HostRuntime) -> Result<(), Fail> {
+    let alloc = rt.alloc();
+    for (text, tree, again) in [
+        (
+            r#"{"op":"set","path":"/v","value":[1,null,2]}"#,
+            r#"{"v":{"0":1,"2":2}}"#,
+            r#"{"op":"set","path":"/v","value":{"0":1,"2":2}}"#,
+        ),
+        (
+            r#"{"op":"set","path":"/t","value":{".sv":"timestamp"}}"#,
+            r#"{"t":5}"#,
+            r#"{"op":"set","path":"/t","value":{".sv":"timestamp"}}"#,
+        ),
+        (
+            r#"{"op":"set","path":"a//b/","value":{"c":[],"d":true}}"#,
+            r#"{"a":{"b":{"d":true}}}"#,
+            r#"{"op":"set","path":"/a/b","value":{"d":true}}"#,
+        ),
+        (
+            r#"{"op":"set","path":"/","value":9223372036854775807}"#,
+            "9223372036854775807",
+            r#"{"op":"set","path":"/","value":9223372036854775807}"#,
+        ),
+        (
+            r#"{"op":"set","path":"/a","value":null}"#,
+            "null",
+            r#"{"op":"set","path":"/a","value":null}"#,
+        ),
+        (
+            r#"{"op":"remove","path":"/a","value":1}"#,
+            "null",
+            r#"{"op":"set","path":"/a","value":null}"#,
+        ),
+        (
+            r#"{"op":"update","path":"/","values":{"a/b":1,"a/c":null}}"#,
+            r#"{"a":{"b":1}}"#,
+            r#"{"op":"update","path":"/","values":{"a/b":1,"a/c":null}}"#,
+        ),
+        (
+            r#"{"op":"update","path":"/p","values":{"/a-b":1,"a/b/":{".sv":"timestamp"}}}"#,
+            r#"{"p":{"a":{"b":5},"a-b":1}}"#,
+            r#"{"op":"update","path":"/p","values":{"a-b":1,"a/b":{".sv":"timestamp"}}}"#,
+        ),
+        (
+            r#"{"op":"update","path":"/p","values":{"//":1}}"#,
+            r#"{"p":1}"#,
+            r#"{"op":"update","path":"/p","values":{"":1}}"#,
+        ),
+        (
+            r#"{"op":"update","path":"/","values":{}}"#,
+            "null",
+            r#"{"op":"update","path":"/","values":{}}"#,
+        ),
+        (
+            r#"{"expect":[null,{}],"op":"tx","path":"/n","value":{"a":2}}"#,
+            r#"{"n":{"a":2}}"#,
+            r#"{"expect":null,"op":"tx","path":"/n","value":{"a":2}}"#,
+        ),
+    ] {
+        let left = answer(alloc, Table::Trees, text)?;
+        assert_eq!(rt; left.as_str(), tree, "at {text}");
+        let printed = answer(alloc, Table::Forms, text)?;
+        assert_eq!(rt; printed.as_str(), again, "at {text}");
+    }
+    Ok(())
+}
+
+#[test]
+fn operations_are_refused(rt: HostRuntime) -> Result<(), Fail> {
+    let wrong = wrong_in(rt.alloc(), Table::Faults, REFUSED)?;
+    assert_eq!(rt; wrong.as_str(), "");
+    Ok(())
+}
+
+#[test]
+fn places_have_at_most_32_keys(rt: HostRuntime) -> Result<(), Fail> {
+    let wrong = wrong_in(rt.alloc(), Table::Depths, DEPTHS)?;
+    assert_eq!(rt; wrong.as_str(), "");
+    Ok(())
+}
+
+#[test]
+fn updates_have_at_most_256_places(rt: HostRuntime) -> Result<(), Fail> {
+    let wrong = wrong_in(rt.alloc(), Table::Places, "256 => 0\n257 => 10")?;
+    assert_eq!(rt; wrong.as_str(), "");
+    let wrong = wrong_in(rt.alloc(), Table::Names, NAMES)?;
+    assert_eq!(rt; wrong.as_str(), "");
+    Ok(())
+}
+
+#[test]
+fn transactions_compare_whole_values(rt: HostRuntime) -> Result<(), Fail> {
+    let wrong = wrong_in(rt.alloc(), Table::Compares, COMPARES)?;
+    assert_eq!(rt; wrong.as_str(), "");
+    Ok(())
+}
+
+const WRITES: &str = r#"/a/b {"c":[1]} => /a/b {"c":{"0":1}}
+/a {"b":{}} => /a none
+/k/k/k/k/k/k/k/k/k/k/k/k/k/k/k/k/k/k/k/k/k/k/k/k/k/k/k/k/k/k/k/k {"x":1} => TooDeep"#;
+
+#[test]
+fn writes_and_operations_are_made(rt: HostRuntime) -> Result<(), Fail> {
+    let wrong = wrong_in(rt.alloc(), Table::Writes, WRITES)?;
+    assert_eq!(rt; wrong.as_str(), "");
+    let alloc = rt.alloc();
+    let set = answer(alloc, Table::Sets, r#"/a {".sv":"timestamp"}"#)?;
+    assert_eq!(rt;
+        set.as_str(),
+        r#"{"op":"set","path":"/a","value":{".sv":"timestamp"}}"#
+    );
+    let tx = answer(alloc, Table::Txs, "/a 2")?;
+    assert_eq!(rt;
+        tx.as_str(),
+        r#"{"expect":1,"op":"tx","path":"/a","value":2}"#
+    );
+    Ok(())
+}
+
+#[test]
+fn moments_are_compared_and_printed(rt: HostRuntime) -> Result<(), Fail> {
+    let early = Moment::at(5);
+    let late = early.max(Moment::at(7));
+    assert!(rt; early < late);
+    assert_eq!(rt; late.millis(), 7);
+    let said = format!(in rt.alloc(); "{early} {}", Moment::at(u64::MAX))?;
+    assert_eq!(rt; said.as_str(), "5 9007199254740991");
+    Ok(())
+}

@@ -1,5 +1,5 @@
-//! Tests of trees: keys, paths and values as texts, what writes leave, and why texts are refused.
-//! Each helper makes one value of another, so that few are alive at once.
+//! Tests of trees: keys, paths and values as texts, what writes leave, and why texts are refused. A
+//! table is a text of lines, each a case and what it must answer. Each helper holds few values.
 
 ghost use Rattle.std.specs.Prelude.{IfOk};
 ghost use Rattle.pres_tree.specs.Rows.{Fits};
@@ -7,7 +7,21 @@ ghost use Rattle.pres_tree.specs.Rows.{Fits};
 use pres_tree::{Key, MAX_DEPTH, Path, Scalar, Text, Tree, TreeFault};
 use serde_json::Value;
 use std::alloc::Global;
+use std::cmp::Ordering;
 use std::test::Fail;
+
+// What a line of a table is about.
+#[derive(Clone, Copy)]
+enum Table {
+    Keys,
+    Paths,
+    LongPaths,
+    Pairs,
+    LongPairs,
+    Values,
+    Nested,
+    Writes,
+}
 
 fn refusal(alloc: Global, fault: TreeFault) -> Result<String, Fail> {
     Ok(format!(in alloc; "{} {}", fault.number(), fault.name())?)
@@ -47,71 +61,30 @@ fn path_answer(alloc: Global, text: &str) -> Result<String, Fail> {
     }
 }
 
-#[test]
-fn path_texts(rt: HostRuntime) -> Result<(), Fail> {
-    let alloc = rt.alloc();
-    let table = [
-        ("a//b/", "/a/b"),
-        ("", "/"),
-        ("/", "/"),
-        ("/a.b", "4 BadKey"),
-        ("/a/#", "4 BadKey"),
-        ("x/\u{7f}", "4 BadKey"),
-        ("/ключ/é", "/ключ/é"),
-    ];
-    for (text, wanted) in table {
-        let said = path_answer(alloc, text)?;
-        assert_eq!(rt; said.as_str(), wanted, "at {text}");
-    }
-    Ok(())
-}
-
-#[test]
-fn key_texts(rt: HostRuntime) -> Result<(), Fail> {
-    let alloc = rt.alloc();
-    for (text, wanted) in [("", "2 EmptyKey"), ("a b", "a b"), ("a/b", "4 BadKey")] {
-        let said = key_answer(alloc, text)?;
-        assert_eq!(rt; said.as_str(), wanted, "at {text}");
-    }
-    Ok(())
-}
-
-#[test]
-fn keys_have_at_most_768_bytes(rt: HostRuntime) -> Result<(), Fail> {
-    let alloc = rt.alloc();
-    let longest = repeated(alloc, "k", 768)?;
-    let said = path_answer(alloc, longest.as_str())?;
-    assert_eq!(rt; said.len(), 769);
-    let longer = repeated(alloc, "k", 769)?;
-    let said = path_answer(alloc, longer.as_str())?;
-    assert_eq!(rt; said.as_str(), "3 LongKey");
-    Ok(())
-}
-
-#[test]
-fn paths_have_at_most_32_keys(rt: HostRuntime) -> Result<(), Fail> {
-    let alloc = rt.alloc();
-    assert_eq!(rt; MAX_DEPTH, 32);
-    let deepest = repeated(alloc, "/a", 32)?;
-    let said = path_answer(alloc, deepest.as_str())?;
-    assert_eq!(rt; said.as_str(), deepest.as_str());
-    let mut deeper = repeated(alloc, "/a", 33)?;
-    let said = path_answer(alloc, deeper.as_str())?;
-    assert_eq!(rt; said.as_str(), "5 TooDeep");
-    deeper.push_str("/[")?;
-    let said = path_answer(alloc, deeper.as_str())?;
-    assert_eq!(rt; said.as_str(), "4 BadKey");
-    Ok(())
-}
-
 fn path_of(alloc: Global, text: &str) -> Result<Path, Fail> {
     Ok(Path::parse(alloc, text)?)
 }
 
-// The path as people read it, its name and how many keys it has.
+// The path as people read it, its name, how many keys it has, and whether it is the root.
 fn said_of(alloc: Global, path: &Path) -> Result<String, Fail> {
     let name = path.name(alloc)?;
-    Ok(format!(in alloc; "{path} {name} {}", path.len())?)
+    Ok(format!(in alloc; "{path} {name} {} {}", path.len(), path.is_root())?)
+}
+
+// How two paths stand to each other.
+fn relation(path: &Path, other: &Path) -> &'static str {
+    match (
+        path.is_prefix_of(other),
+        other.is_prefix_of(path),
+        path.cmp(other),
+    ) {
+        (true, true, Ordering::Equal) => "same",
+        (true, false, Ordering::Less) => "above",
+        (false, true, Ordering::Greater) => "below",
+        (false, false, Ordering::Less) => "before",
+        (false, false, Ordering::Greater) => "after",
+        _ => "wrong",
+    }
 }
 
 fn joined(alloc: Global, path: &Path, other: &Path) -> Result<String, Fail> {
@@ -128,39 +101,50 @@ fn rest(alloc: Global, path: &Path, other: &Path) -> Result<String, Fail> {
     }
 }
 
-// Two paths as one, and what is left of the second below the first.
+fn both(alloc: Global, path: &Path, other: &Path) -> Result<String, Fail> {
+    let joined = joined(alloc, path, other)?;
+    let rest = rest(alloc, path, other)?;
+    Ok(format!(in alloc; "{}, {joined}, {rest}", relation(path, other))?)
+}
+
+// How two paths stand to each other, both as one, and what is left of the second below the first.
 fn two_paths(alloc: Global, path: &str, other: &str) -> Result<String, Fail> {
     let path = path_of(alloc, path)?;
     let other = path_of(alloc, other)?;
-    let mut said = joined(alloc, &path, &other)?;
-    said.push_str(", ")?;
-    said.push_str(rest(alloc, &path, &other)?.as_str())?;
+    both(alloc, &path, &other)
+}
+
+fn pair_answer(alloc: Global, case: &str) -> Result<String, Fail> {
+    let (path, other) = case.split_once(' ').ok_or("no second path")?;
+    two_paths(alloc, path, other)
+}
+
+// The text of a case such as `33 /a+/[`: so many times a part, and an end.
+fn repeated_text(alloc: Global, case: &str) -> Result<String, Fail> {
+    let (count, rest) = case.split_once(' ').ok_or("no part")?;
+    let (part, end) = rest.split_once('+').ok_or("no end")?;
+    let mut text = repeated(alloc, part, count.parse()?)?;
+    text.push_str(end)?;
+    Ok(text)
+}
+
+// The answer for such a text as a path: `same`, a refusal, or how many bytes its text has.
+fn long_path_answer(alloc: Global, case: &str) -> Result<String, Fail> {
+    let text = repeated_text(alloc, case)?;
+    let said = path_answer(alloc, text.as_str())?;
+    if said == text {
+        return Ok(String::from_str(alloc, "same")?);
+    }
+    if said.len() > 100 {
+        return Ok(format!(in alloc; "{} bytes", said.len())?);
+    }
     Ok(said)
 }
 
-#[test]
-fn paths_of_parts(rt: HostRuntime) -> Result<(), Fail> {
-    let alloc = rt.alloc();
-    for (path, other, wanted) in [
-        ("/a", "/a/b", "/a/a/b a/a/b 3, /b b 1"),
-        ("/a/b", "/a", "/a/b/a a/b/a 3, none"),
-        ("/", "/", "/  0, /  0"),
-    ] {
-        let said = two_paths(alloc, path, other)?;
-        assert_eq!(rt; said.as_str(), wanted, "at {path} {other}");
-    }
-    let deepest = repeated(alloc, "/a", 32)?;
-    let said = two_paths(alloc, deepest.as_str(), "/a")?;
-    assert_eq!(rt; said.as_str(), "5 TooDeep, none");
-    Ok(())
-}
-
-#[test]
-fn a_prefix_comes_first(rt: HostRuntime) -> Result<(), Fail> {
-    let a = path_of(rt.alloc(), "/a")?;
-    let ab = path_of(rt.alloc(), "/a/b")?;
-    assert!(rt; a.is_prefix_of(&ab) && !ab.is_prefix_of(&a) && !a.is_root() && a < ab && a != ab);
-    Ok(())
+// Such a text as a path, with the path `/a`.
+fn long_pair_answer(alloc: Global, case: &str) -> Result<String, Fail> {
+    let text = repeated_text(alloc, case)?;
+    two_paths(alloc, text.as_str(), "/a")
 }
 
 fn text_of(alloc: Global, text: &str) -> Result<Text, Fail> {
@@ -205,50 +189,14 @@ fn value_answer(alloc: Global, text: &str) -> Result<String, Fail> {
     }
 }
 
-#[test]
-fn values_of_json(rt: HostRuntime) -> Result<(), Fail> {
-    let alloc = rt.alloc();
-    let table = [
-        ("[1,null,2]", "{\"0\":1,\"2\":2}"),
-        ("{\"a\":{},\"b\":[null,{\"c\":null}]}", "null"),
-        ("{\"b\":true,\"a\":\"x\"}", "{\"a\":\"x\",\"b\":true}"),
-        ("9223372036854775807", "9223372036854775807"),
-        ("-9223372036854775808", "-9223372036854775808"),
-        ("9223372036854775808", "7 Range"),
-        ("18446744073709551616", "6 NotWhole"),
-        ("1.0", "6 NotWhole"),
-        ("1e2", "6 NotWhole"),
-        ("-0", "6 NotWhole"),
-        ("{\"\":null}", "2 EmptyKey"),
-        ("{\"a\":1.5,\"b/\":null}", "6 NotWhole"),
-        ("{\"a/\":null,\"b\":1.5}", "4 BadKey"),
-        ("[1,2,1.5,3,4,5,6,7,8,9,18446744073709551615]", "7 Range"),
-    ];
-    for (text, wanted) in table {
-        let said = value_answer(alloc, text)?;
-        assert_eq!(rt; said.as_str(), wanted, "at {text}");
-    }
-    Ok(())
-}
-
-// The answer for a value that stands below so many keys.
-fn nested_answer(alloc: Global, keys: usize, text: &str) -> Result<String, Fail> {
+// The answer for a value below so many keys.
+fn nested_answer(alloc: Global, case: &str) -> Result<String, Fail> {
+    let (keys, value) = case.split_once(' ').ok_or("no value")?;
+    let keys: usize = keys.parse()?;
     let mut nested = repeated(alloc, "{\"a\":", keys)?;
-    nested.push_str(text)?;
-    for _ in 0..keys {
-        nested.push('}')?;
-    }
+    nested.push_str(value)?;
+    nested.push_str(repeated(alloc, "}", keys)?.as_str())?;
     value_answer(alloc, nested.as_str())
-}
-
-#[test]
-fn scalars_stand_below_at_most_32_keys(rt: HostRuntime) -> Result<(), Fail> {
-    let alloc = rt.alloc();
-    for (text, wanted) in [("null", "null"), ("1", "5 TooDeep")] {
-        let said = nested_answer(alloc, 33, text)?;
-        assert_eq!(rt; said.as_str(), wanted, "at {text}");
-    }
-    Ok(())
 }
 
 // The value of a JSON text that may stand at the path.
@@ -270,7 +218,7 @@ fn put(alloc: Global, tree: &mut Tree, path: &str, text: &str) -> Result<(), Fai
 // The tree that writes leave, each a path and a JSON text.
 fn left(alloc: Global, writes: &str) -> Result<Tree, Fail> {
     let mut tree = Tree::empty();
-    for write in writes.lines() {
+    for write in writes.split(';') {
         let (path, text) = write.split_once(' ').ok_or("no value")?;
         put(alloc, &mut tree, path, text)?;
     }
@@ -300,25 +248,142 @@ fn left_answer(alloc: Global, writes: &str) -> Result<String, Fail> {
     Ok(format!(in alloc; "{json} {} {root} {a}", tree.depth())?)
 }
 
+fn answer(alloc: Global, table: Table, case: &str) -> Result<String, Fail> {
+    match table {
+        Table::Keys => key_answer(alloc, case),
+        Table::Paths => path_answer(alloc, case),
+        Table::LongPaths => long_path_answer(alloc, case),
+        Table::Pairs => pair_answer(alloc, case),
+        Table::LongPairs => long_pair_answer(alloc, case),
+        Table::Values => value_answer(alloc, case),
+        Table::Nested => nested_answer(alloc, case),
+        Table::Writes => left_answer(alloc, case),
+    }
+}
+
+// Notes the line where something else is answered.
+fn try_line(alloc: Global, table: Table, line: &str, wrong: &mut String) -> Result<(), Fail> {
+    let (case, wanted) = line.split_once(" => ").ok_or("no answer")?;
+    let said = answer(alloc, table, case)?;
+    if said.as_str() != wanted {
+        wrong.push_str(case)?;
+        wrong.push_str(" => ")?;
+        wrong.push_str(said.as_str())?;
+        wrong.push_str("\n")?;
+    }
+    Ok(())
+}
+
+// The lines that answer something else, each with that.
+fn wrong_in(alloc: Global, table: Table, lines: &str) -> Result<String, Fail> {
+    let mut wrong = String::new(alloc);
+    for line in lines.lines() {
+        try_line(alloc, table, line, &mut wrong)?;
+    }
+    Ok(wrong)
+}
+
+const KEYS: &str = " => 2 EmptyKey
+a b => a b
+a/b => 4 BadKey";
+
+const PATHS: &str = "a//b/ => /a/b
+ => /
+/ => /
+/a.b => 4 BadKey
+/a/# => 4 BadKey
+x/\u{7f} => 4 BadKey
+/ключ/é => /ключ/é";
+
+const LONG_PATHS: &str = "768 k+ => 769 bytes
+769 k+ => 3 LongKey
+32 /a+ => same
+33 /a+ => 5 TooDeep
+33 /a+/[ => 4 BadKey";
+
+const PAIRS: &str = "/a /a/b => above, /a/a/b a/a/b 3 false, /b b 1 false
+/a/b /a => below, /a/b/a a/b/a 3 false, none
+/a-b /a/b => after, /a-b/a/b a-b/a/b 3 false, none
+/ / => same, /  0 true, /  0 true";
+
+const VALUES: &str = r#"[1,null,2] => {"0":1,"2":2}
+{"a":{},"b":[null,{"c":null}]} => null
+{"b":true,"a":"x"} => {"a":"x","b":true}
+9223372036854775807 => 9223372036854775807
+-9223372036854775808 => -9223372036854775808
+9223372036854775808 => 7 Range
+18446744073709551616 => 6 NotWhole
+1.0 => 6 NotWhole
+1e2 => 6 NotWhole
+-0 => 6 NotWhole
+{"":null} => 2 EmptyKey
+{"a":1.5,"b/":null} => 6 NotWhole
+{"a/":null,"b":1.5} => 4 BadKey
+[1,2,1.5,3,4,5,6,7,8,9,18446744073709551615] => 7 Range"#;
+
+const WRITES: &str = r#"/a 1;/a/b null => {"a":1} 1 object 1
+/a 1;/a/b null;/a/b true => {"a":{"b":true}} 2 object object
+/a 1;/a/b null;/a/b true;/a/b {} => null 0 nothing nothing"#;
+
+#[test]
+fn key_texts(rt: HostRuntime) -> Result<(), Fail> {
+    let wrong = wrong_in(rt.alloc(), Table::Keys, KEYS)?;
+    assert_eq!(rt; wrong.as_str(), "");
+    Ok(())
+}
+
+#[test]
+fn path_texts(rt: HostRuntime) -> Result<(), Fail> {
+    let wrong = wrong_in(rt.alloc(), Table::Paths, PATHS)?;
+    assert_eq!(rt; wrong.as_str(), "");
+    Ok(())
+}
+
+#[test]
+fn keys_have_at_most_768_bytes_and_paths_32_keys(rt: HostRuntime) -> Result<(), Fail> {
+    assert_eq!(rt; MAX_DEPTH, 32);
+    let wrong = wrong_in(rt.alloc(), Table::LongPaths, LONG_PATHS)?;
+    assert_eq!(rt; wrong.as_str(), "");
+    Ok(())
+}
+
+#[test]
+fn paths_of_parts(rt: HostRuntime) -> Result<(), Fail> {
+    let wrong = wrong_in(rt.alloc(), Table::Pairs, PAIRS)?;
+    assert_eq!(rt; wrong.as_str(), "");
+    let wrong = wrong_in(
+        rt.alloc(),
+        Table::LongPairs,
+        "32 /a+ => below, 5 TooDeep, none",
+    )?;
+    assert_eq!(rt; wrong.as_str(), "");
+    Ok(())
+}
+
+#[test]
+fn values_of_json(rt: HostRuntime) -> Result<(), Fail> {
+    let wrong = wrong_in(rt.alloc(), Table::Values, VALUES)?;
+    assert_eq!(rt; wrong.as_str(), "");
+    Ok(())
+}
+
+#[test]
+fn scalars_stand_below_at_most_32_keys(rt: HostRuntime) -> Result<(), Fail> {
+    let wrong = wrong_in(
+        rt.alloc(),
+        Table::Nested,
+        "33 null => null\n33 1 => 5 TooDeep",
+    )?;
+    assert_eq!(rt; wrong.as_str(), "");
+    Ok(())
+}
+
 #[test]
 fn writes_change_the_tree(rt: HostRuntime) -> Result<(), Fail> {
-    let alloc = rt.alloc();
-    for (writes, wanted) in [
-        ("/a 1\n/a/b null", "{\"a\":1} 1 object 1"),
-        (
-            "/a 1\n/a/b null\n/a/b true",
-            "{\"a\":{\"b\":true}} 2 object object",
-        ),
-        (
-            "/a 1\n/a/b null\n/a/b true\n/a/b {}",
-            "null 0 nothing nothing",
-        ),
-    ] {
-        let said = left_answer(alloc, writes)?;
-        assert_eq!(rt; said.as_str(), wanted, "after {writes}");
-    }
+    let wrong = wrong_in(rt.alloc(), Table::Writes, WRITES)?;
+    assert_eq!(rt; wrong.as_str(), "");
     let leaf = Tree::scalar(Scalar::Bool(true));
-    let said = printed(alloc, &leaf)?;
+    let said = printed(rt.alloc(), &leaf)?;
     assert_eq!(rt; said.as_str(), "true");
     Ok(())
 }

@@ -1,13 +1,11 @@
-use Rattle.std.proofs.Common.{◌≡◌, [], ◌∷◌, ◌++◌, length, length-append, Option, refl, sym, ap, subst, ◌∙◌, arith, rules}
-use Rattle.std.specs.Prelude.{option_to_list}
-use Rattle.std.specs.Option.{unwrap_or}
+use Rattle.std.proofs.Common.{◌≡◌, [], ◌∷◌, ◌++◌, length, length-append, Option, sym, ap, subst, ◌∙◌, arith, rules}
 use Rattle.pres_tree.specs.Paths.{Path}
 use Rattle.pres_tree.specs.declared.scalar.Scalar.{Scalar}
 use Rattle.pres_tree.specs.Rows.{Rows, Fits, rows_in}
 use Rattle.pres_tree.specs.Writes.{write, after}
 use Rattle.pres_tree.proofs.Found.{null_is_empty}
 use Rattle.pres_tree.proofs.Undone.{fits_back}
-use Rattle.pres_write.specs.Basics.{Apart, applied, write_of}
+use Rattle.pres_write.specs.Basics.{Apart, applied}
 use Rattle.pres_write.proofs.Applied.{applied_nothing, applied_then}
 use Rattle.pres_write.proofs.Held.{rows_unwrapped}
 use Rattle.pres_write.proofs.Together.{apart_last, put_first}

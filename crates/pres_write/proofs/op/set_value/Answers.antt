@@ -1,27 +1,17 @@
-use Rattle.std.proofs.Common.{◌∙◌, sym, ap, subst}
+use Rattle.std.proofs.Common.{◌∙◌, ap, subst}
 use Rattle.std.specs.Prelude.{string_bytes}
 use Rattle.serde_json.specs.View.{view}
 use Rattle.pres_tree.specs.Paths.{path_text}
 use Rattle.pres_tree.specs.Printing.{ReadsBack}
 use Rattle.pres_tree.specs.Rows.{Rows}
-use Rattle.pres_tree.proofs.Found.{null_is_empty}
 use Rattle.pres_tree.proofs.Texts.{segments-path_text, path_fault-path_text}
 use Rattle.pres_write.specs.declared.draft.Slot.{Slot}
 use Rattle.pres_write.specs.declared.op.Op.TheVariants.{Set}
 use Rattle.pres_write.specs.Drafts.{slot_reading}
-use Rattle.pres_write.specs.OpForms.{op_read, set_form, remove_form}
+use Rattle.pres_write.specs.OpForms.{op_read, set_form}
 use Rattle.pres_write.proofs.Depths.{fits_height}
-use Rattle.pres_write.proofs.Printed.{reads_put, reads_remove, reads_made}
+use Rattle.pres_write.proofs.Printed.{reads_put, reads_made}
 use Rattle.pres_write.proofs.op.set_value.Goals as goal
-
-pub returns-then-is_empty-clause-reads_back : goal.returns-then-is_empty-clause-reads_back
-returns-then-is_empty-clause-reads_back c =
-    let placement = c.args.placement.now in
-    let keys = c.path.ensures.keys in
-    reads_made c.remove_form.result (remove_form (string_bytes c.in_ok-path.path)) (Set placement) c.remove_form.ensures
-    (ap (λ text. op_read (remove_form text)) (c.in_ok-path.ensures.text ∙ ap path_text c.path.ensures.path)
-    ∙ reads_remove placement.0 placement.1 (segments-path_text placement.0 keys) (path_fault-path_text placement.0 keys)
-    (sym c.draft.ensures ∙ null_is_empty c.draft.result.now (sym c.if-is_empty.ensures.null)))
 
 pub returns-clause-reads_back : goal.returns-clause-reads_back
 returns-clause-reads_back c =
@@ -31,5 +21,5 @@ returns-clause-reads_back c =
     reads_made c.set_form.result (set_form (string_bytes c.in_ok-path.path) made) (Set placement) c.set_form.ensures
     (ap (λ text. op_read (set_form text made)) (c.in_ok-path.ensures.text ∙ ap path_text c.path.ensures.path)
     ∙ reads_put placement.0 placement.1 made (segments-path_text placement.0 keys) (path_fault-path_text placement.0 keys)
-    (subst (λ (v : Rows Slot). ReadsBack slot_reading v made) c.draft-2.ensures c.in_ok-value.ensures.reads_back)
+    (subst (λ (v : Rows Slot). ReadsBack slot_reading v made) c.draft.ensures c.in_ok-value.ensures.reads_back)
     (fits_height placement.0 placement.1 c.path.ensures.fits))

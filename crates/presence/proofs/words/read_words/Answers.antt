@@ -3,7 +3,7 @@ use Rattle.std.specs.Result.{IsErrAnd}
 use Rattle.clap.specs.Words.{app_of, kind_of}
 use Rattle.clap.specs.Walk.{Text}
 use Rattle.clap.specs.Takes.{takes}
-use Rattle.presence.proofs.Asked.{asked_name, asked_is_taken, parsed_is_taken}
+use Rattle.presence.proofs.Asked.{asked_is_taken, parsed_is_taken}
 use Rattle.presence.proofs.words.read_words.Goals as goal
 
 -- what `?` passes up

@@ -1,4 +1,4 @@
-use Rattle.std.proofs.Common.{◌≡◌, [], ◌∷◌, true, false, cond, refl, sym, ap, ◌∙◌, rules}
+use Rattle.std.proofs.Common.{◌≡◌, [], ◌∷◌, true, false, cond, sym, ap, ◌∙◌, rules}
 use Rattle.std.specs.Prelude.{IsTrue, ◌↔◌, option_copied}
 use Rattle.pres_tree.specs.Rows.{option_of, rows_in, value_at}
 use Rattle.pres_write.specs.declared.outcome.Outcome.TheVariants.{Wrote, Stale}
@@ -16,7 +16,7 @@ returns-then-not-is_expected-clause-outcome c =
     let rows : rows_in (option_copied c.at-held.result) ≡ v = ap rows_in held ∙ rows_of_option v in
     let test : IsTrue c.is_expected.result ↔ (v ≡ t.expect) = (λ h. sym rows ∙ c.is_expected.ensures.0 h, λ e. c.is_expected.ensures.1 (rows ∙ e)) in
     let no : c.is_expected.result ≡ false = search rules in
-    ap Stale (c.in_ok-copied.ensures ∙ held)
+    ap Stale (c.in_ok-copy_value.ensures ∙ held)
     ∙ sym (compared_as c.args.tree.now c.args.moment t c.is_expected.result test ∙ ap (λ b. cond b (Wrote (basic t.path (settled c.args.moment t.new) ∷ [])) (Stale (option_of v))) no)
 
 pub returns-clause-outcome : goal.returns-clause-outcome

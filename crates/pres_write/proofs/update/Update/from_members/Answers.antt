@@ -53,9 +53,9 @@ returns-in_err-place c =
     let e = c.in_err-place.field-0.0 in
     let small : length (places_read all) ≤ most_places = omega (arith, c.if-len-gt-MOST.false, c.len.ensures.len, length-members c.args.members.now.entries) in
     let here = turn (goal.at.returns-in_err-place c).In-Some in
-    refused_as (λ (u : PlacesBelow). below_read p all ≡ Ok u) (λ (f : WriteFault). (f ≡ Tree Memory) ⊎ (below_read p all ≡ Err f)) c.from_residual.result e c.from_residual.ensures
+    refused_as (λ (u : PlacesBelow). below_read p all ≡ Ok u) (λ (f : WriteFault). ((f ≡ Tree Memory) × (length c.args.members.now.entries ≤ most_places)) ⊎ (below_read p all ≡ Err f)) c.from_residual.result e c.from_residual.ensures
     (elim c.in_err-place.ensures.read [
-      | inl memory ↦ inl (ap Tree memory)
+      | inl memory ↦ inl (ap Tree memory, omega (arith, c.if-len-gt-MOST.false, c.len.ensures.len))
       | inr bad ↦ inr (read_bad p all (members_view c.next.new.self) k d c.loop-name.is_twice c.loop-name.places.entries e here (ap (λ n. place_fault p n d) (sym c.as_str.ensures.value) ∙ bad) small)
     ])
 
