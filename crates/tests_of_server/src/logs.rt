@@ -23,9 +23,10 @@ fn stamping(alloc: Global, name: &str) -> Result<Op, Fail> {
 
 // The number of an operation that wrote.
 fn wrote(answer: Result<(Number, Kept), Fault>) -> Option<u64> {
-    match answer {
-        Ok((number, Kept::Wrote)) => Some(number.get()),
-        _ => None,
+    let (number, kept) = answer.ok()?;
+    match kept {
+        Kept::Wrote => Some(number.get()),
+        Kept::Stale(_) => None,
     }
 }
 

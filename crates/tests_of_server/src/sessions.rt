@@ -1,11 +1,11 @@
 //! Tests of sessions: their counts, their end, and a plan that owes rows.
 
-ghost use Rattle.std.specs.Prelude.{◌≡◌, ◌++◌, ◌∷◌, [], IfOk, OnOk};
+ghost use Rattle.std.specs.Prelude.{◌≡◌, IfOk};
 
 use pres_session::{Due, Gone, Live, NoPlan, Pays, SessionFault, first};
 use pres_tree::Path;
 use pres_wire::{Number, Stamp, Why};
-use pres_write::{Basic, Items, Moment};
+use pres_write::{Basic, Items, Moment, copy_writes};
 use std::alloc::{AllocError, Global};
 use std::test::Fail;
 
@@ -62,14 +62,10 @@ impl Rows {
     }
 
     // Equal rows.
-    fn copy(&self, alloc: Global) -> Result<Vec<Basic>, AllocError>
-        ensures { IfOk result (λ made. made.items ≡ self.now.rows.items) }
+    fn copy(&self, alloc: Global) -> Result<Items<Basic>, AllocError>
+        ensures { IfOk result (λ made. made ≡ self.now.rows.items) }
     {
-        let mut made = Vec::new(alloc);
-        for row in &self.rows {
-            made.push(row.copy(alloc)?)?;
-        }
-        Ok(made)
+        copy_writes(alloc, self.rows.as_slice())
     }
 }
 
@@ -85,7 +81,7 @@ fn pay(alloc: Global, due: Due<Rows>) -> Result<(Gone, usize), Fail> {
     match due.plan().copy(alloc) {
         Ok(rows) => {
             let gone = due.spend(rows.as_slice());
-            Ok((gone, rows.len()))
+            Ok((gone, rows.as_slice().len()))
         }
         Err(refused) => {
             drop(due.put_back());
