@@ -1,5 +1,4 @@
 -- The codes of fault messages.
-use Rattle.std.specs.Prelude.{}
 use Rattle.pres_wire.specs.declared.down.Code.{Code}
 use Rattle.pres_wire.specs.declared.down.Code.TheVariants as code
 use Rattle.pres_log.specs.declared.fault.Fault.{Fault}

@@ -82,9 +82,9 @@ impl Entry {
     }
 }
 
-/// Entries that are made at one moment: one, or the end of a session and the opening of the
-/// next one of its client. Its first entry has the number `first` in the log. Contracts see it as
-/// the record of the three.
+/// Entries that are made at one moment: one, or the end of a session and the opening of one, which
+/// in a server's log is the next of its client. Its first entry has the number `first` in the log.
+/// Contracts see it as the record of the three.
 #[derive(Drop)]
 pub struct Batch {
     first: Number,

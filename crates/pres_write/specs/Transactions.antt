@@ -1,5 +1,4 @@
 -- Transactions: a new draft for a place, if that holds the expected value.
-use Rattle.std.specs.Prelude.{}
 use Rattle.pres_tree.specs.declared.scalar.Scalar.{Scalar}
 use Rattle.pres_tree.specs.Paths.{Path}
 use Rattle.pres_tree.specs.Rows.{Rows, Fits}
