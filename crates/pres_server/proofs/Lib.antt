@@ -11,3 +11,4 @@ pub mod Taken
 pub mod Heard
 pub mod Readers
 pub mod Turned
+pub mod OpenList

@@ -4,12 +4,12 @@ use Rattle.std.specs.List.{list_any, filter}
 use Rattle.std.specs.Option.{option_map}
 use Rattle.pres_wire.specs.declared.id.SessionId.{SessionId}
 use Rattle.pres_wire.specs.Ids.{ClientId, stamp_of}
-use Rattle.pres_session.specs.declared.slot.Slot.TheVariants.{Never, Gone, Live}
 use Rattle.pres_log.specs.declared.entry.Entry.{Entry}
 use Rattle.pres_server.specs.declared.index.Index.{Index}
 use Rattle.pres_server.specs.Sessions.{is_open, count, has_open, sessions_of}
 use Rattle.pres_server.specs.Parts.{Part, LivePart, Sound, part_of, live_in, is_live, count_in}
-use Rattle.pres_server.specs.Index.{Place, session_at, moment_at, live_part, part_at, place_at, Indexed}
+use Rattle.pres_server.specs.Places.{Session, moment_at, live_part}
+use Rattle.pres_server.specs.Index.{session_at, part_at, Indexed}
 use Rattle.pres_server.proofs.Parts.{only_open}
 use Rattle.pres_server.proofs.Decide.{live_is, stamp_itself}
 
@@ -29,11 +29,9 @@ pub count_is : (es : List Entry) (index : Index) (s : SessionId) → Sound es �
 count_is es index s sound ix = ap (λ (p : Part). count_in p.live (stamp_of s)) (ix.parts s.client) ∙ count_by s es sound
 
 -- a client has an open session where its part has one
-some_moment : (place : Option Place) → is_some (moment_at place) ≡ is_some (option_map live_part (session_at place))
+some_moment : (live : Option Session) → is_some (moment_at live) ≡ is_some (option_map live_part live)
 some_moment None = refl
-some_moment (Some Never) = refl
-some_moment (Some (Gone last)) = refl
-some_moment (Some (Live session)) = refl
+some_moment (Some session) = refl
 
 some_live : (p : SessionId → Bool) (es : List Entry) (xs : List SessionId) → is_some (live_in (filter p xs) es) ≡ list_any p xs
 some_live p es [] = refl
@@ -42,8 +40,8 @@ some_live p es (x ∷ xs) = by (p x) (some_live p es xs) where
   by true h = refl
   by false h = h
 
-pub has_open_is : (es : List Entry) (index : Index) (c : ClientId) → Indexed es index → is_some (moment_at (place_at index c)) ≡ has_open c es
+pub has_open_is : (es : List Entry) (index : Index) (c : ClientId) → Indexed es index → is_some (moment_at (session_at index c)) ≡ has_open c es
 has_open_is es index c ix =
-    some_moment (place_at index c)
+    some_moment (session_at index c)
     ∙ ap (λ (p : Part). is_some p.live) (ix.parts c)
     ∙ some_live (λ s. is_open s es) es (sessions_of c es)

@@ -1,14 +1,15 @@
 -- What the index says after one entry more.
 use Rattle.std.proofs.Common.{refl, sym, ◌∙◌, ap, subst, ◌≡◌, ℕ, ◌+◌, ◌-◌, ◌^◌, ◌<◌, ◌≤◌, List, [], ◌∷◌, ◌++◌, length, Bool, true, false, cond, append-nil, arith, length-append, Option, Some, None, is_some, slice_get, ◌==◌, unwrap_or}
 use Rattle.std.specs.Option.{option_map}
+use Rattle.std.specs.BTreeMap.{get, Updates}
 use Rattle.std.proofs.lemmas.Bool.Decides.{nat_tests}
 use Rattle.pres_write.specs.Basics.{applied}
 use Rattle.pres_write.specs.Outcomes.{kept_of, writes_in}
 use Rattle.pres_wire.specs.declared.id.Stamp.{Stamp}
 use Rattle.pres_wire.specs.declared.id.SessionId.{SessionId}
-use Rattle.pres_wire.specs.Ids.{ClientId, same_client, stamp_of}
+use Rattle.pres_wire.specs.Ids.{ClientId, client_cmp, same_client, stamp_of}
 use Rattle.pres_wire.specs.Numbers.{greatest_number}
-use Rattle.pres_session.specs.declared.slot.Slot.TheVariants.{Never, Gone, Live}
+use Rattle.pres_session.specs.declared.gone.Gone.{Gone}
 use Rattle.pres_retry.specs.declared.table.Record.{Record}
 use Rattle.pres_retry.specs.declared.table.Row.{Row}
 use Rattle.pres_retry.specs.Tables.{row, rows_of}
@@ -23,7 +24,8 @@ use Rattle.pres_server.specs.Sessions.{session_of, is_open, open_sessions, count
 use Rattle.pres_server.specs.Streams.{stream, answers_to}
 use Rattle.pres_server.specs.Parts.{Part, LivePart, Sound, part_of, part_step, live_in, answer_by, open_step, comes_after}
 use Rattle.pres_server.specs.Invariants.{MayComeUncounted, MayComeInTurn, MayTakeAll}
-use Rattle.pres_server.specs.Index.{Place, session_at, last_at, live_part, place_after, HasRoom, MayOpen, place_at, part_at, retry_after, tree_after_entry, Steps, MayTake, Indexed}
+use Rattle.pres_server.specs.Places.{Session, last_stamp, live_part, live_after, gone_after, HasRoom, MayOpen}
+use Rattle.pres_server.specs.Index.{session_at, gone_at, part_at, retry_after, tree_after_entry, GoneSteps, Steps, MayTake, Indexed}
 use Rattle.pres_server.proofs.Since.{client_same, client_itself}
 use Rattle.pres_server.proofs.Parts.{part_after, only_open, row_there}
 use Rattle.pres_server.proofs.AfterEntry.{sound_after, open_after, answers_are, same_by_cmp, open_counted}
@@ -32,27 +34,27 @@ use Rattle.pres_server.proofs.Whole.{count_small, stream_small, open_small}
 -- ---- what a client's part says of its place
 
 -- an open session has a number left each way
-room_by : (place : Option Place) (l : LivePart) → option_map live_part (session_at place) ≡ Some l → l.count < greatest_number → l.sent < greatest_number → HasRoom place
+room_by : (live : Option Session) (l : LivePart) → option_map live_part live ≡ Some l → l.count < greatest_number → l.sent < greatest_number → HasRoom live
 room_by None l k a b = absurd (cc)
-room_by (Some Never) l k a b = absurd (cc)
-room_by (Some (Gone last)) l k a b = absurd (cc)
-room_by (Some (Live session)) l k a b =
+room_by (Some session) l k a b =
     let c : session.count ≡ l.count = ap (λ (o : Option LivePart). (unwrap_or o l).count) k in
     let e : session.sent ≡ l.sent = ap (λ (o : Option LivePart). (unwrap_or o l).sent) k in
     (omega arith, omega arith)
 
-room_there : (es : List Entry) (s : SessionId) (index : Index) → Indexed es index → Sound es → is_open s es ≡ true → length es + 1 < 2 ^ 53 → HasRoom (place_at index s.client)
+room_there : (es : List Entry) (s : SessionId) (index : Index) → Indexed es index → Sound es → is_open s es ≡ true → length es + 1 < 2 ^ 53 → HasRoom (session_at index s.client)
 room_there es s index ix sound o small =
     let c = count_small s es in
     let e = stream_small s es in
-    room_by (place_at index s.client) (record { stamp = stamp_of s; count = count s es; sent = length (stream s es) })
+    room_by (session_at index s.client) (record { stamp = stamp_of s; count = count s es; sent = length (stream s es) })
     (ap (λ (p : Part). p.live) (ix.parts s.client) ∙ ap (λ xs. live_in xs es) (only_open s es sound o)) (omega arith) (omega arith)
 
-may_open : (place : Option Place) (stamp : Stamp) → option_map live_part (session_at place) ≡ None → comes_after (last_at place) stamp ≡ true → MayOpen place stamp
-may_open None stamp l k = k
-may_open (Some Never) stamp l k = k
-may_open (Some (Gone last)) stamp l k = k
-may_open (Some (Live session)) stamp l k = absurd (cc)
+may_open : (index : Index) (s : SessionId) → option_map live_part (session_at index s.client) ≡ None → comes_after (last_stamp (session_at index s.client) (gone_at index s.client)) (stamp_of s) ≡ true → MayOpen index.places s
+may_open index s l k =
+    let none : session_at index s.client ≡ None = by (session_at index s.client) l in
+    record { nobody = none; newer = ap (λ live. comes_after (last_stamp live (gone_at index s.client)) (stamp_of s)) (sym none) ∙ k } where
+      by : (live : Option Session) → option_map live_part live ≡ None → live ≡ None
+      by None h = refl
+      by (Some session) h = absurd (cc)
 
 not_next : (n k : ℕ) → n ≤ k → (n == k + 1) ≡ false
 not_next n k h = grind (arith, nat_tests)
@@ -68,23 +70,15 @@ is_again n rows kept low high k =
 -- an entry that may come behind the log may be taken in
 pub takes : (es : List Entry) (m : ℕ) (e : Entry) (index : Index) → Indexed es index → Sound es → MayComeUncounted es m e → length es + 1 < 2 ^ 53 → MayTake index e
 takes es m (entry.Open s) index ix sound f small =
-    let k = open_small es in
-    let c = ix.open_count in (
-      may_open (place_at index s.client) (stamp_of s) (ap (λ (p : Part). p.live) (ix.parts s.client) ∙ ap (λ xs. live_in xs es) f.1)
-          (ap (λ (p : Part). comes_after p.last (stamp_of s)) (ix.parts s.client) ∙ sym (sound.newest s) ∙ f.0),
-      omega arith,
-    )
+    may_open index s (ap (λ (p : Part). p.live) (ix.parts s.client) ∙ ap (λ xs. live_in xs es) f.1)
+    (ap (λ (p : Part). comes_after p.last (stamp_of s)) (ix.parts s.client) ∙ sym (sound.newest s) ∙ f.0)
 takes es m (entry.Op s q n op outcome) index ix sound f small =
     (room_there es s index ix sound f.0.0 small, f.1 ∙ ap (λ (p : Part). length p.rows + 1) (sym (ix.parts s.client)))
 takes es m (entry.Again s q n) index ix sound f small =
     let r = row_there es s.client n f.1 f.2 in
     let k : slice_get (rows_of s.client index.retry) (n - 1) ≡ Some r.0 = ap (λ (p : Part). slice_get p.rows (n - 1)) (ix.parts s.client) ∙ r.1 in
     (room_there es s index ix sound f.0.0 small, r.0, is_again n (rows_of s.client index.retry) r.0 f.1 (subst (λ (p : Part). n ≤ length p.rows) (sym (ix.parts s.client)) f.2) k, k)
-takes es m (entry.Ended s q why rows) index ix sound f small = (
-  room_there es s index ix sound f.0 small,
-  f.2,
-  let n = open_counted s.client es (ap (λ xs. is_some (live_in xs es)) (only_open s es sound f.0)) in let c = ix.open_count in omega arith,
-)
+takes es m (entry.Ended s q why rows) index ix sound f small = (room_there es s index ix sound f.0 small, f.2)
 
 -- ---- the parts after the entry
 
@@ -92,23 +86,18 @@ abbrev rows_after : ℕ → Entry → List Row → List Row
 rows_after z (entry.Op s q n op outcome) rows = rows ++ row z (kept_of outcome) ∷ []
 rows_after z _ rows = rows
 
-abbrev pub part_in : Option Place → List Row → Part
-part_in place rows = record { last = last_at place; rows = rows; live = option_map live_part (session_at place) }
+abbrev pub part_in : Option Session → Option Stamp → List Row → Part
+part_in live last rows = record { last = last_stamp live last; rows = rows; live = option_map live_part live }
 
-step_is : (z m : ℕ) (e : Entry) (place : Option Place) (rows : List Row) → part_in (place_after m e place) (rows_after z e rows) ≡ part_step z e (part_in place rows)
-step_is z m (entry.Open s) place rows = refl
-step_is z m (entry.Op s q n op outcome) None rows = refl
-step_is z m (entry.Op s q n op outcome) (Some Never) rows = refl
-step_is z m (entry.Op s q n op outcome) (Some (Gone last)) rows = refl
-step_is z m (entry.Op s q n op outcome) (Some (Live session)) rows = refl
-step_is z m (entry.Again s q n) None rows = refl
-step_is z m (entry.Again s q n) (Some Never) rows = refl
-step_is z m (entry.Again s q n) (Some (Gone last)) rows = refl
-step_is z m (entry.Again s q n) (Some (Live session)) rows = refl
-step_is z m (entry.Ended s q why due) None rows = refl
-step_is z m (entry.Ended s q why due) (Some Never) rows = refl
-step_is z m (entry.Ended s q why due) (Some (Gone last)) rows = refl
-step_is z m (entry.Ended s q why due) (Some (Live session)) rows = refl
+step_is : (z m : ℕ) (e : Entry) (live : Option Session) (last : Option Stamp) (rows : List Row)
+    → part_in (live_after m e live) (gone_after e live last) (rows_after z e rows) ≡ part_step z e (part_in live last rows)
+step_is z m (entry.Open s) live last rows = refl
+step_is z m (entry.Op s q n op outcome) None last rows = refl
+step_is z m (entry.Op s q n op outcome) (Some session) last rows = refl
+step_is z m (entry.Again s q n) None last rows = refl
+step_is z m (entry.Again s q n) (Some session) last rows = refl
+step_is z m (entry.Ended s q why due) None last rows = refl
+step_is z m (entry.Ended s q why due) (Some session) last rows = refl
 
 rows_own : (z : ℕ) (e : Entry) (table : List Record) → rows_of (session_of e).client (retry_after z e table) ≡ rows_after z e (rows_of (session_of e).client table)
 rows_own z (entry.Open s) table = refl
@@ -127,19 +116,35 @@ rows_other z (entry.Op s q n op outcome) c table h =
 rows_other z (entry.Again s q n) c table h = refl
 rows_other z (entry.Ended s q why due) c table h = refl
 
-pub place_new : (z m : ℕ) (old new : Index) (e : Entry) → Steps z m old new e → (c : ClientId) (b : Bool) → same_client (session_of e).client c ≡ b
-    → place_at new c ≡ cond b (place_after m e (place_at old (session_of e).client)) (place_at old c)
-place_new z m old new e st c b h =
-    st.places.0 c ∙ ap (λ t. cond t (place_after m e (place_at old (session_of e).client)) (place_at old c)) (same_by_cmp (session_of e).client c ∙ h)
+pub live_new : (z m : ℕ) (old new : Index) (e : Entry) → Steps z m old new e → (c : ClientId) (b : Bool) → same_client (session_of e).client c ≡ b
+    → session_at new c ≡ cond b (live_after m e (session_at old (session_of e).client)) (session_at old c)
+live_new z m old new e st c b h =
+    st.live.0 c ∙ ap (λ t. cond t (live_after m e (session_at old (session_of e).client)) (session_at old c)) (same_by_cmp (session_of e).client c ∙ h)
+
+-- who is gone: a map in which the client's entry is changed, and one that stays
+gone_changed : (old new : Index) (k : ClientId) (g : Option Gone) → Updates client_cmp old.places.gone new.places.gone k g → (c : ClientId) (b : Bool) → same_client k c ≡ b → gone_at new c ≡ cond b g (gone_at old c)
+gone_changed old new k g st c b h = st.0 c ∙ ap (λ t. cond t g (gone_at old c)) (same_by_cmp k c ∙ h)
+
+gone_stays : (old new : Index) (k : ClientId) → new.places.gone ≡ old.places.gone → (c : ClientId) (b : Bool) → same_client k c ≡ b → gone_at new c ≡ cond b (gone_at old k) (gone_at old c)
+gone_stays old new k st c true h = ap (λ m. get client_cmp m c) st ∙ ap (gone_at old) (sym (client_same k c h))
+gone_stays old new k st c false h = ap (λ m. get client_cmp m c) st
+
+gone_new : (old new : Index) (e : Entry) → GoneSteps old new e → (c : ClientId) (b : Bool) → same_client (session_of e).client c ≡ b
+    → gone_at new c ≡ cond b (gone_after e (session_at old (session_of e).client) (gone_at old (session_of e).client)) (gone_at old c)
+gone_new old new (entry.Open s) st c b h = gone_changed old new s.client None st c b h
+gone_new old new (entry.Op s q n op outcome) st c b h = gone_stays old new s.client st c b h
+gone_new old new (entry.Again s q n) st c b h = gone_stays old new s.client st c b h
+gone_new old new (entry.Ended s q why rows) st c b h = gone_changed old new s.client (last_stamp (session_at old s.client) (gone_at old s.client)) st c b h
 
 part_own : (z m : ℕ) (old new : Index) (e : Entry) → Steps z m old new e → part_at new (session_of e).client ≡ part_step z e (part_at old (session_of e).client)
 part_own z m old new e st =
     let c = (session_of e).client in
-    (λ i. part_in (place_new z m old new e st c true (client_itself c) i) ((ap (rows_of c) st.retry ∙ rows_own z e old.retry) i))
-    ∙ step_is z m e (place_at old c) (rows_of c old.retry)
+    (λ i. part_in (live_new z m old new e st c true (client_itself c) i) (gone_new old new e st.gone c true (client_itself c) i) ((ap (rows_of c) st.retry ∙ rows_own z e old.retry) i))
+    ∙ step_is z m e (session_at old c) (gone_at old c) (rows_of c old.retry)
 
 part_kept : (z m : ℕ) (old new : Index) (e : Entry) → Steps z m old new e → (c : ClientId) → same_client (session_of e).client c ≡ false → part_at new c ≡ part_at old c
-part_kept z m old new e st c h = λ i. part_in (place_new z m old new e st c false h i) ((ap (rows_of c) st.retry ∙ rows_other z e c old.retry h) i)
+part_kept z m old new e st c h =
+    λ i. part_in (live_new z m old new e st c false h i) (gone_new old new e st.gone c false h i) ((ap (rows_of c) st.retry ∙ rows_other z e c old.retry h) i)
 
 nothing : (es : List Entry) → applied (tree es) [] ≡ tree es
 nothing es = sym (tree-append es []) ∙ ap tree (append-nil es)
@@ -152,7 +157,7 @@ tree_step es (entry.Ended s q why due) = tree-append es (entry.Ended s q why due
 
 -- the index says what the entries say, with one more
 pub indexed_after : (es : List Entry) (m : ℕ) (old new : Index) (e : Entry) → Indexed es old → Sound es → MayComeUncounted es m e → Steps (length es + 1) m old new e → Indexed (es ++ e ∷ []) new
-indexed_after es m old new e ix sound f st = record { parts = parts; open_count = opens; tree = the_tree } where
+indexed_after es m old new e ix sound f st = record { parts = parts; tree = the_tree } where
   z : ℕ
   z = length es + 1
 
@@ -164,9 +169,6 @@ indexed_after es m old new e ix sound f st = record { parts = parts; open_count 
     by : (b : Bool) → same_client k c ≡ b → part_at new c ≡ cond b (part_step z e (part_of c es)) (part_of c es)
     by true h = subst (λ x. part_at new x ≡ part_step z e (part_at old x)) (client_same k c h) (part_own z m old new e st) ∙ ap (part_step z e) (ix.parts c)
     by false h = part_kept z m old new e st c h ∙ ix.parts c
-
-  opens : new.open_count ≡ length (open_sessions (es ++ e ∷ []))
-  opens = st.open_count ∙ ap (open_step e) ix.open_count ∙ sym (open_after es m e sound f)
 
   the_tree : new.tree ≡ tree (es ++ e ∷ [])
   the_tree = st.tree ∙ ap (tree_after_entry e) ix.tree ∙ sym (tree_step es e)

@@ -16,27 +16,33 @@ use Rattle.pres_server.specs.Parts.{client_in, wanted_by, limited_by}
 use Rattle.pres_server.specs.Heard.{heard_after_all}
 use Rattle.pres_server.specs.Index.{part_at, heard_in, Indexed, Tells}
 use Rattle.pres_server.specs.Invariants.{MayTakeAll, Holds, Waits}
+use Rattle.pres_server.specs.Sessions.{open_sessions}
+use Rattle.pres_server.specs.Places.{open_count}
+use Rattle.pres_server.proofs.OpenList.{open_count_is}
 use Rattle.pres_server.proofs.Decide.{wanted_is, wanted_allowed, limited_is}
 use Rattle.pres_server.proofs.Whole.{legal_is_sound, legal_leaves_room, legal_after, follows_in_turn}
 use Rattle.pres_server.specs.Parts.{Part}
 use Rattle.pres_server.proofs.AfterEntry.{open_counted}
 use Rattle.pres_server.proofs.Heard.{heard_is, heard_sorted, sorted_after_all}
 
+count_is : (log : Log) (moment : ℕ) (index : Index) → Holds log moment index → open_count index.places ≡ length (open_sessions (entries log))
+count_is log moment index kept = open_count_is (entries log) index kept.indexed (legal_is_sound log kept.legal) kept.ordered
+
 -- the numbers are far from the last one
 pub number_small : (log : Log) (moment : ℕ) (index : Index) → Holds log moment index → number log < 2 ^ 53
 number_small log moment index kept = let room = legal_leaves_room log kept.legal in omega arith
 
-pub open_small : (log : Log) (moment : ℕ) (index : Index) → Holds log moment index → index.open_count < 2 ^ 53
+pub open_small : (log : Log) (moment : ℕ) (index : Index) → Holds log moment index → open_count index.places < 2 ^ 53
 open_small log moment index kept =
     let room = legal_leaves_room log kept.legal in
-    let count = kept.indexed.open_count in
+    let count = count_is log moment index kept in
     omega arith
 
 -- an open session is counted
-pub counted : (log : Log) (moment : ℕ) (index : Index) → Holds log moment index → (c : ClientId) → IsSome (part_at index c).live → 0 < index.open_count
+pub counted : (log : Log) (moment : ℕ) (index : Index) → Holds log moment index → (c : ClientId) → IsSome (part_at index c).live → 0 < open_count index.places
 counted log moment index kept c h =
     let n = open_counted c (entries log) (sym (ap (λ (p : Part). is_some p.live) (kept.indexed.parts c)) ∙ h) in
-    let count = kept.indexed.open_count in
+    let count = count_is log moment index kept in
     omega arith
 
 pub moment_is : (log : Log) (moment now : ℕ) (index : Index) → Holds log moment index → now ≤ moments.last_moment → max moment now ≡ moment_of log now
@@ -44,14 +50,14 @@ moment_is log moment now index kept low = let last = kept.last in omega arith
 
 -- what the index decides is the turn
 pub turned : (log : Log) (moment now : ℕ) (index : Index) (i : Input) → Holds log moment index → now ≤ moments.last_moment
-    → turn log i now ≡ limited_by (number log) index.open_count (wanted_by (part_at index (client_in i)) index.tree (max moment now) i)
+    → turn log i now ≡ limited_by (number log) (open_count index.places) (wanted_by (part_at index (client_in i)) index.tree (max moment now) i)
 turned log moment now index i kept low =
     let es = entries log in
     let sound = legal_is_sound log kept.legal in
     let m = moment_of log now in
     limited_is es m (wanted es m i) sound (wanted_allowed es m i sound)
-    ∙ (λ x. limited_by (length es) (sym kept.indexed.open_count x) (wanted_is es m i sound x))
-    ∙ (λ x. limited_by (length es) index.open_count (wanted_by (sym (kept.indexed.parts (client_in i)) x) (sym kept.indexed.tree x) (sym (moment_is log moment now index kept low) x) i))
+    ∙ (λ x. limited_by (length es) (sym (count_is log moment index kept) x) (wanted_is es m i sound x))
+    ∙ (λ x. limited_by (length es) (open_count index.places) (wanted_by (sym (kept.indexed.parts (client_in i)) x) (sym kept.indexed.tree x) (sym (moment_is log moment now index kept low) x) i))
 
 -- ---- the commit
 
@@ -67,7 +73,7 @@ fitting log moment index b kept waits =
       room = omega arith;
     }
 
-pub kept_after : (log : Log) (moment : ℕ) (index new : Index) (b : Batch) → Holds log moment index → MayFollow log b → Indexed (entries log ++ b.entries) new → IsOrdered client_cmp new.places → Holds (log ++ b ∷ []) b.moment new
+pub kept_after : (log : Log) (moment : ℕ) (index new : Index) (b : Batch) → Holds log moment index → MayFollow log b → Indexed (entries log ++ b.entries) new → IsOrdered client_cmp new.places.live → Holds (log ++ b ∷ []) b.moment new
 kept_after log moment index new b kept follows ix ordered =
     let last = last_moment-push log b in
     let later = follows.not_earlier in
@@ -78,7 +84,7 @@ kept_after log moment index new b kept follows ix ordered =
       ordered = ordered;
     }
 
-pub heard_done : (m : ℕ) (es : List Entry) (old new : Index) → IsOrdered client_cmp old.places → IsOrdered client_cmp new.places → Tells (heard_after_all m es (heard_in old)) new → heard_in new ≡ heard_after_all m es (heard_in old)
+pub heard_done : (m : ℕ) (es : List Entry) (old new : Index) → IsOrdered client_cmp old.places.live → IsOrdered client_cmp new.places.live → Tells (heard_after_all m es (heard_in old)) new → heard_in new ≡ heard_after_all m es (heard_in old)
 heard_done m es old new o p t = heard_is (heard_after_all m es (heard_in old)) new (sorted_after_all m es (heard_in old) (heard_sorted old o)) p t
 
 -- the batch is the one of the turn

@@ -36,7 +36,7 @@ pub record Holds (log : Log) (moment : ℕ) (index : Index) : Type 0 where
   pub legal : IsLegal log
   pub indexed : Indexed (entries log) index
   pub last : moment ≡ last_moment log
-  pub ordered : IsOrdered client_cmp index.places
+  pub ordered : IsOrdered client_cmp index.places.live
 
 -- a batch that waits for its commit
 pub record Waits (log : Log) (batch : Batch) : Type 0 where

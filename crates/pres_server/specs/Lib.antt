@@ -5,6 +5,7 @@ pub mod LegalLog
 pub mod Heard
 pub mod Turns
 pub mod Parts
+pub mod Places
 pub mod Index
 pub mod Invariants
 pub mod Laws

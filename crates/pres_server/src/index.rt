@@ -10,30 +10,27 @@ ghost use Rattle.pres_wire.specs.Ids.{ClientId, client_cmp, stamp_of};
 ghost use Rattle.pres_log.specs.declared.entry.Entry.TheVariants as entry;
 ghost use Rattle.pres_server.specs.Streams.{answers};
 ghost use Rattle.pres_server.specs.Heard.{Heard, heard_after_all};
-ghost use Rattle.pres_server.specs.Index.{Indexed, StepsAt, MayTake, Tells, answer_on, live_at, place_at, moment_at};
+ghost use Rattle.pres_server.specs.Index.{Indexed, StepsAt, MayTake, Tells, answer_on, live_at, session_at};
 ghost use Rattle.pres_server.specs.Invariants.{MayTakeAll};
+ghost use Rattle.pres_server.specs.Places.{moment_at};
 ghost use Rattle.pres_server.specs.Parts.{count_in};
 
-use crate::places;
+use crate::places::Places;
 use crate::reopen::Reopen;
 use pres_log::Entry;
 use pres_retry::{RetryTable, Verdict};
-use pres_session::{NoPlan, Slot};
 use pres_tree::Tree;
 use pres_wire::{ClientId, Count, Down, Number, SessionId, Why};
 use pres_write::{Basic, Moment, Outcome, apply};
 use std::alloc::Global;
-use std::collections::BTreeMap;
 
 /// What the log says.
 #[derive(Drop)]
 pub(crate) struct Index {
-    /// Where each client stands that had a session.
-    pub(crate) places: BTreeMap<ClientId, Slot<NoPlan>>,
+    /// Where each client stands.
+    pub(crate) places: Places,
     /// The answers to the writes of each client.
     pub(crate) retry: RetryTable,
-    /// How many sessions are open.
-    pub(crate) open_count: u64,
     /// The tree after all writes.
     pub(crate) tree: Tree,
 }
@@ -59,13 +56,12 @@ impl Index {
     /// The index of the log without batches.
     pub(crate) fn new(alloc: Global) -> Index
         ensures indexed { Indexed [] result }
-        ensures no_places { result.places.entries ≡ [] }
-        ensures ordered { IsOrdered client_cmp result.places }
+        ensures nobody { result.places.live.entries ≡ [] }
+        ensures ordered { IsOrdered client_cmp result.places.live }
     {
         Index {
-            places: BTreeMap::new(alloc),
+            places: Places::new(alloc),
             retry: RetryTable::new(alloc),
-            open_count: 0,
             tree: Tree::empty(),
         }
     }
@@ -74,7 +70,7 @@ impl Index {
     pub(crate) fn count(&self, session: &SessionId) -> Option<Count>
         ensures { result ≡ count_in (live_at self.now session.now) (stamp_of session.now) }
     {
-        let live = places::session(&self.places, &session.client)?;
+        let live = self.places.session(&session.client)?;
         if session.stamp() != live.stamp() {
             return None;
         }
@@ -83,9 +79,9 @@ impl Index {
 
     /// When the client was heard of last, where a session of it is open.
     pub(crate) fn heard(&self, client: &ClientId) -> Option<Moment>
-        ensures { result ≡ moment_at (place_at self.now client.now) }
+        ensures { result ≡ moment_at (session_at self.now client.now) }
     {
-        let live = places::session(&self.places, client)?;
+        let live = self.places.session(client)?;
         Some(live.heard())
     }
 
@@ -97,8 +93,7 @@ impl Index {
         ensures answer { IfOk result
             (λ m. answer_on self.old made (entry.Open session.now) ≡ m ∷ []) }
     {
-        places::open(&mut self.places, alloc, session, made.moment)?;
-        self.open_count += 1;
+        self.places.open(alloc, session, made.moment)?;
         Ok(Down::Welcome {
             session: session.copy(alloc)?,
             z: made.number,
@@ -154,7 +149,7 @@ impl Index {
         ensures answer { (op : Op) → IfOk result
             (λ m. answer_on self.old made (entry.Op session.now q n op outcome.now) ≡ m ∷ []) }
     {
-        let r = places::answer(&mut self.places, &session.client, made.moment);
+        let r = self.places.answer(&session.client, made.moment);
         self.keep(alloc, &session.client, n, made.number, outcome)?;
         self.put(alloc, writes(outcome))?;
         Ok(Down::Reply {
@@ -183,7 +178,7 @@ impl Index {
         ensures answer { IfOk result
             (λ m. answer_on self.old made (entry.Again session.now q n) ≡ m ∷ []) }
     {
-        let r = places::answer(&mut self.places, &session.client, made.moment);
+        let r = self.places.answer(&session.client, made.moment);
         let Verdict::Again(row) = self.retry.find(&session.client, n) else {
             unreachable!()
         };
@@ -213,8 +208,7 @@ impl Index {
         ensures answer { (q : Option ℕ) → IfOk result
             (λ m. answer_on self.old made (entry.Ended session.now q why rows.now) ≡ m ∷ []) }
     {
-        let r = places::end(&mut self.places, &session.client, why, rows);
-        self.open_count -= 1;
+        let r = self.places.end(&session.client, why, rows)?;
         self.put(alloc, rows)?;
         Ok(Down::Gone {
             session: session.copy(alloc)?,

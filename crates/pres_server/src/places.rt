@@ -1,44 +1,42 @@
 //! Where each client stands.
 
-ghost use Rattle.std.specs.Prelude.{◌≡◌, [], OnOk, IsSome, Some, None, option_map};
+ghost use Rattle.std.specs.Prelude.{◌≡◌, [], IfSome, OnOk, IfOk, IsSome, Some, None, option_map, option_copied};
 ghost use Rattle.std.specs.BTreeMap.{get, Updates, IsOrdered};
 ghost use Rattle.pres_wire.specs.Ids.{client_cmp, stamp_of};
-ghost use Rattle.pres_session.specs.declared.slot.Slot.TheVariants.{Live as LivePlace};
-ghost use Rattle.pres_server.specs.Index.{began, next_number, session_at, last_at, MayOpen, HasRoom, answered_at, ended_at, heard_at};
+ghost use Rattle.pres_server.specs.Places.{began, next_number, last_stamp, open_count, MayOpen, HasRoom, answered, answered_at, heard_at};
 
-use pres_session::{Live, NoPlan, Slot, first};
+use pres_session::{Gone, Live, NoPlan, first};
 use pres_wire::{ClientId, Number, SessionId, Stamp, Why};
 use pres_write::{Basic, Moment};
 use std::alloc::{AllocError, Global};
 use std::collections::BTreeMap;
-use std::mem::replace;
 
-// The next session of a client that has none open.
-fn next_session(slot: Slot<NoPlan>, stamp: Stamp, moment: Moment) -> Live<NoPlan>
-    requires { MayOpen (Some slot) stamp }
-    ensures { result ≡ began stamp moment }
-{
-    match slot {
-        Slot::Never => first(stamp, moment, NoPlan),
-        Slot::Gone(gone) => {
-            let Ok(live) = gone.open(stamp, moment, NoPlan) else {
-                unreachable!()
-            };
-            live
-        }
-        Slot::Live(_) => unreachable!(),
-    }
+/// Where each client stands that had a session. The open sessions stand apart from those that are
+/// gone, so that who looks at each open session sees no other client.
+#[derive(Drop)]
+pub(crate) struct Places {
+    /// The open session of each client that has one.
+    pub(crate) live: BTreeMap<ClientId, Live<NoPlan>>,
+    /// The last session of each other client.
+    pub(crate) gone: BTreeMap<ClientId, Gone>,
 }
 
-// Counts a message of the open session, and its answer: the answer's number.
-fn answer_in(slot: &mut Slot<NoPlan>, moment: Moment) -> Number
-    requires { HasRoom (Some slot.old) }
-    ensures number { Some result ≡ next_number (Some slot.old) }
-    ensures slot { Some slot.new ≡ answered_at moment (Some slot.old) }
+// Takes the client's entry out of the map.
+fn take<V>(map: &mut BTreeMap<ClientId, V>, client: &ClientId) -> Option<(ClientId, V)>
+    ensures client { IfSome result (λ e. e.0 ≡ client.now) }
+    ensures value { option_map (λ e. e.1) result ≡ get client_cmp map.old client.now }
+    ensures taken { Updates client_cmp map.old map.new client.now None }
 {
-    let Slot::Live(live) = slot else {
-        unreachable!()
-    };
+    map.remove_entry(client)
+}
+
+// Counts a message of the session, which was accepted at the moment, and its answer: the answer's
+// number.
+fn answer_in(live: &mut Live<NoPlan>, moment: Moment) -> Number
+    requires { HasRoom (Some live.old) }
+    ensures number { Some result ≡ next_number (Some live.old) }
+    ensures session { live.new ≡ answered moment live.old }
+{
     live.hear(moment);
     let Ok(_) = live.accept() else { unreachable!() };
     let Ok(number) = live.emit() else {
@@ -47,125 +45,125 @@ fn answer_in(slot: &mut Slot<NoPlan>, moment: Moment) -> Number
     number
 }
 
-// Ends the open session, whose due writes these are: the number of its last message.
-fn end_in(slot: &mut Slot<NoPlan>, why: Why, rows: &[Basic]) -> Number
-    requires room { HasRoom (Some slot.old) }
-    requires due { rows.now ≡ [] }
-    ensures number { Some result ≡ next_number (Some slot.old) }
-    ensures slot { Some slot.new ≡ ended_at (Some slot.old) }
-{
-    let Slot::Live(mut live) = replace(slot, Slot::Never) else {
-        unreachable!()
-    };
-    let Ok(number) = live.emit() else {
-        unreachable!()
-    };
-    *slot = Slot::Gone(live.end(why).spend(rows));
-    number
-}
-
-// The client was heard of at the moment, where its session is open.
-fn hear_in(slot: &mut Slot<NoPlan>, moment: Moment)
-    ensures { Some slot.new ≡ heard_at moment (Some slot.old) }
-{
-    if let Slot::Live(live) = slot {
-        live.hear(moment);
+impl Places {
+    /// No client stands anywhere.
+    pub(crate) fn new(alloc: Global) -> Places
+        ensures live { result.live.entries ≡ [] }
+        ensures gone { result.gone.entries ≡ [] }
+        ensures ordered { IsOrdered client_cmp result.live }
+    {
+        Places {
+            live: BTreeMap::new(alloc),
+            gone: BTreeMap::new(alloc),
+        }
     }
-}
 
-/// Opens a session of a client that has none open.
-pub(crate) fn open(
-    places: &mut BTreeMap<ClientId, Slot<NoPlan>>,
-    alloc: Global,
-    session: &SessionId,
-    moment: Moment,
-) -> Result<(), AllocError>
-    requires { MayOpen (get client_cmp places.old session.now.client) (stamp_of session.now) }
-    ensures { OnOk result (Updates client_cmp places.old places.new session.now.client
-        (Some (LivePlace (began (stamp_of session.now) moment)))) }
-{
-    let stamp = session.stamp();
-    if let Some(slot) = places.get_mut(&session.client) {
-        let live = next_session(replace(slot, Slot::Never), stamp, moment);
-        *slot = Slot::Live(live);
-        return Ok(());
+    /// How many sessions are open.
+    pub(crate) fn open_count(&self) -> u64
+        ensures count { result ≡ open_count self.now }
+        ensures ordered { IsOrdered client_cmp self.now.live }
+    {
+        self.live.len() as u64
     }
-    let client = session.client.copy(alloc)?;
-    drop(places.insert(client, Slot::Live(first(stamp, moment, NoPlan)))?);
-    Ok(())
-}
 
-/// Counts a message of the client's open session, which was accepted at the moment, and its
-/// answer: the answer's number.
-pub(crate) fn answer(
-    places: &mut BTreeMap<ClientId, Slot<NoPlan>>,
-    client: &ClientId,
-    moment: Moment,
-) -> Number
-    requires { HasRoom (get client_cmp places.old client.now) }
-    ensures number { Some result ≡ next_number (get client_cmp places.old client.now) }
-    ensures places { Updates client_cmp places.old places.new client.now
-        (answered_at moment (get client_cmp places.old client.now)) }
-{
-    let Some(slot) = places.get_mut(client) else {
-        unreachable!()
-    };
-    answer_in(slot, moment)
-}
-
-/// Ends the client's open session, whose due writes these are: the number of its last message.
-pub(crate) fn end(
-    places: &mut BTreeMap<ClientId, Slot<NoPlan>>,
-    client: &ClientId,
-    why: Why,
-    rows: &[Basic],
-) -> Number
-    requires room { HasRoom (get client_cmp places.old client.now) }
-    requires due { rows.now ≡ [] }
-    ensures number { Some result ≡ next_number (get client_cmp places.old client.now) }
-    ensures places { Updates client_cmp places.old places.new client.now
-        (ended_at (get client_cmp places.old client.now)) }
-{
-    let Some(slot) = places.get_mut(client) else {
-        unreachable!()
-    };
-    end_in(slot, why, rows)
-}
-
-/// The client was heard of at the moment, where a session of it is open.
-pub(crate) fn hear(places: &mut BTreeMap<ClientId, Slot<NoPlan>>, client: &ClientId, moment: Moment)
-    ensures known { IsSome (get client_cmp places.old client.now)
-        → Updates client_cmp places.old places.new client.now
-        (heard_at moment (get client_cmp places.old client.now)) }
-    ensures stranger { get client_cmp places.old client.now ≡ None
-        → places.new.entries ≡ places.old.entries }
-    ensures ordered { IsOrdered client_cmp places.new }
-{
-    if let Some(slot) = places.get_mut(client) {
-        hear_in(slot, moment);
+    /// Opens a session of a client that has none open.
+    pub(crate) fn open(
+        &mut self,
+        alloc: Global,
+        session: &SessionId,
+        moment: Moment,
+    ) -> Result<(), AllocError>
+        requires { MayOpen self.old session.now }
+        ensures live { OnOk result (Updates client_cmp self.old.live self.new.live
+            session.now.client (Some (began (stamp_of session.now) moment))) }
+        ensures gone { OnOk result (Updates client_cmp self.old.gone self.new.gone
+            session.now.client None) }
+    {
+        let stamp = session.stamp();
+        let Some((client, gone)) = take(&mut self.gone, &session.client) else {
+            let client = session.client.copy(alloc)?;
+            drop(self.live.insert(client, first(stamp, moment, NoPlan))?);
+            return Ok(());
+        };
+        let Ok(live) = gone.open(stamp, moment, NoPlan) else {
+            unreachable!()
+        };
+        drop(self.live.insert(client, live)?);
+        Ok(())
     }
-}
 
-/// The client's open session.
-pub(crate) fn session<'a>(
-    places: &'a BTreeMap<ClientId, Slot<NoPlan>>,
-    client: &ClientId,
-) -> Option<&'a Live<NoPlan>>
-    ensures { option_map (λ s. s.now) result ≡ session_at (get client_cmp places.now client.now) }
-{
-    match places.get(client) {
-        Some(Slot::Live(live)) => Some(live),
-        _ => None,
+    /// Counts a message of the client's open session, which was accepted at the moment, and its
+    /// answer: the answer's number.
+    pub(crate) fn answer(&mut self, client: &ClientId, moment: Moment) -> Number
+        requires { HasRoom (get client_cmp self.old.live client.now) }
+        ensures number { Some result ≡ next_number (get client_cmp self.old.live client.now) }
+        ensures live { Updates client_cmp self.old.live self.new.live client.now
+            (answered_at moment (get client_cmp self.old.live client.now)) }
+        ensures gone { self.new.gone ≡ self.old.gone }
+    {
+        let Some(live) = self.live.get_mut(client) else {
+            unreachable!()
+        };
+        answer_in(live, moment)
     }
-}
 
-/// The stamp of the client's last session.
-pub(crate) fn last(places: &BTreeMap<ClientId, Slot<NoPlan>>, client: &ClientId) -> Option<Stamp>
-    ensures { result ≡ last_at (get client_cmp places.now client.now) }
-{
-    match places.get(client)? {
-        Slot::Never => None,
-        Slot::Gone(gone) => Some(gone.last()),
-        Slot::Live(live) => Some(live.stamp()),
+    /// Ends the client's open session, whose due writes these are: the number of its last message.
+    pub(crate) fn end(
+        &mut self,
+        client: &ClientId,
+        why: Why,
+        rows: &[Basic],
+    ) -> Result<Number, AllocError>
+        requires room { HasRoom (get client_cmp self.old.live client.now) }
+        requires due { rows.now ≡ [] }
+        ensures number { IfOk result
+            (λ r. Some r ≡ next_number (get client_cmp self.old.live client.now)) }
+        ensures live { OnOk result (Updates client_cmp self.old.live self.new.live client.now None) }
+        ensures gone { OnOk result (Updates client_cmp self.old.gone self.new.gone client.now
+            (last_stamp (get client_cmp self.old.live client.now)
+            (get client_cmp self.old.gone client.now))) }
+    {
+        let Some((client, mut live)) = take(&mut self.live, client) else {
+            unreachable!()
+        };
+        let Ok(number) = live.emit() else {
+            unreachable!()
+        };
+        let gone = live.end(why).spend(rows);
+        drop(self.gone.insert(client, gone)?);
+        Ok(number)
+    }
+
+    /// The client was heard of at the moment, where a session of it is open.
+    pub(crate) fn hear(&mut self, client: &ClientId, moment: Moment)
+        ensures known { IsSome (get client_cmp self.old.live client.now)
+            → Updates client_cmp self.old.live self.new.live client.now
+            (heard_at moment (get client_cmp self.old.live client.now)) }
+        ensures stranger { get client_cmp self.old.live client.now ≡ None
+            → self.new.live.entries ≡ self.old.live.entries }
+        ensures gone { self.new.gone ≡ self.old.gone }
+        ensures ordered { IsOrdered client_cmp self.new.live }
+    {
+        if let Some(live) = self.live.get_mut(client) {
+            live.hear(moment);
+        }
+    }
+
+    /// The client's open session.
+    pub(crate) fn session(&self, client: &ClientId) -> Option<&Live<NoPlan>>
+        ensures { option_copied result ≡ get client_cmp self.now.live client.now }
+    {
+        self.live.get(client)
+    }
+
+    /// The stamp of the client's last session.
+    pub(crate) fn last(&self, client: &ClientId) -> Option<Stamp>
+        ensures { result ≡ last_stamp (get client_cmp self.now.live client.now)
+            (get client_cmp self.now.gone client.now) }
+    {
+        if let Some(live) = self.live.get(client) {
+            return Some(live.stamp());
+        }
+        Some(self.gone.get(client)?.last())
     }
 }

@@ -13,7 +13,6 @@ ghost use Rattle.pres_server.specs.Streams.{answers};
 
 use crate::index::{Index, Made, take_all};
 use crate::input::Input;
-use crate::places;
 use crate::reopen::Reopen;
 use crate::turn::{Now, Step};
 use pres_log::{Batch, Entry, Fault, Log};
@@ -157,7 +156,7 @@ impl Server {
         ensures { self.new ≡ record self.old
             { heard = heard_again client.now moment self.old.heard } }
     {
-        places::hear(&mut self.index.places, client, moment);
+        self.index.places.hear(client, moment);
     }
 
     // The turn that makes these entries at the moment.
@@ -241,7 +240,7 @@ impl Busy {
         let mut answers = Vec::new(alloc);
         take_all(&mut index, alloc, batch.entries(), made, &mut answers)?;
         // it ensures that the clients are in order
-        let _ = index.places.len();
+        let _ = index.places.open_count();
         let Ok(()) = log.push(batch) else {
             return Err(Reopen);
         };

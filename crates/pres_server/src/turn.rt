@@ -7,11 +7,11 @@ ghost use Rattle.pres_log.specs.declared.fault.Fault.TheVariants.{Busy};
 ghost use Rattle.pres_server.specs.Turns.{Decision, end_of, opening, Makes, Decides};
 ghost use Rattle.pres_server.specs.Parts.{said_by, ends_live, is_live, within, checked, said, session_with};
 ghost use Rattle.pres_server.specs.declared.input.Input.TheVariants as input;
+ghost use Rattle.pres_server.specs.Places.{open_count};
 ghost use Rattle.pres_server.specs.Index.{live_at, limited_on, write_on, decision_on, DecidesOn, Ready};
 
 use crate::index::Index;
 use crate::input::Input;
-use crate::places;
 use pres_log::{Entry, Fault};
 use pres_retry::Verdict;
 use pres_wire::{ClientId, Number, SessionId, Stamp, Up, Why};
@@ -73,7 +73,7 @@ impl Index {
         ensures { (accepted : Decision)
             → said_by (live_at self.now session.now) session.now q accepted ≡ said result accepted }
     {
-        let Some(live) = places::session(&self.places, &session.client) else {
+        let Some(live) = self.places.session(&session.client) else {
             return Err(Fault::Session);
         };
         if session.stamp() != live.stamp() {
@@ -93,7 +93,7 @@ impl Index {
     pub(crate) fn is_live(&self, session: &SessionId) -> bool
         ensures { result ≡ is_live (live_at self.now session.now) (stamp_of session.now) }
     {
-        match places::session(&self.places, &session.client) {
+        match self.places.session(&session.client) {
             Some(live) => session.stamp() == live.stamp(),
             None => false,
         }
@@ -109,10 +109,10 @@ impl Index {
         now: Now,
     ) -> Result<Items<Entry>, Fault>
         requires ready { Ready self.now now }
-        requires open { 0 < self.now.open_count }
+        requires open { 0 < open_count self.now.places }
         ensures { Makes (limited_on self.now now.number (end_of session q why)) result }
     {
-        limits(now.number + 1, self.open_count - 1)?;
+        limits(now.number + 1, self.places.open_count() - 1)?;
         let rows = Items::of(Vec::new(alloc));
         Ok(Items::one(
             alloc,
@@ -134,11 +134,11 @@ impl Index {
         now: Now,
     ) -> Result<Items<Entry>, Fault>
         requires ready { Ready self.now now }
-        requires open { 0 < self.now.open_count }
+        requires open { 0 < open_count self.now.places }
         ensures { Makes (limited_on self.now now.number
             (opening (session_with session.client stamp ∷ []) session)) result }
     {
-        limits(now.number + 2, self.open_count)?;
+        limits(now.number + 2, self.places.open_count())?;
         let ended = Entry::Ended {
             session: SessionId::of(session.client.copy(alloc)?, stamp),
             q: None,
@@ -153,16 +153,16 @@ impl Index {
         requires { Ready self.now now }
         ensures { Makes (decision_on self.now now (input.Up (up.Hello session))) result }
     {
-        if let Some(last) = places::last(&self.places, &session.client) {
+        if let Some(last) = self.places.last(&session.client) {
             if !last.is_earlier(&session.stamp()) {
                 return Err(Fault::Old(last));
             }
         }
-        if let Some(live) = places::session(&self.places, &session.client) {
+        if let Some(live) = self.places.session(&session.client) {
             let stamp = live.stamp();
             return self.superseding(alloc, session, stamp, now);
         }
-        limits(now.number + 1, self.open_count + 1)?;
+        limits(now.number + 1, self.places.open_count() + 1)?;
         Ok(Items::one(alloc, Entry::Open { session })?)
     }
 
@@ -185,7 +185,7 @@ impl Index {
             Verdict::Again(_) => true,
             Verdict::Gap => return Err(Fault::Order),
         };
-        limits(now.number + 1, self.open_count)?;
+        limits(now.number + 1, self.places.open_count())?;
         if again {
             return Ok(Items::one(alloc, Entry::Again { session, q, n })?);
         }
@@ -269,7 +269,7 @@ impl Index {
         requires { Ready self.now now }
         ensures { DecidesOn self.now now (input.Restart client) result }
     {
-        let Some(live) = places::session(&self.places, &client) else {
+        let Some(live) = self.places.session(&client) else {
             return Ok(Step::Quiet(None));
         };
         let session = SessionId::of(client, live.stamp());

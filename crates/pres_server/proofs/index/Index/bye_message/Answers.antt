@@ -3,6 +3,7 @@ use Rattle.pres_wire.specs.declared.id.Why.TheVariants as why
 use Rattle.pres_log.specs.declared.entry.Entry.TheVariants as entry
 use Rattle.pres_server.specs.Turns.{Decision, makes, quiet}
 use Rattle.pres_server.specs.Parts.{limited_by}
+use Rattle.pres_server.specs.Places.{open_count}
 use Rattle.pres_server.proofs.Checks.{refused_by, refused_as, live_if_said}
 use Rattle.pres_server.proofs.index.Index.bye_message.Goals as goal
 
@@ -12,7 +13,7 @@ ending-requires-clause-open c = c.requires.counted c.args.session.client (live_i
 pub returns-in_err-is_next : goal.returns-in_err-is_next
 returns-in_err-is_next c =
     refused_by _ _ c.from_residual.result c.in_err-is_next.field-0.0 c.from_residual.ensures
-    (inl (ap (limited_by c.args.now.number c.args.self.now.open_count) (c.in_err-is_next.ensures (makes (entry.Ended c.args.session (Some c.args.q) why.Bye [] ∷ [])))))
+    (inl (ap (limited_by c.args.now.number (open_count c.args.self.now.places)) (c.in_err-is_next.ensures (makes (entry.Ended c.args.session (Some c.args.q) why.Bye [] ∷ [])))))
 
 pub returns-in_err-ending : goal.returns-in_err-ending
 returns-in_err-ending c =

@@ -34,7 +34,7 @@ invariant_of-server c =
     let waits : Waits log b = subst (λ (s : State). Waits s.log b) (sym c.server.view_is) c.self.invariant in
     let f = taken log old b _ _ _ c.first.ensures c.moment-moment.ensures c.entries.ensures.entries (fitting log c.server.inside.moment old b c.server.invariant waits) in
     let ix : Indexed (entries log ++ b.entries) new = subst (λ es. Indexed (entries log ++ es) new) c.entries.ensures.entries (c.in_ok-take_all.ensures.indexed (entries log) f) in
-    let k : Holds (log ++ b ∷ []) b.moment new = kept_after log c.server.inside.moment old new b c.server.invariant waits.follows ix c.len.ensures.ordered in
+    let k : Holds (log ++ b ∷ []) b.moment new = kept_after log c.server.inside.moment old new b c.server.invariant waits.follows ix c.open_count.ensures.ordered in
     subst (λ (x : Log × ℕ). Holds x.0 x.1 new) (λ i. (sym c.in-Ok.ensures.ok i, sym c.moment-moment.ensures i)) k
 
 pub returns-clause-server : goal.returns-clause-server
@@ -45,10 +45,10 @@ returns-clause-server c =
     let new = c.take_all.new.index in
     let waits : Waits log b = subst (λ (s : State). Waits s.log b) (sym c.server.view_is) c.self.invariant in
     let tells : Tells (heard_after_all b.moment b.entries (heard_in old)) new =
-    subst (λ (x : ℕ × List Entry). Tells (heard_after_all x.0 x.1 (heard_in old)) new) (λ i. (c.moment-moment.ensures i, c.entries.ensures.entries i)) (c.in_ok-take_all.ensures.heard (heard_in old) (heard_tells old c.server.invariant.ordered)) in
+    subst (λ (x : ℕ × List Entry). Tells (heard_after_all x.0 x.1 (heard_in old)) new) (λ i. (c.moment-moment.ensures i, c.entries.ensures.entries i)) (c.in_ok-take_all.ensures.heard (heard_in old) (heard_tells old)) in
     (λ i. record {
       log = (c.in-Ok.ensures.ok ∙ ap (λ x. log ++ x ∷ []) (batch_is log b waits.follows)) i;
-      heard = heard_done b.moment b.entries old new c.server.invariant.ordered c.len.ensures.ordered tells i;
+      heard = heard_done b.moment b.entries old new c.server.invariant.ordered c.open_count.ensures.ordered tells i;
     })
     ∙ ap (λ (s : State). state_after s b.moment b.entries) c.server.view_is
     ∙ ap (λ (p : Pending). state_after p.state p.moment p.made) c.self.view_is

@@ -7,7 +7,7 @@ use Rattle.pres_server.proofs.Readers.{has_open_is}
 use Rattle.pres_server.proofs.server.Server.heard.Goals as goal
 
 pub returns-clause-heard : goal.returns-clause-heard
-returns-clause-heard c = c.heard.ensures ∙ sym (heard_tells c.self.inside.index c.self.invariant.ordered c.args.client.now) ∙ ap (λ (x : State). heard_last x.heard c.args.client.now) c.self.view_is
+returns-clause-heard c = c.heard.ensures ∙ sym (heard_tells c.self.inside.index c.args.client.now) ∙ ap (λ (x : State). heard_last x.heard c.args.client.now) c.self.view_is
 
 pub returns-clause-open : goal.returns-clause-open
 returns-clause-open c = ap is_some c.heard.ensures ∙ has_open_is (entries c.self.inside.log) c.self.inside.index c.args.client.now c.self.invariant.indexed

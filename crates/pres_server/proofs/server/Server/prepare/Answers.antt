@@ -12,6 +12,7 @@ use Rattle.pres_server.specs.Invariants.{Holds}
 use Rattle.pres_server.specs.declared.turn.Step.{Step}
 use Rattle.pres_server.specs.declared.turn.Step.TheVariants as step
 use Rattle.pres_wire.specs.declared.id.SessionId.{SessionId}
+use Rattle.pres_server.specs.Places.{open_count}
 use Rattle.pres_server.proofs.Turned.{number_small, open_small, counted, moment_is, turned}
 use Rattle.pres_server.proofs.Whole.{may_follow}
 use Rattle.pres_server.proofs.server.Server.prepare.Goals as goal
@@ -21,11 +22,11 @@ abbrev Inside : State → Log → ℕ → Index → Type 0
 Inside s log moment index = Holds log moment index × (record { log = log; heard = heard_in index } ≡ s)
 
 turn_is : (s : State) (log : Log) (moment : ℕ) (index : Index) → Inside s log moment index → (i : Input) (now m z : ℕ) → now ≤ moments.last_moment → m ≡ max moment now → z ≡ number log
-    → turn s.log i now ≡ limited_by z index.open_count (wanted_by (part_at index (client_in i)) index.tree m i)
+    → turn s.log i now ≡ limited_by z (open_count index.places) (wanted_by (part_at index (client_in i)) index.tree m i)
 turn_is s log moment index k i now m z low e f =
     ap (λ (x : State). turn x.log i now) (sym k.1)
     ∙ turned log moment now index i k.0 low
-    ∙ (λ x. limited_by (sym f x) index.open_count (wanted_by (part_at index (client_in i)) index.tree (sym e x) i))
+    ∙ (λ x. limited_by (sym f x) (open_count index.places) (wanted_by (part_at index (client_in i)) index.tree (sym e x) i))
 
 moment_as : (s : State) (log : Log) (moment : ℕ) (index : Index) → Inside s log moment index → (now m : ℕ) → now ≤ moments.last_moment → m ≡ max moment now → m ≡ moment_of s.log now
 moment_as s log moment index k now m low e = e ∙ moment_is log moment now index k.0 low ∙ ap (λ (x : State). moment_of x.log now) k.1
@@ -40,7 +41,7 @@ turn-requires c =
     let index = c.self.inside.index in
     record {
       number = subst (λ z. z < 9007199254740992) (sym c.len-number.ensures) (number_small log moment index c.self.invariant);
-      open_count = open_small log moment index c.self.invariant;
+      sessions = open_small log moment index c.self.invariant;
       counted = counted log moment index c.self.invariant;
     }
 

@@ -1,0 +1,77 @@
+-- Where a client stands, as plain data, and how an entry changes it.
+use Rattle.std.specs.Prelude.{◌≡◌, ◌<◌, ℕ, ◌+◌, max, true, Option, Some, None, length}
+use Rattle.std.specs.Option.{option_map}
+use Rattle.std.specs.BTreeMap.{get}
+use Rattle.pres_wire.specs.declared.id.SessionId.{SessionId}
+use Rattle.pres_wire.specs.declared.id.Stamp.{Stamp}
+use Rattle.pres_wire.specs.Ids.{client_cmp, stamp_of}
+use Rattle.pres_wire.specs.Numbers.{greatest_number}
+use Rattle.pres_session.specs.declared.plan.NoPlan.{NoPlan}
+use Rattle.pres_session.specs.Lives.{Life, opened}
+use Rattle.pres_log.specs.declared.entry.Entry.{Entry}
+use Rattle.pres_log.specs.declared.entry.Entry.TheVariants as entry
+use Rattle.pres_server.specs.declared.places.Places.{Places}
+use Rattle.pres_server.specs.Parts.{LivePart, comes_after}
+
+-- a session that owes nothing at its end
+abbrev pub Session : Type 0
+Session = Life NoPlan
+
+-- the stamp of a client's last session: of the open one, or of the one that is gone
+abbrev pub last_stamp : Option Session → Option Stamp → Option Stamp
+last_stamp None last = last
+last_stamp (Some session) last = Some session.stamp
+
+-- the number of the next message to it
+abbrev pub next_number : Option Session → Option ℕ
+next_number live = option_map (λ session. session.sent + 1) live
+
+-- when the client was heard of last, where a session of it is open
+abbrev pub moment_at : Option Session → Option ℕ
+moment_at live = option_map (λ session. session.heard) live
+
+-- what answers and checks need of it
+abbrev pub live_part : Session → LivePart
+live_part session = record { stamp = session.stamp; count = session.count; sent = session.sent }
+
+-- a session after a message of its client that was accepted at the moment, and answered
+abbrev pub answered : ℕ → Session → Session
+answered moment session = record { stamp = session.stamp; count = session.count + 1; sent = session.sent + 1; heard = max session.heard moment; plan = session.plan }
+
+abbrev pub answered_at : ℕ → Option Session → Option Session
+answered_at moment live = option_map (answered moment) live
+
+-- heard of at the moment
+abbrev pub heard_at : ℕ → Option Session → Option Session
+heard_at moment live = option_map (λ session. record { stamp = session.stamp; count = session.count; sent = session.sent; heard = max session.heard moment; plan = session.plan }) live
+
+-- a session that begins
+abbrev pub began : Stamp → ℕ → Session
+began stamp moment = opened stamp moment (record {})
+
+-- the client's open session after an entry of its own
+abbrev pub live_after : ℕ → Entry → Option Session → Option Session
+live_after moment (entry.Open s) live = Some (began (stamp_of s) moment)
+live_after moment (entry.Ended s q why rows) live = None
+live_after moment _ live = answered_at moment live
+
+-- the stamp of its last session, where that is gone
+abbrev pub gone_after : Entry → Option Session → Option Stamp → Option Stamp
+gone_after (entry.Open s) live last = None
+gone_after (entry.Ended s q why rows) live last = last_stamp live last
+gone_after _ live last = last
+
+-- a session is open that has a number left for a message each way
+abbrev pub HasRoom : Option Session → Type 0
+HasRoom (Some session) = (session.count < greatest_number) × (session.sent < greatest_number)
+HasRoom None = ⊥
+
+-- how many sessions are open
+abbrev pub open_count : Places → ℕ
+open_count places = length places.live.entries
+
+-- no session of the client is open, and this one is newer than the last one
+pub record MayOpen (places : Places) (s : SessionId) : Type 0 where
+  pub nobody : get client_cmp places.live s.client ≡ None
+  pub newer : comes_after (get client_cmp places.gone s.client) (stamp_of s) ≡ true
+
