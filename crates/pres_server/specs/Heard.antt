@@ -1,6 +1,6 @@
 -- When the client of each open session was heard of last: the greatest moment of the session's messages that were
 -- accepted or passed over, its Hello among them. Counting by the moments of turns is ours.
-use Rattle.std.specs.Prelude.{ℕ, max, not, List, [], ◌∷◌, Option, Some, None}
+use Rattle.std.specs.Prelude.{ℕ, ◌+◌, nat_lt, if◌then◌else◌, max, not, List, [], ◌∷◌, Option, Some, None}
 use Rattle.std.specs.FinMap.Entries.{find, put, where_key}
 use Rattle.pres_wire.specs.declared.id.SessionId.{SessionId}
 use Rattle.pres_wire.specs.Ids.{ClientId, client_cmp, same_client}
@@ -32,6 +32,9 @@ abbrev pub heard_after : ℕ → Entry → Heard → Heard
 heard_after moment (entry.Open s) heard = put client_cmp s.client moment heard
 heard_after moment (entry.Op s q n op outcome) heard = heard_again s.client moment heard
 heard_after moment (entry.Again s q n) heard = heard_again s.client moment heard
+heard_after moment (entry.Left s q puts) heard = heard_again s.client moment heard
+heard_after moment (entry.Cancelled s q path) heard = heard_again s.client moment heard
+heard_after moment (entry.Denied s q why) heard = heard_again s.client moment heard
 heard_after moment (entry.Ended s q why rows) heard = where_key client_cmp (λ c. not (same_client s.client c)) heard
 
 -- after the entries of a batch
@@ -48,6 +51,15 @@ heard_from _ = None
 abbrev pub heard_of : ℕ → Option SessionId → Heard → Heard
 heard_of moment None heard = heard
 heard_of moment (Some s) heard = heard_again s.client moment heard
+
+-- how long a client may be silent, in milliseconds
+abbrev pub lease : ℕ
+lease = 60000
+
+-- the first client, in byte order, that was last heard of more than that before the moment
+abbrev pub late_client : ℕ → Heard → Option ClientId
+late_client moment [] = None
+late_client moment (h ∷ more) = if nat_lt (h.1 + lease) moment then Some h.0 else late_client moment more
 
 -- ---- what a server is
 

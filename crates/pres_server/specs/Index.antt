@@ -27,8 +27,8 @@ use Rattle.pres_server.specs.declared.turn.Step.{Step}
 use Rattle.pres_server.specs.Sessions.{session_of}
 use Rattle.pres_server.specs.Heard.{Heard, heard_last, heard_from}
 use Rattle.pres_server.specs.Turns.{Decision, Decides, op_by}
-use Rattle.pres_server.specs.Parts.{LivePart, Part, part_of, limited_by, wanted_by, client_in, answer_by}
-use Rattle.pres_server.specs.Places.{Session, last_stamp, moment_at, live_part, live_after, heard_at, HasRoom, open_count, MayOpen}
+use Rattle.pres_server.specs.Parts.{LivePart, Part, part_of, limited_by, wanted_by, answer_by}
+use Rattle.pres_server.specs.Places.{Session, last_stamp, moment_at, live_part, live_after, heard_at, heard_of_all, HasRoom, MayLeaveAt, AreDueAt, open_count, MayOpen}
 
 -- the client's open session
 abbrev pub session_at : Index → ClientId → Option Session
@@ -48,7 +48,7 @@ live_at index s = (part_at index s.client).live
 
 -- when the client of each open session was heard of last
 abbrev pub heard_in : Index → Heard
-heard_in index = map (λ e. (e.0, e.1.heard)) index.places.live.entries
+heard_in index = heard_of_all index.places
 
 -- the list says of each client when it was heard of last
 abbrev pub Tells : Heard → Index → Type 0
@@ -75,7 +75,7 @@ write_on index moment s q n op = op_by (verdict n (part_at index s.client).rows)
 
 -- what an input asks for, within the limits
 abbrev pub decision_on : Index → Now → Input → Decision
-decision_on index now i = limited_on index now.number (wanted_by (part_at index (client_in i)) index.tree now.moment i)
+decision_on index now i = limited_on index now.number (wanted_by (part_at index) (heard_in index) index.tree now.moment i)
 
 -- the step that an input asks for, or its refusal
 abbrev pub DecidesOn : Index → Now → Input → Result Step Fault → Type 0
@@ -120,7 +120,10 @@ abbrev pub MayTake : Index → Entry → Type 0
 MayTake index (entry.Open s) = MayOpen index.places s
 MayTake index (entry.Op s q n op outcome) = HasRoom (session_at index s.client) × (n ≡ length (rows_of s.client index.retry) + 1)
 MayTake index (entry.Again s q n) = HasRoom (session_at index s.client) × (kept : Row) × (verdict n (rows_of s.client index.retry) ≡ again kept) × (slice_get (rows_of s.client index.retry) (n - 1) ≡ Some kept)
-MayTake index (entry.Ended s q why rows) = HasRoom (session_at index s.client) × (rows ≡ [])
+MayTake index (entry.Left s q puts) = HasRoom (session_at index s.client) × MayLeaveAt (session_at index s.client) q (entry.Left s q puts)
+MayTake index (entry.Cancelled s q path) = HasRoom (session_at index s.client) × MayLeaveAt (session_at index s.client) q (entry.Cancelled s q path)
+MayTake index (entry.Denied s q why) = HasRoom (session_at index s.client)
+MayTake index (entry.Ended s q why rows) = HasRoom (session_at index s.client) × AreDueAt (session_at index s.client) rows
 
 -- the index says what the entries say
 pub record Indexed (es : List Entry) (index : Index) : Type 0 where

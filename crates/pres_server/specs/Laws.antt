@@ -5,6 +5,7 @@ use Rattle.pres_wire.specs.declared.down.Down.{Down}
 use Rattle.pres_log.specs.declared.entry.Entry.{Entry}
 use Rattle.pres_log.specs.Logs.{Log, entries}
 use Rattle.pres_server.specs.declared.input.Input.{Input}
+use Rattle.pres_server.specs.Heard.{State}
 use Rattle.pres_server.specs.Sessions.{is_open}
 use Rattle.pres_server.specs.Streams.{stream, sent_for, numbered_from}
 use Rattle.pres_server.specs.LegalLog.{IsLegal}
@@ -12,8 +13,8 @@ use Rattle.pres_server.specs.Turns.{moment_of, turn, log_after}
 use Rattle.pres_server.specs.Parts.{Sound}
 
 -- A turn on a legal log leaves a legal log.
-abbrev pub TurnIsLegal : Log → Input → ℕ → Type 0
-TurnIsLegal log input now = IsLegal log → IsLegal (log_after log (moment_of log now) (turn log input now))
+abbrev pub TurnIsLegal : State → Input → ℕ → Type 0
+TurnIsLegal state input now = IsLegal state.log → IsLegal (log_after state.log (moment_of state.log now) (turn state input now))
 
 -- After a legal log a client has at most one open session, and its last one is its newest.
 abbrev pub LegalIsSound : Log → Type 0

@@ -1,5 +1,6 @@
 pub mod Sessions
 pub mod Outcomes
+pub mod SessionPlans
 pub mod Streams
 pub mod LegalLog
 pub mod Heard

@@ -1,18 +1,19 @@
 -- What the log says of each client: plain data, changed by one entry, and what an input asks for by it.
-use Rattle.std.specs.Prelude.{ℕ, ◌+◌, ◌-◌, ◌≡◌, Bool, true, List, [], ◌∷◌, ◌++◌, length, Option, Some, None, slice_get, ◌^◌, false, ◌&&◌, if◌then◌else◌, nat_lt, nat_le, ◌==◌, unwrap_or, Result, Ok, Err}
+use Rattle.std.specs.Prelude.{ℕ, ◌+◌, ◌-◌, ◌≡◌, Bool, true, List, [], ◌∷◌, ◌++◌, ◌<◌, All, map, length, Option, Some, None, slice_get, ◌^◌, false, ◌&&◌, if◌then◌else◌, nat_lt, nat_le, ◌==◌, unwrap_or, Result, Ok, Err}
 use Rattle.std.specs.List.{list_any}
 use Rattle.std.specs.Option.{option_map}
 use Rattle.pres_write.specs.Outcomes.{kept_of}
 use Rattle.pres_wire.specs.declared.id.Stamp.{Stamp}
 use Rattle.pres_wire.specs.declared.id.SessionId.{SessionId}
 use Rattle.pres_wire.specs.declared.down.Down.{Down}
-use Rattle.pres_wire.specs.declared.down.Down.TheVariants.{Welcome, Reply, Gone}
+use Rattle.pres_wire.specs.declared.down.Down.TheVariants.{Welcome, Reply, Armed, Denied, Gone}
 use Rattle.pres_wire.specs.Ids.{ClientId, stamp_of, is_earlier}
 use Rattle.pres_retry.specs.declared.table.Row.{Row}
 use Rattle.pres_log.specs.declared.entry.Entry.{Entry}
 use Rattle.pres_log.specs.declared.entry.Entry.TheVariants as entry
 use Rattle.pres_server.specs.Sessions.{opens, ends, count, open_sessions_of, is_newest, last_of}
 use Rattle.pres_server.specs.Outcomes.{rows_for}
+use Rattle.pres_server.specs.SessionPlans.{plan}
 use Rattle.pres_server.specs.Streams.{stream}
 use Rattle.pres_tree.specs.declared.scalar.Scalar.{Scalar}
 use Rattle.pres_tree.specs.Rows.{Rows}
@@ -22,17 +23,22 @@ use Rattle.pres_wire.specs.declared.up.Up.{Up}
 use Rattle.pres_wire.specs.declared.up.Up.TheVariants as up
 use Rattle.pres_wire.specs.Messages.{session_in}
 use Rattle.pres_retry.specs.Verdicts.{verdict}
+use Rattle.pres_plan.specs.declared.row.PlanRow.{PlanRow}
+use Rattle.pres_plan.specs.Plans.{puts, cancels, plan_of, due}
+use Rattle.pres_write.specs.Unconditionals.{puts_of}
 use Rattle.pres_log.specs.declared.fault.Fault.{Fault}
 use Rattle.pres_log.specs.declared.fault.Fault.TheVariants as fault
 use Rattle.pres_server.specs.declared.input.Input.{Input}
 use Rattle.pres_server.specs.declared.input.Input.TheVariants as input
-use Rattle.pres_server.specs.Turns.{Decision, refused, quiet, makes, end_of, opening, ends_first, op_by}
+use Rattle.pres_server.specs.Heard.{Heard, late_client}
+use Rattle.pres_server.specs.Turns.{Decision, refused, quiet, makes, within_rows, op_by}
 
--- of an open session: its stamp, its last q and its last r
+-- of an open session: its stamp, its last q and its last r, and what it leaves for its end
 pub record LivePart : Type 0 where
   pub stamp : Stamp
   pub count : ℕ
   pub sent : ℕ
+  pub plan : List PlanRow
 
 -- of a client: the stamp of its last session, the outcomes of its writes, and its open session
 pub record Part : Type 0 where
@@ -42,21 +48,38 @@ pub record Part : Type 0 where
 
 abbrev pub live_in : List SessionId → List Entry → Option LivePart
 live_in [] es = None
-live_in (s ∷ more) es = Some (record { stamp = stamp_of s; count = count s es; sent = length (stream s es) })
+live_in (s ∷ more) es = Some (record { stamp = stamp_of s; count = count s es; sent = length (stream s es); plan = plan s es })
 
 -- what the log says
 abbrev pub part_of : ClientId → List Entry → Part
 part_of c es = record { last = last_of c es; rows = rows_for c es; live = live_in (open_sessions_of c es) es }
 
-abbrev pub one_more : LivePart → LivePart
-one_more l = record { stamp = l.stamp; count = l.count + 1; sent = l.sent + 1 }
+-- what it leaves after an entry of its own
+abbrev pub plan_after : Entry → List PlanRow → List PlanRow
+plan_after (entry.Left s q places) rows = plan_of (rows ++ puts q places)
+plan_after (entry.Cancelled s q path) rows = plan_of (rows ++ cancels q path)
+plan_after _ rows = rows
+
+-- an open session after an entry of its own that answers it
+abbrev pub one_more : Entry → LivePart → LivePart
+one_more e l = record { stamp = l.stamp; count = l.count + 1; sent = l.sent + 1; plan = plan_after e l.plan }
+
+abbrev pub live_step : Entry → Option LivePart → Option LivePart
+live_step (entry.Open s) live = Some (record { stamp = stamp_of s; count = 0; sent = 0; plan = [] })
+live_step (entry.Ended s q why rows) live = None
+live_step e live = option_map (one_more e) live
+
+abbrev pub last_step : Entry → Option Stamp → Option Stamp
+last_step (entry.Open s) last = Some (stamp_of s)
+last_step _ last = last
+
+abbrev pub rows_step : ℕ → Entry → List Row → List Row
+rows_step z (entry.Op s q n op outcome) rows = rows ++ record { done = z; kept = kept_of outcome } ∷ []
+rows_step z _ rows = rows
 
 -- what entry number z of the client makes of its part
 abbrev pub part_step : ℕ → Entry → Part → Part
-part_step z (entry.Open s) p = record { last = Some (stamp_of s); rows = p.rows; live = Some (record { stamp = stamp_of s; count = 0; sent = 0 }) }
-part_step z (entry.Op s q n op outcome) p = record { last = p.last; rows = p.rows ++ record { done = z; kept = kept_of outcome } ∷ []; live = option_map one_more p.live }
-part_step z (entry.Again s q n) p = record { last = p.last; rows = p.rows; live = option_map one_more p.live }
-part_step z (entry.Ended s q why rows) p = record { last = p.last; rows = p.rows; live = None }
+part_step z e p = record { last = last_step e p.last; rows = rows_step z e p.rows; live = live_step e p.live }
 
 -- how many sessions are open after an entry
 abbrev pub open_step : Entry → ℕ → ℕ
@@ -77,6 +100,9 @@ abbrev pub answer_by : ℕ → Entry → Part → List Down
 answer_by z (entry.Open s) p = Welcome s z (length p.rows) ∷ []
 answer_by z (entry.Op s q n op outcome) p = message_next p.live (λ r. Reply s r z q n z (kept_of outcome))
 answer_by z (entry.Again s q n) p = reply_next s z q n p.live (slice_get p.rows (n - 1))
+answer_by z (entry.Left s q puts) p = message_next p.live (λ r. Armed s r z q)
+answer_by z (entry.Cancelled s q path) p = message_next p.live (λ r. Armed s r z q)
+answer_by z (entry.Denied s q why) p = message_next p.live (λ r. Denied s r z q why)
 answer_by z (entry.Ended s q why rows) p = message_next p.live (λ r. Gone s r z why)
 
 abbrev pub comes_after : Option Stamp → Stamp → Bool
@@ -91,6 +117,11 @@ abbrev pub listed : ClientId → Option LivePart → List SessionId
 listed c None = []
 listed c (Some l) = session_with c l.stamp ∷ []
 
+-- each row was asked for by a message that was accepted
+abbrev pub IsAsked : Option LivePart → Type 0
+IsAsked None = Unit {0}
+IsAsked (Some l) = All (λ row. row.q < l.count + 1) l.plan
+
 -- what is so after every legal log
 pub record Sound (es : List Entry) : Type 0 where
   -- at most one session of a client is open
@@ -99,6 +130,8 @@ pub record Sound (es : List Entry) : Type 0 where
   pub newest : (s : SessionId) → is_newest s es ≡ comes_after (last_of s.client es) (stamp_of s)
   -- what has ended was opened
   pub ended : (s : SessionId) → list_any (ends s) es ≡ true → list_any (opens s) es ≡ true
+  -- what an open session leaves was asked for by its messages so far
+  pub asked : (c : ClientId) → IsAsked (part_of c es).live
 
 -- ---- what an input asks for
 
@@ -122,32 +155,52 @@ said_by (Some l) s q accepted =
     then (if nat_le q l.count then quiet else (if q == l.count + 1 then accepted else refused fault.Order))
     else refused fault.Session
 
-abbrev pub hello_by : Part → SessionId → Decision
-hello_by p s =
+-- what the open session leaves
+abbrev pub plan_in : Option LivePart → List PlanRow
+plan_in None = []
+plan_in (Some l) = l.plan
+
+-- the end of the open session, with what is due
+abbrev pub end_by : Option LivePart → Rows Scalar → ℕ → Option ℕ → Why → SessionId → Entry
+end_by live tree moment q why s = entry.Ended s q why (due tree moment (plan_in live))
+
+abbrev pub hello_by : Part → Rows Scalar → ℕ → SessionId → Decision
+hello_by p tree moment s =
     if comes_after p.last (stamp_of s)
-    then opening (listed s.client p.live) s
+    then makes (map (end_by p.live tree moment None why.Superseded) (listed s.client p.live) ++ entry.Open s ∷ [])
     else refused (fault.Old (unwrap_or p.last (stamp_of s)))
 
+-- an action of message q is left, or denied where there would be too many rows
+abbrev pub leaves_by : Option LivePart → Entry → SessionId → ℕ → Decision
+leaves_by live e s q = within_rows (length (plan_after e (plan_in live))) e s q
+
 abbrev pub message_by : Part → Rows Scalar → ℕ → Up → Decision
-message_by p tree moment (up.Hello s) = hello_by p s
+message_by p tree moment (up.Hello s) = hello_by p tree moment s
 message_by p tree moment (up.Op s q n op) = said_by p.live s q (op_by (verdict n p.rows) tree moment s q n op)
-message_by p tree moment (up.Bye s q) = said_by p.live s q (end_of s (Some q) why.Bye)
+message_by p tree moment (up.Left s q op) = said_by p.live s q (leaves_by p.live (entry.Left s q (puts_of op)) s q)
+message_by p tree moment (up.Cancel s q path) = said_by p.live s q (leaves_by p.live (entry.Cancelled s q path) s q)
+message_by p tree moment (up.Bye s q) = said_by p.live s q (makes (end_by p.live tree moment (Some q) why.Bye s ∷ []))
+message_by p tree moment (up.Beat s) = if is_live p.live (stamp_of s) then quiet else refused fault.Session
 
--- the client of an input
-abbrev pub client_in : Input → ClientId
-client_in (input.Up m) = (session_in m).client
-client_in (input.Lost s) = s.client
-client_in (input.Slow s) = s.client
-client_in (input.Restart c) = c
+abbrev pub ends_live : Option LivePart → Rows Scalar → ℕ → Why → SessionId → Decision
+ends_live live tree moment why s = if is_live live (stamp_of s) then makes (end_by live tree moment None why s ∷ []) else quiet
 
-abbrev pub ends_live : Option LivePart → Why → SessionId → Decision
-ends_live live why s = if is_live live (stamp_of s) then end_of s None why else quiet
+-- the end of the client's open session, where it has one
+abbrev pub ends_of : Option LivePart → Rows Scalar → ℕ → Why → ClientId → Decision
+ends_of None tree moment why c = quiet
+ends_of (Some l) tree moment why c = makes (end_by (Some l) tree moment None why (session_with c l.stamp) ∷ [])
 
-abbrev pub wanted_by : Part → Rows Scalar → ℕ → Input → Decision
-wanted_by p tree moment (input.Up m) = message_by p tree moment m
-wanted_by p tree moment (input.Lost s) = ends_live p.live why.Lost s
-wanted_by p tree moment (input.Slow s) = ends_live p.live why.Slow s
-wanted_by p tree moment (input.Restart c) = ends_first why.Restart (listed c p.live)
+abbrev pub ends_late_by : (ClientId → Part) → Rows Scalar → ℕ → Option ClientId → Decision
+ends_late_by part tree moment None = quiet
+ends_late_by part tree moment (Some c) = ends_of (part c).live tree moment why.Lease c
+
+-- what an input asks for, by the part of each client, and when each was heard of last
+abbrev pub wanted_by : (ClientId → Part) → Heard → Rows Scalar → ℕ → Input → Decision
+wanted_by part heard tree moment (input.Up m) = message_by (part (session_in m).client) tree moment m
+wanted_by part heard tree moment (input.Lost s) = ends_live (part s.client).live tree moment why.Lost s
+wanted_by part heard tree moment (input.Slow s) = ends_live (part s.client).live tree moment why.Slow s
+wanted_by part heard tree moment (input.Restart c) = ends_of (part c).live tree moment why.Restart c
+wanted_by part heard tree moment input.Tick = ends_late_by part tree moment (late_client moment heard)
 
 abbrev pub open_steps : List Entry → ℕ → ℕ
 open_steps [] n = n

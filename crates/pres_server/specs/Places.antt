@@ -1,21 +1,27 @@
 -- Where a client stands, as plain data, and how an entry changes it.
-use Rattle.std.specs.Prelude.{◌≡◌, ◌<◌, ℕ, ◌+◌, max, true, Option, Some, None, length}
+use Rattle.std.specs.Prelude.{◌≡◌, ◌<◌, ◌≤◌, ℕ, ◌+◌, max, true, All, map, Option, Some, None, List, [], length}
 use Rattle.std.specs.Option.{option_map}
 use Rattle.std.specs.BTreeMap.{get}
+use Rattle.pres_tree.specs.declared.scalar.Scalar.{Scalar}
+use Rattle.pres_tree.specs.Rows.{Rows}
+use Rattle.pres_write.specs.declared.basic.Basic.{Basic}
 use Rattle.pres_wire.specs.declared.id.SessionId.{SessionId}
 use Rattle.pres_wire.specs.declared.id.Stamp.{Stamp}
 use Rattle.pres_wire.specs.Ids.{client_cmp, stamp_of}
 use Rattle.pres_wire.specs.Numbers.{greatest_number}
-use Rattle.pres_session.specs.declared.plan.NoPlan.{NoPlan}
+use Rattle.pres_plan.specs.declared.plan.Plan.{Plan}
+use Rattle.pres_plan.specs.declared.row.PlanRow.{PlanRow}
+use Rattle.pres_plan.specs.Plans.{most_rows, due}
 use Rattle.pres_session.specs.Lives.{Life, opened}
 use Rattle.pres_log.specs.declared.entry.Entry.{Entry}
 use Rattle.pres_log.specs.declared.entry.Entry.TheVariants as entry
 use Rattle.pres_server.specs.declared.places.Places.{Places}
-use Rattle.pres_server.specs.Parts.{LivePart, comes_after}
+use Rattle.pres_server.specs.Heard.{Heard}
+use Rattle.pres_server.specs.Parts.{LivePart, plan_after, comes_after}
 
--- a session that owes nothing at its end
+-- an open session with its plan
 abbrev pub Session : Type 0
-Session = Life NoPlan
+Session = Life Plan
 
 -- the stamp of a client's last session: of the open one, or of the one that is gone
 abbrev pub last_stamp : Option Session → Option Stamp → Option Stamp
@@ -32,14 +38,14 @@ moment_at live = option_map (λ session. session.heard) live
 
 -- what answers and checks need of it
 abbrev pub live_part : Session → LivePart
-live_part session = record { stamp = session.stamp; count = session.count; sent = session.sent }
+live_part session = record { stamp = session.stamp; count = session.count; sent = session.sent; plan = session.plan }
 
--- a session after a message of its client that was accepted at the moment, and answered
-abbrev pub answered : ℕ → Session → Session
-answered moment session = record { stamp = session.stamp; count = session.count + 1; sent = session.sent + 1; heard = max session.heard moment; plan = session.plan }
+-- a session after a message of its client that was accepted at the moment and answered, and leaves this plan
+abbrev pub answered : ℕ → List PlanRow → Session → Session
+answered moment plan session = record { stamp = session.stamp; count = session.count + 1; sent = session.sent + 1; heard = max session.heard moment; plan = plan }
 
 abbrev pub answered_at : ℕ → Option Session → Option Session
-answered_at moment live = option_map (answered moment) live
+answered_at moment live = option_map (λ session. answered moment session.plan session) live
 
 -- heard of at the moment
 abbrev pub heard_at : ℕ → Option Session → Option Session
@@ -47,13 +53,13 @@ heard_at moment live = option_map (λ session. record { stamp = session.stamp; c
 
 -- a session that begins
 abbrev pub began : Stamp → ℕ → Session
-began stamp moment = opened stamp moment (record {})
+began stamp moment = opened stamp moment []
 
 -- the client's open session after an entry of its own
 abbrev pub live_after : ℕ → Entry → Option Session → Option Session
 live_after moment (entry.Open s) live = Some (began (stamp_of s) moment)
 live_after moment (entry.Ended s q why rows) live = None
-live_after moment _ live = answered_at moment live
+live_after moment e live = option_map (λ session. answered moment (plan_after e session.plan) session) live
 
 -- the stamp of its last session, where that is gone
 abbrev pub gone_after : Entry → Option Session → Option Stamp → Option Stamp
@@ -65,6 +71,24 @@ gone_after _ live last = last
 abbrev pub HasRoom : Option Session → Type 0
 HasRoom (Some session) = (session.count < greatest_number) × (session.sent < greatest_number)
 HasRoom None = ⊥
+
+-- the session's next message is q, which leaves what the entry adds
+pub record MayLeave (session : Session) (q : ℕ) (e : Entry) : Type 0 where
+  pub later : All (λ row. row.q < q) session.plan
+  pub few : length (plan_after e session.plan) ≤ most_rows
+
+abbrev pub MayLeaveAt : Option Session → ℕ → Entry → Type 0
+MayLeaveAt None q e = ⊥
+MayLeaveAt (Some session) q e = MayLeave session q e
+
+-- these rows are due at the session's end
+abbrev pub AreDueAt : Option Session → List Basic → Type 0
+AreDueAt None rows = ⊥
+AreDueAt (Some session) rows = (tree : Rows Scalar) × (moment : ℕ) × (rows ≡ due tree moment session.plan)
+
+-- when the client of each open session was heard of last, in byte order of clients
+abbrev pub heard_of_all : Places → Heard
+heard_of_all places = map (λ e. (e.0, e.1.heard)) places.live.entries
 
 -- how many sessions are open
 abbrev pub open_count : Places → ℕ

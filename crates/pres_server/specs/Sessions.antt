@@ -15,6 +15,9 @@ abbrev pub session_of : Entry → SessionId
 session_of (entry.Open s) = s
 session_of (entry.Op s q n op outcome) = s
 session_of (entry.Again s q n) = s
+session_of (entry.Left s q puts) = s
+session_of (entry.Cancelled s q path) = s
+session_of (entry.Denied s q why) = s
 session_of (entry.Ended s q why rows) = s
 
 abbrev pub opened_by : Entry → Option SessionId

@@ -5,7 +5,7 @@ use Rattle.std.specs.List.{before_first}
 use Rattle.pres_write.specs.Outcomes.{kept_of}
 use Rattle.pres_wire.specs.declared.id.SessionId.{SessionId}
 use Rattle.pres_wire.specs.declared.down.Down.{Down}
-use Rattle.pres_wire.specs.declared.down.Down.TheVariants.{Welcome, Reply, Gone}
+use Rattle.pres_wire.specs.declared.down.Down.TheVariants.{Welcome, Reply, Armed, Denied, Gone}
 use Rattle.pres_wire.specs.Ids.{same_session}
 use Rattle.pres_retry.specs.declared.table.Row.{Row}
 use Rattle.pres_log.specs.declared.entry.Entry.{Entry}
@@ -26,6 +26,9 @@ abbrev pub own_answer : List Entry → Entry → List Unnumbered
 own_answer now (entry.Open s) = []
 own_answer now (entry.Op s q n op outcome) = let z = length now in (λ r. Reply s r z q n z (kept_of outcome)) ∷ []
 own_answer now (entry.Again s q n) = repeated_reply s (length now) q n (slice_get (rows_for s.client now) (n - 1))
+own_answer now (entry.Left s q puts) = (λ r. Armed s r (length now) q) ∷ []
+own_answer now (entry.Cancelled s q path) = (λ r. Armed s r (length now) q) ∷ []
+own_answer now (entry.Denied s q why) = (λ r. Denied s r (length now) q why) ∷ []
 own_answer now (entry.Ended s q why rows) = (λ r. Gone s r (length now) why) ∷ []
 
 -- what one entry, the last of these, adds to the stream of s

@@ -6,12 +6,15 @@ use Rattle.pres_tree.specs.Rows.{Rows}
 use Rattle.pres_write.specs.declared.op.Op.{Op}
 use Rattle.pres_write.specs.Moments as moments
 use Rattle.pres_write.specs.Outcomes.{resolved}
+use Rattle.pres_write.specs.Unconditionals.{puts_of}
 use Rattle.pres_wire.specs.declared.id.SessionId.{SessionId}
 use Rattle.pres_wire.specs.declared.id.Why.{Why}
 use Rattle.pres_wire.specs.declared.id.Why.TheVariants as why
 use Rattle.pres_wire.specs.declared.up.Up.{Up}
 use Rattle.pres_wire.specs.declared.up.Up.TheVariants as up
-use Rattle.pres_wire.specs.Ids.{stamp_of}
+use Rattle.pres_wire.specs.declared.down.Limit.TheVariants as limit
+use Rattle.pres_wire.specs.Ids.{ClientId, stamp_of}
+use Rattle.pres_plan.specs.Plans.{most_rows}
 use Rattle.pres_retry.specs.Verdicts.{verdict, Told, fresh, again, gap}
 use Rattle.pres_log.specs.declared.entry.Entry.{Entry}
 use Rattle.pres_log.specs.declared.entry.Entry.TheVariants as entry
@@ -20,10 +23,11 @@ use Rattle.pres_log.specs.declared.fault.Fault.TheVariants as fault
 use Rattle.pres_log.specs.Logs.{Log, last_moment, tree, entries, number}
 use Rattle.pres_server.specs.Sessions.{is_open, is_newest, open_sessions, open_sessions_of, last_of, count}
 use Rattle.pres_server.specs.Outcomes.{rows_for}
+use Rattle.pres_server.specs.SessionPlans.{plan, due_at}
 use Rattle.pres_log.specs.declared.entry.Batch.{Batch}
 use Rattle.pres_server.specs.declared.input.Input.{Input}
 use Rattle.pres_server.specs.declared.input.Input.TheVariants as input
-use Rattle.pres_server.specs.Heard.{heard_from, heard_of, heard_after_all, State}
+use Rattle.pres_server.specs.Heard.{heard_from, heard_of, heard_after_all, late_client, State}
 use Rattle.pres_server.specs.declared.turn.Step.{Step}
 use Rattle.pres_server.specs.declared.turn.Step.TheVariants as step
 use Rattle.pres_server.specs.declared.server.Turn.{Turn}
@@ -41,22 +45,31 @@ pub data Decision : Type 0 where
 abbrev pub moment_of : Log → ℕ → ℕ
 moment_of log now = max (min now moments.last_moment) (last_moment log)
 
--- the end of a session, which owes nothing
-abbrev pub end_of : SessionId → Option ℕ → Why → Decision
-end_of s q why = makes (entry.Ended s q why [] ∷ [])
+-- the end of a session, with what is due
+abbrev pub end_of : List Entry → ℕ → Option ℕ → Why → SessionId → Entry
+end_of before moment q why s = entry.Ended s q why (due_at before moment s)
 
--- the opening of a session, after the ends of these
-abbrev pub opening : List SessionId → SessionId → Decision
-opening older s = makes (map (λ t. entry.Ended t None why.Superseded []) older ++ entry.Open s ∷ [])
+-- the opening of a session, after the ends of those of its client that are open
+abbrev pub opening : List Entry → ℕ → SessionId → Decision
+opening before moment s = makes (map (end_of before moment None why.Superseded) (open_sessions_of s.client before) ++ entry.Open s ∷ [])
 
 -- the end of a session where it is open
-abbrev pub ends_if_open : List Entry → Why → SessionId → Decision
-ends_if_open before why s = if is_open s before then end_of s None why else quiet
+abbrev pub ends_if_open : List Entry → ℕ → Why → SessionId → Decision
+ends_if_open before moment why s = if is_open s before then makes (end_of before moment None why s ∷ []) else quiet
 
 -- the end of the first of these sessions, where there is one
-abbrev pub ends_first : Why → List SessionId → Decision
-ends_first why [] = quiet
-ends_first why (s ∷ more) = end_of s None why
+abbrev pub ends_first : List Entry → ℕ → Why → List SessionId → Decision
+ends_first before moment why [] = quiet
+ends_first before moment why (s ∷ more) = makes (end_of before moment None why s ∷ [])
+
+-- the end of the client's open session, where there is such a client
+abbrev pub ends_late : List Entry → ℕ → Option ClientId → Decision
+ends_late before moment None = quiet
+ends_late before moment (Some c) = ends_first before moment why.Lease (open_sessions_of c before)
+
+-- the entry of message q of the session, or a denial where so many rows would then be left
+abbrev pub within_rows : ℕ → Entry → SessionId → ℕ → Decision
+within_rows rows e s q = makes ((if nat_le rows most_rows then e else entry.Denied s q limit.Plan) ∷ [])
 
 -- what write n of a client makes, by what it is
 abbrev pub op_by : Told → Rows Scalar → ℕ → SessionId → ℕ → ℕ → Op → Decision
@@ -74,16 +87,23 @@ abbrev pub if_open : List Entry → SessionId → Decision → Decision
 if_open before s said = if is_open s before then said else refused fault.Session
 
 -- a Hello opens its session, and ends the one of its client that is open
-abbrev pub hello : List Entry → SessionId → Decision
-hello before s =
+abbrev pub hello : List Entry → ℕ → SessionId → Decision
+hello before moment s =
     if is_newest s before
-    then opening (open_sessions_of s.client before) s
+    then opening before moment s
     else refused (fault.Old (unwrap_or (last_of s.client before) (stamp_of s)))
 
+-- an action of message q is left, or denied where its session would then have too many rows
+abbrev pub leaves : List Entry → Entry → SessionId → ℕ → Decision
+leaves before e s q = within_rows (length (plan s (before ++ e ∷ []))) e s q
+
 abbrev pub message : List Entry → ℕ → Up → Decision
-message before moment (up.Hello s) = hello before s
+message before moment (up.Hello s) = hello before moment s
 message before moment (up.Op s q n op) = if_open before s (in_order before s q (op_by (verdict n (rows_for s.client before)) (tree before) moment s q n op))
-message before moment (up.Bye s q) = if_open before s (in_order before s q (end_of s (Some q) why.Bye))
+message before moment (up.Left s q op) = if_open before s (in_order before s q (leaves before (entry.Left s q (puts_of op)) s q))
+message before moment (up.Cancel s q path) = if_open before s (in_order before s q (leaves before (entry.Cancelled s q path) s q))
+message before moment (up.Bye s q) = if_open before s (in_order before s q (makes (end_of before moment (Some q) why.Bye s ∷ [])))
+message before moment (up.Beat s) = if_open before s quiet
 
 -- refused where no number would be left for the ends, or where there would be more than 1,024 sessions
 abbrev pub limited : List Entry → Decision → Decision
@@ -96,14 +116,15 @@ limited before other = other
 -- ---- a turn
 
 -- what an input asks for
-abbrev pub wanted : List Entry → ℕ → Input → Decision
-wanted before moment (input.Up m) = message before moment m
-wanted before moment (input.Lost s) = ends_if_open before why.Lost s
-wanted before moment (input.Slow s) = ends_if_open before why.Slow s
-wanted before moment (input.Restart c) = ends_first why.Restart (open_sessions_of c before)
+abbrev pub wanted : State → ℕ → Input → Decision
+wanted state moment (input.Up m) = message (entries state.log) moment m
+wanted state moment (input.Lost s) = ends_if_open (entries state.log) moment why.Lost s
+wanted state moment (input.Slow s) = ends_if_open (entries state.log) moment why.Slow s
+wanted state moment (input.Restart c) = ends_first (entries state.log) moment why.Restart (open_sessions_of c (entries state.log))
+wanted state moment input.Tick = ends_late (entries state.log) moment (late_client moment state.heard)
 
-abbrev pub turn : Log → Input → ℕ → Decision
-turn log input now = limited (entries log) (wanted (entries log) (moment_of log now) input)
+abbrev pub turn : State → Input → ℕ → Decision
+turn state input now = limited (entries state.log) (wanted state (moment_of state.log now) input)
 
 abbrev pub batch_of : Log → ℕ → List Entry → Batch
 batch_of log moment es = record { first = number log + 1; moment = moment; entries = es }
@@ -147,5 +168,5 @@ Decides from decision result = MatchResult result (IsStep from decision) (IsRefu
 
 -- a quiet turn answers nothing, and one that waits for its commit is the one that the input asks for
 abbrev pub IsTurn : State → Input → ℕ → Turn → Type 0
-IsTurn state input now (turn_is.Quiet server outs) = (turn state.log input now ≡ quiet) × (server ≡ state_heard state (moment_of state.log now) input) × (outs ≡ [])
-IsTurn state input now (turn_is.Busy busy) = (turn state.log input now ≡ makes busy.made) × (busy.state ≡ state) × (busy.moment ≡ moment_of state.log now)
+IsTurn state input now (turn_is.Quiet server outs) = (turn state input now ≡ quiet) × (server ≡ state_heard state (moment_of state.log now) input) × (outs ≡ [])
+IsTurn state input now (turn_is.Busy busy) = (turn state input now ≡ makes busy.made) × (busy.state ≡ state) × (busy.moment ≡ moment_of state.log now)

@@ -19,9 +19,9 @@ use crate::places::Places;
 use crate::reopen::Reopen;
 use pres_log::Entry;
 use pres_retry::{RetryTable, Verdict};
-use pres_tree::Tree;
-use pres_wire::{ClientId, Count, Down, Number, SessionId, Why};
-use pres_write::{Basic, Moment, Outcome, apply};
+use pres_tree::{Path, Tree};
+use pres_wire::{ClientId, Count, Down, Limit, Number, SessionId, Why};
+use pres_write::{Basic, Moment, Outcome, Puts, apply};
 use std::alloc::Global;
 
 /// What the log says.
@@ -193,6 +193,80 @@ impl Index {
         })
     }
 
+    // Takes in that the session left the puts by its message `q`, and answers it.
+    fn left(
+        &mut self,
+        alloc: Global,
+        session: &SessionId,
+        q: Number,
+        puts: &Puts,
+        made: Made,
+    ) -> Result<Down, Reopen>
+        requires { MayTake self.old (entry.Left session.now q puts.now) }
+        ensures steps { IfOk result
+            (λ _. StepsAt made self.old self.new (entry.Left session.now q puts.now)) }
+        ensures answer { IfOk result
+            (λ m. answer_on self.old made (entry.Left session.now q puts.now) ≡ m ∷ []) }
+    {
+        let puts = puts.copy(alloc)?;
+        let r = self.places.leave(alloc, session, q, puts, made.moment)?;
+        Ok(Down::Armed {
+            session: session.copy(alloc)?,
+            r,
+            z: made.number,
+            q,
+        })
+    }
+
+    // Takes in that the session took back what it had left at the path, and answers it.
+    fn cancelled(
+        &mut self,
+        alloc: Global,
+        session: &SessionId,
+        q: Number,
+        path: &Path,
+        made: Made,
+    ) -> Result<Down, Reopen>
+        requires { MayTake self.old (entry.Cancelled session.now q path.now) }
+        ensures steps { IfOk result
+            (λ _. StepsAt made self.old self.new (entry.Cancelled session.now q path.now)) }
+        ensures answer { IfOk result
+            (λ m. answer_on self.old made (entry.Cancelled session.now q path.now) ≡ m ∷ []) }
+    {
+        let r = self.places.cancel(alloc, session, q, path, made.moment)?;
+        Ok(Down::Armed {
+            session: session.copy(alloc)?,
+            r,
+            z: made.number,
+            q,
+        })
+    }
+
+    // Takes in that the session's message `q` met a limit, and answers it.
+    fn denied(
+        &mut self,
+        alloc: Global,
+        session: &SessionId,
+        q: Number,
+        why: Limit,
+        made: Made,
+    ) -> Result<Down, Reopen>
+        requires { MayTake self.old (entry.Denied session.now q why) }
+        ensures steps { IfOk result
+            (λ _. StepsAt made self.old self.new (entry.Denied session.now q why)) }
+        ensures answer { IfOk result
+            (λ m. answer_on self.old made (entry.Denied session.now q why) ≡ m ∷ []) }
+    {
+        let r = self.places.answer(&session.client, made.moment);
+        Ok(Down::Denied {
+            session: session.copy(alloc)?,
+            r,
+            z: made.number,
+            q,
+            why,
+        })
+    }
+
     // Takes in that the session ended, and answers it.
     fn end(
         &mut self,
@@ -234,6 +308,11 @@ impl Index {
                 ..
             } => self.write(alloc, session, *q, *n, outcome, made),
             Entry::Again { session, q, n } => self.write_again(alloc, session, *q, *n, made),
+            Entry::Left { session, q, puts } => self.left(alloc, session, *q, puts, made),
+            Entry::Cancelled { session, q, path } => {
+                self.cancelled(alloc, session, *q, path, made)
+            }
+            Entry::Denied { session, q, why } => self.denied(alloc, session, *q, *why, made),
             Entry::Ended {
                 session,
                 why,

@@ -13,4 +13,7 @@ pub enum Input {
     Slow(SessionId),
     /// The server was started again: the client's open session is to end.
     Restart(ClientId),
+    /// Time went by: the first client in byte order that was silent for longer than its lease, 60
+    /// seconds, loses its session. One call ends at most one session.
+    Tick,
 }

@@ -5,11 +5,12 @@ ghost use Rattle.pres_wire.specs.declared.id.SessionId.{SessionId};
 ghost use Rattle.pres_log.specs.Logs.{Log};
 ghost use Rattle.pres_log.specs.declared.entry.Entry.{Entry};
 ghost use Rattle.pres_server.specs.declared.input.Input.{Input};
+ghost use Rattle.pres_server.specs.Heard.{State};
 ghost use Rattle.pres_server.specs.Laws.{TurnIsLegal, LegalIsSound, StreamSteps, StreamGrows};
 
 /// A turn on a legal log leaves a legal log.
 pub fn turns_are_legal()
-    ensures { (log : Log) (input : Input) (now : ℕ) → TurnIsLegal log input now }
+    ensures { (state : State) (input : Input) (now : ℕ) → TurnIsLegal state input now }
 {}
 
 /// After a legal log a client has at most one open session, and its last one is its newest.

@@ -12,9 +12,10 @@ mod turn;
 
 pub use input::Input;
 pub use pres_log::{Batch, Entry, Fault, Log};
+pub use pres_plan::{Action, Plan, PlanRow};
 pub use pres_retry::Row;
 pub use pres_tree::{Path, Tree};
-pub use pres_wire::{ClientId, Code, Count, Down, Number, SessionId, Stamp, Up, Why};
-pub use pres_write::{Items, Kept, Moment, Op, Outcome};
+pub use pres_wire::{ClientId, Code, Count, Down, Limit, Number, SessionId, Stamp, Up, Why};
+pub use pres_write::{Basic, Items, Kept, Moment, Op, Outcome, Placement, Puts, Unconditional};
 pub use reopen::Reopen;
 pub use server::{Busy, Server, Turn};

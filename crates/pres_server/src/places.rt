@@ -1,22 +1,30 @@
 //! Where each client stands.
 
-ghost use Rattle.std.specs.Prelude.{◌≡◌, [], IfSome, OnOk, IfOk, IsSome, Some, None, option_map, option_copied};
+ghost use Rattle.std.specs.Prelude.{◌≡◌, ◌+◌, nat_lt, [], IfSome, OnOk, IfOk, IsSome, Some, None, option_map, option_copied};
 ghost use Rattle.std.specs.BTreeMap.{get, Updates, IsOrdered};
 ghost use Rattle.pres_wire.specs.Ids.{client_cmp, stamp_of};
-ghost use Rattle.pres_server.specs.Places.{began, next_number, last_stamp, open_count, MayOpen, HasRoom, answered, answered_at, heard_at};
+ghost use Rattle.pres_server.specs.Places.{began, next_number, last_stamp, open_count, MayOpen, MayLeave, MayLeaveAt, AreDueAt, HasRoom, answered, answered_at, live_after, heard_at, heard_of_all};
+ghost use Rattle.pres_server.specs.Heard.{lease, late_client};
+ghost use Rattle.pres_log.specs.declared.entry.Entry.TheVariants as entry;
 
-use pres_session::{Gone, Live, NoPlan, first};
+use crate::reopen::Reopen;
+use pres_plan::{Plan, PlanFault};
+use pres_session::{Gone, Live, first};
+use pres_tree::Path;
 use pres_wire::{ClientId, Number, SessionId, Stamp, Why};
-use pres_write::{Basic, Moment};
+use pres_write::{Basic, Moment, Puts};
 use std::alloc::{AllocError, Global};
 use std::collections::BTreeMap;
+
+// How long a client may be silent, in milliseconds.
+const LEASE: u64 = 60_000;
 
 /// Where each client stands that had a session. The open sessions stand apart from those that are
 /// gone, so that who looks at each open session sees no other client.
 #[derive(Drop)]
 pub(crate) struct Places {
     /// The open session of each client that has one.
-    pub(crate) live: BTreeMap<ClientId, Live<NoPlan>>,
+    pub(crate) live: BTreeMap<ClientId, Live<Plan>>,
     /// The last session of each other client.
     pub(crate) gone: BTreeMap<ClientId, Gone>,
 }
@@ -32,10 +40,10 @@ fn take<V>(map: &mut BTreeMap<ClientId, V>, client: &ClientId) -> Option<(Client
 
 // Counts a message of the session, which was accepted at the moment, and its answer: the answer's
 // number.
-fn answer_in(live: &mut Live<NoPlan>, moment: Moment) -> Number
+fn answer_in(live: &mut Live<Plan>, moment: Moment) -> Number
     requires { HasRoom (Some live.old) }
     ensures number { Some result ≡ next_number (Some live.old) }
-    ensures session { live.new ≡ answered moment live.old }
+    ensures session { live.new ≡ answered moment live.old.plan live.old }
 {
     live.hear(moment);
     let Ok(_) = live.accept() else { unreachable!() };
@@ -43,6 +51,58 @@ fn answer_in(live: &mut Live<NoPlan>, moment: Moment) -> Number
         unreachable!()
     };
     number
+}
+
+// The session leaves what its message `q` puts: the number of its answer.
+fn leave_in(
+    live: &mut Live<Plan>,
+    alloc: Global,
+    session: &SessionId,
+    q: Number,
+    puts: Puts,
+    moment: Moment,
+) -> Result<Number, Reopen>
+    requires room { HasRoom (Some live.old) }
+    requires may { MayLeave live.old q (entry.Left session.now q puts) }
+    ensures number { IfOk result (λ r. Some r ≡ next_number (Some live.old)) }
+    ensures session { OnOk result
+        (Some live.new ≡ live_after moment (entry.Left session.now q puts) (Some live.old)) }
+{
+    match live.plan_mut().update(alloc, q, puts.into_items()) {
+        Ok(()) => Ok(answer_in(live, moment)),
+        Err(PlanFault::Memory) => Err(Reopen),
+        Err(PlanFault::Full) => unreachable!(),
+    }
+}
+
+// The session takes back what it left at the path, by its message `q`: the number of its answer.
+fn cancel_in(
+    live: &mut Live<Plan>,
+    alloc: Global,
+    session: &SessionId,
+    q: Number,
+    path: &Path,
+    moment: Moment,
+) -> Result<Number, Reopen>
+    requires room { HasRoom (Some live.old) }
+    requires may { MayLeave live.old q (entry.Cancelled session.now q path.now) }
+    ensures number { IfOk result (λ r. Some r ≡ next_number (Some live.old)) }
+    ensures session { OnOk result
+        (Some live.new ≡ live_after moment (entry.Cancelled session.now q path.now)
+        (Some live.old)) }
+{
+    match live.plan_mut().cancel(alloc, q, path) {
+        Ok(()) => Ok(answer_in(live, moment)),
+        Err(PlanFault::Memory) => Err(Reopen),
+        Err(PlanFault::Full) => unreachable!(),
+    }
+}
+
+// Whether a client that was heard of last then is silent for longer than its lease.
+fn is_late(heard: Moment, moment: Moment) -> bool
+    ensures { result ≡ nat_lt (heard + lease) moment }
+{
+    heard.millis() + LEASE < moment.millis()
 }
 
 impl Places {
@@ -80,12 +140,13 @@ impl Places {
             session.now.client None) }
     {
         let stamp = session.stamp();
+        let plan = Plan::new(alloc);
         let Some((client, gone)) = take(&mut self.gone, &session.client) else {
             let client = session.client.copy(alloc)?;
-            drop(self.live.insert(client, first(stamp, moment, NoPlan))?);
+            drop(self.live.insert(client, first(stamp, moment, plan))?);
             return Ok(());
         };
-        let Ok(live) = gone.open(stamp, moment, NoPlan) else {
+        let Ok(live) = gone.open(stamp, moment, plan) else {
             unreachable!()
         };
         drop(self.live.insert(client, live)?);
@@ -107,6 +168,58 @@ impl Places {
         answer_in(live, moment)
     }
 
+    /// The open session leaves what its message `q` puts, which was accepted at the moment: the
+    /// number of its answer.
+    pub(crate) fn leave(
+        &mut self,
+        alloc: Global,
+        session: &SessionId,
+        q: Number,
+        puts: Puts,
+        moment: Moment,
+    ) -> Result<Number, Reopen>
+        requires room { HasRoom (get client_cmp self.old.live session.now.client) }
+        requires may { MayLeaveAt (get client_cmp self.old.live session.now.client) q
+            (entry.Left session.now q puts) }
+        ensures number { IfOk result
+            (λ r. Some r ≡ next_number (get client_cmp self.old.live session.now.client)) }
+        ensures live { OnOk result (Updates client_cmp self.old.live self.new.live
+            session.now.client (live_after moment (entry.Left session.now q puts)
+            (get client_cmp self.old.live session.now.client))) }
+        ensures gone { self.new.gone ≡ self.old.gone }
+    {
+        let Some(live) = self.live.get_mut(&session.client) else {
+            unreachable!()
+        };
+        leave_in(live, alloc, session, q, puts, moment)
+    }
+
+    /// The open session takes back what it left at the path, by its message `q`, which was accepted
+    /// at the moment: the number of its answer.
+    pub(crate) fn cancel(
+        &mut self,
+        alloc: Global,
+        session: &SessionId,
+        q: Number,
+        path: &Path,
+        moment: Moment,
+    ) -> Result<Number, Reopen>
+        requires room { HasRoom (get client_cmp self.old.live session.now.client) }
+        requires may { MayLeaveAt (get client_cmp self.old.live session.now.client) q
+            (entry.Cancelled session.now q path.now) }
+        ensures number { IfOk result
+            (λ r. Some r ≡ next_number (get client_cmp self.old.live session.now.client)) }
+        ensures live { OnOk result (Updates client_cmp self.old.live self.new.live
+            session.now.client (live_after moment (entry.Cancelled session.now q path.now)
+            (get client_cmp self.old.live session.now.client))) }
+        ensures gone { self.new.gone ≡ self.old.gone }
+    {
+        let Some(live) = self.live.get_mut(&session.client) else {
+            unreachable!()
+        };
+        cancel_in(live, alloc, session, q, path, moment)
+    }
+
     /// Ends the client's open session, whose due writes these are: the number of its last message.
     pub(crate) fn end(
         &mut self,
@@ -115,7 +228,7 @@ impl Places {
         rows: &[Basic],
     ) -> Result<Number, AllocError>
         requires room { HasRoom (get client_cmp self.old.live client.now) }
-        requires due { rows.now ≡ [] }
+        requires due { AreDueAt (get client_cmp self.old.live client.now) rows.now }
         ensures number { IfOk result
             (λ r. Some r ≡ next_number (get client_cmp self.old.live client.now)) }
         ensures live { OnOk result (Updates client_cmp self.old.live self.new.live client.now None) }
@@ -149,8 +262,18 @@ impl Places {
         }
     }
 
+    /// The first client, in byte order, that is silent for longer than its lease.
+    pub(crate) fn late(&self, moment: Moment) -> Option<&ClientId>
+        ensures { option_copied result ≡ late_client moment (heard_of_all self.now) }
+    {
+        self.live
+            .iter()
+            .find(|(_, live)| is_late(live.heard(), moment))
+            .map(|(client, _)| client)
+    }
+
     /// The client's open session.
-    pub(crate) fn session(&self, client: &ClientId) -> Option<&Live<NoPlan>>
+    pub(crate) fn session(&self, client: &ClientId) -> Option<&Live<Plan>>
         ensures { option_copied result ≡ get client_cmp self.now.live client.now }
     {
         self.live.get(client)

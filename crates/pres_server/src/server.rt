@@ -180,7 +180,7 @@ impl Server {
     /// Full, Busy.
     pub fn prepare(mut self, input: Input, now: Moment) -> Result<Turn, (Fault, Server)>
         ensures turn { IfOk result (IsTurn self input now) }
-        ensures refused { IfErr result (λ e. IsRefusal (turn self.log input now) e.0) }
+        ensures refused { IfErr result (λ e. IsRefusal (turn self input now) e.0) }
         ensures unchanged { IfErr result (λ e. e.1 ≡ self) }
     {
         // it ensures that the moment is in range

@@ -1,21 +1,27 @@
 //! What an input asks for.
 
-ghost use Rattle.std.specs.Prelude.{◌≡◌, ◌<◌, ◌∷◌, ◌^◌, [], IfOk, IfErr, Some, None};
+ghost use Rattle.std.specs.Prelude.{◌≡◌, ◌<◌, ◌∷◌, ◌^◌, [], IfOk, IfErr, IsSome, Some, None};
 ghost use Rattle.pres_wire.specs.Ids.{stamp_of};
 ghost use Rattle.pres_wire.specs.declared.up.Up.TheVariants as up;
 ghost use Rattle.pres_log.specs.declared.fault.Fault.TheVariants.{Busy};
-ghost use Rattle.pres_server.specs.Turns.{Decision, end_of, opening, Makes, Decides};
-ghost use Rattle.pres_server.specs.Parts.{said_by, ends_live, is_live, within, checked, said, session_with};
+ghost use Rattle.pres_server.specs.Turns.{Decision, makes, Makes, Decides};
+ghost use Rattle.pres_server.specs.Parts.{said_by, ends_live, ends_of, end_by, leaves_by, is_live, within, checked, said, session_with};
 ghost use Rattle.pres_server.specs.declared.input.Input.TheVariants as input;
-ghost use Rattle.pres_server.specs.Places.{open_count};
-ghost use Rattle.pres_server.specs.Index.{live_at, limited_on, write_on, decision_on, DecidesOn, Ready};
+ghost use Rattle.pres_wire.specs.declared.id.Why.TheVariants as why;
+ghost use Rattle.pres_write.specs.Unconditionals.{puts_of};
+ghost use Rattle.pres_log.specs.declared.entry.Entry.TheVariants as entry;
+ghost use Rattle.pres_server.specs.Places.{open_count, live_part};
+ghost use Rattle.pres_server.specs.Index.{live_at, part_at, limited_on, write_on, decision_on, DecidesOn, Ready};
 
 use crate::index::Index;
 use crate::input::Input;
 use pres_log::{Entry, Fault};
+use pres_plan::Plan;
 use pres_retry::Verdict;
-use pres_wire::{ClientId, Number, SessionId, Stamp, Up, Why};
-use pres_write::{Items, Moment, Op};
+use pres_session::Live;
+use pres_tree::Path;
+use pres_wire::{ClientId, Limit, Number, SessionId, Up, Why};
+use pres_write::{Items, Moment, Op, Puts, Unconditional};
 use std::alloc::Global;
 
 // So many sessions may be open at a time.
@@ -99,6 +105,31 @@ impl Index {
         }
     }
 
+    // The entry of the end of an open session, with what is due.
+    fn ended(
+        &self,
+        alloc: Global,
+        live: &Live<Plan>,
+        session: SessionId,
+        q: Option<Number>,
+        why: Why,
+        now: Now,
+    ) -> Result<Entry, Fault>
+        ensures ok { IfOk result (λ e. e ≡
+            end_by (Some (live_part live.now)) self.now.tree now.moment q why session) }
+        ensures err { IfErr result (λ e. e ≡ Busy) }
+    {
+        let Ok(rows) = live.plan().due_writes(alloc, &self.tree, now.moment) else {
+            return Err(Fault::Busy);
+        };
+        Ok(Entry::Ended {
+            session,
+            q,
+            why,
+            rows,
+        })
+    }
+
     // The end of an open session.
     fn ending(
         &self,
@@ -109,42 +140,36 @@ impl Index {
         now: Now,
     ) -> Result<Items<Entry>, Fault>
         requires ready { Ready self.now now }
-        requires open { 0 < open_count self.now.places }
-        ensures { Makes (limited_on self.now now.number (end_of session q why)) result }
+        requires open { IsSome (live_at self.now session) }
+        ensures { Makes (limited_on self.now now.number (makes
+            (end_by (live_at self.now session) self.now.tree now.moment q why session ∷ [])))
+            result }
     {
+        let Some(live) = self.places.session(&session.client) else {
+            unreachable!()
+        };
         limits(now.number + 1, self.places.open_count() - 1)?;
-        let rows = Items::of(Vec::new(alloc));
-        Ok(Items::one(
-            alloc,
-            Entry::Ended {
-                session,
-                q,
-                why,
-                rows,
-            },
-        )?)
+        let ended = self.ended(alloc, live, session, q, why, now)?;
+        Ok(Items::one(alloc, ended)?)
     }
 
-    // The opening of a session, after the end of the client's open one, which has the stamp.
+    // The opening of a session, after the end of the client's open one.
     fn superseding(
         &self,
         alloc: Global,
         session: SessionId,
-        stamp: Stamp,
+        live: &Live<Plan>,
         now: Now,
     ) -> Result<Items<Entry>, Fault>
         requires ready { Ready self.now now }
         requires open { 0 < open_count self.now.places }
-        ensures { Makes (limited_on self.now now.number
-            (opening (session_with session.client stamp ∷ []) session)) result }
+        ensures { Makes (limited_on self.now now.number (makes
+            (end_by (Some (live_part live.now)) self.now.tree now.moment None why.Superseded
+            (session_with session.client live.now.stamp) ∷ entry.Open session ∷ []))) result }
     {
         limits(now.number + 2, self.places.open_count())?;
-        let ended = Entry::Ended {
-            session: SessionId::of(session.client.copy(alloc)?, stamp),
-            q: None,
-            why: Why::Superseded,
-            rows: Items::of(Vec::new(alloc)),
-        };
+        let old = SessionId::of(session.client.copy(alloc)?, live.stamp());
+        let ended = self.ended(alloc, live, old, None, Why::Superseded, now)?;
         pair(alloc, ended, Entry::Open { session })
     }
 
@@ -159,8 +184,7 @@ impl Index {
             }
         }
         if let Some(live) = self.places.session(&session.client) {
-            let stamp = live.stamp();
-            return self.superseding(alloc, session, stamp, now);
+            return self.superseding(alloc, session, live, now);
         }
         limits(now.number + 1, self.places.open_count() + 1)?;
         Ok(Items::one(alloc, Entry::Open { session })?)
@@ -240,6 +264,123 @@ impl Index {
         Ok(Step::Makes(self.ending(alloc, session, Some(q), Why::Bye, now)?))
     }
 
+    // The entry of puts that are left, or of their denial.
+    fn left_entry(&self, session: SessionId, q: Number, puts: Puts) -> Entry
+        requires open { IsSome (live_at self.now session) }
+        ensures { makes (result ∷ []) ≡
+            leaves_by (live_at self.now session) (entry.Left session q puts) session q }
+    {
+        let Some(live) = self.places.session(&session.client) else {
+            unreachable!()
+        };
+        if live.plan().may_update(puts.as_slice()) {
+            return Entry::Left { session, q, puts };
+        }
+        let why = Limit::Plan;
+        Entry::Denied { session, q, why }
+    }
+
+    // What an operation makes that is left by the open session's next message.
+    fn left(
+        &self,
+        alloc: Global,
+        session: SessionId,
+        q: Number,
+        op: &Unconditional,
+        now: Now,
+    ) -> Result<Items<Entry>, Fault>
+        requires ready { Ready self.now now }
+        requires open { IsSome (live_at self.now session) }
+        ensures { Makes (limited_on self.now now.number (leaves_by (live_at self.now session)
+            (entry.Left session q (puts_of op.now)) session q)) result }
+    {
+        limits(now.number + 1, self.places.open_count())?;
+        let puts = op.puts(alloc)?;
+        let entry = self.left_entry(session, q, puts);
+        Ok(Items::one(alloc, entry)?)
+    }
+
+    // What a Left asks for.
+    fn left_message(
+        &self,
+        alloc: Global,
+        session: SessionId,
+        q: Number,
+        op: Unconditional,
+        now: Now,
+    ) -> Result<Step, Fault>
+        requires { Ready self.now now }
+        ensures { DecidesOn self.now now (input.Up (up.Left session q op)) result }
+    {
+        if !self.is_next(&session, q)? {
+            return Ok(Step::Quiet(Some(session)));
+        }
+        Ok(Step::Makes(self.left(alloc, session, q, &op, now)?))
+    }
+
+    // The entry of a cancel, or of its denial.
+    fn cancel_entry(&self, session: SessionId, q: Number, path: Path) -> Entry
+        requires open { IsSome (live_at self.now session) }
+        ensures { makes (result ∷ []) ≡
+            leaves_by (live_at self.now session) (entry.Cancelled session q path) session q }
+    {
+        let Some(live) = self.places.session(&session.client) else {
+            unreachable!()
+        };
+        if live.plan().may_cancel(&path) {
+            return Entry::Cancelled { session, q, path };
+        }
+        let why = Limit::Plan;
+        Entry::Denied { session, q, why }
+    }
+
+    // What a cancel makes that is the open session's next message.
+    fn cancel(
+        &self,
+        alloc: Global,
+        session: SessionId,
+        q: Number,
+        path: Path,
+        now: Now,
+    ) -> Result<Items<Entry>, Fault>
+        requires ready { Ready self.now now }
+        requires open { IsSome (live_at self.now session) }
+        ensures { Makes (limited_on self.now now.number (leaves_by (live_at self.now session)
+            (entry.Cancelled session q path) session q)) result }
+    {
+        limits(now.number + 1, self.places.open_count())?;
+        let entry = self.cancel_entry(session, q, path);
+        Ok(Items::one(alloc, entry)?)
+    }
+
+    // What a Cancel asks for.
+    fn cancel_message(
+        &self,
+        alloc: Global,
+        session: SessionId,
+        q: Number,
+        path: Path,
+        now: Now,
+    ) -> Result<Step, Fault>
+        requires { Ready self.now now }
+        ensures { DecidesOn self.now now (input.Up (up.Cancel session q path)) result }
+    {
+        if !self.is_next(&session, q)? {
+            return Ok(Step::Quiet(Some(session)));
+        }
+        Ok(Step::Makes(self.cancel(alloc, session, q, path, now)?))
+    }
+
+    // What a Beat asks for: nothing, but its client was heard of.
+    fn beat(&self, session: SessionId, now: Now) -> Result<Step, Fault>
+        ensures { DecidesOn self.now now (input.Up (up.Beat session)) result }
+    {
+        if self.is_live(&session) {
+            return Ok(Step::Quiet(Some(session)));
+        }
+        Err(Fault::Session)
+    }
+
     // What a message asks for.
     fn message(&self, alloc: Global, up: Up, now: Now) -> Result<Step, Fault>
         requires { Ready self.now now }
@@ -248,7 +389,10 @@ impl Index {
         match up {
             Up::Hello { session } => Ok(Step::Makes(self.hello(alloc, session, now)?)),
             Up::Op { session, q, n, op } => self.op_message(alloc, session, q, n, op, now),
+            Up::Left { session, q, op } => self.left_message(alloc, session, q, op, now),
+            Up::Cancel { session, q, path } => self.cancel_message(alloc, session, q, path, now),
             Up::Bye { session, q } => self.bye_message(alloc, session, q, now),
+            Up::Beat { session } => self.beat(session, now),
         }
     }
 
@@ -256,7 +400,7 @@ impl Index {
     fn lost(&self, alloc: Global, session: SessionId, why: Why, now: Now) -> Result<Step, Fault>
         requires { Ready self.now now }
         ensures { Decides None (limited_on self.now now.number
-            (ends_live (live_at self.now session) why session)) result }
+            (ends_live (live_at self.now session) self.now.tree now.moment why session)) result }
     {
         if !self.is_live(&session) {
             return Ok(Step::Quiet(None));
@@ -265,15 +409,29 @@ impl Index {
     }
 
     // The end of the client's open session, where it has one.
-    fn restarted(&self, alloc: Global, client: ClientId, now: Now) -> Result<Step, Fault>
+    fn end_of(&self, alloc: Global, client: &ClientId, why: Why, now: Now) -> Result<Step, Fault>
         requires { Ready self.now now }
-        ensures { DecidesOn self.now now (input.Restart client) result }
+        ensures { Decides None (limited_on self.now now.number (ends_of
+            (part_at self.now client.now).live self.now.tree now.moment why client.now)) result }
     {
-        let Some(live) = self.places.session(&client) else {
+        let Some(live) = self.places.session(client) else {
             return Ok(Step::Quiet(None));
         };
-        let session = SessionId::of(client, live.stamp());
-        Ok(Step::Makes(self.ending(alloc, session, None, Why::Restart, now)?))
+        limits(now.number + 1, self.places.open_count() - 1)?;
+        let session = SessionId::of(client.copy(alloc)?, live.stamp());
+        let ended = self.ended(alloc, live, session, None, why, now)?;
+        Ok(Step::Makes(Items::one(alloc, ended)?))
+    }
+
+    // The end of the first session whose client is silent for longer than its lease.
+    fn tick(&self, alloc: Global, now: Now) -> Result<Step, Fault>
+        requires { Ready self.now now }
+        ensures { DecidesOn self.now now input.Tick result }
+    {
+        match self.places.late(now.moment) {
+            Some(client) => self.end_of(alloc, client, Why::Lease, now),
+            None => Ok(Step::Quiet(None)),
+        }
     }
 
     /// What the input asks for. Busy is the last of its refusals.
@@ -285,7 +443,8 @@ impl Index {
             Input::Up(up) => self.message(alloc, up, now),
             Input::Lost(session) => self.lost(alloc, session, Why::Lost, now),
             Input::Slow(session) => self.lost(alloc, session, Why::Slow, now),
-            Input::Restart(client) => self.restarted(alloc, client, now),
+            Input::Restart(client) => self.end_of(alloc, &client, Why::Restart, now),
+            Input::Tick => self.tick(alloc, now),
         }
     }
 }
