@@ -9,9 +9,8 @@ use Rattle.pres_wire.specs.declared.id.SessionId.{SessionId}
 use Rattle.pres_wire.specs.Ids.{ClientId, same_client, stamp_of}
 use Rattle.pres_wire.specs.Numbers.{greatest_number}
 use Rattle.pres_session.specs.declared.slot.Slot.TheVariants.{Never, Gone, Live}
-use Rattle.pres_retry.specs.declared.table.Record.{Record}
 use Rattle.pres_retry.specs.declared.table.Row.{Row}
-use Rattle.pres_retry.specs.Tables.{row, rows_of}
+use Rattle.pres_retry.specs.Tables.{Table, row, rows_of}
 use Rattle.pres_retry.specs.Verdicts.{verdict, told_row, again, fresh, gap}
 use Rattle.pres_retry.proofs.Records.{rows_of_recorded}
 use Rattle.pres_log.specs.declared.entry.Entry.{Entry}
@@ -110,7 +109,7 @@ step_is z m (entry.Ended s q why due) (Some Never) rows = refl
 step_is z m (entry.Ended s q why due) (Some (Gone last)) rows = refl
 step_is z m (entry.Ended s q why due) (Some (Live session)) rows = refl
 
-rows_own : (z : ℕ) (e : Entry) (table : List Record) → rows_of (session_of e).client (retry_after z e table) ≡ rows_after z e (rows_of (session_of e).client table)
+rows_own : (z : ℕ) (e : Entry) (table : Table) → rows_of (session_of e).client (retry_after z e table) ≡ rows_after z e (rows_of (session_of e).client table)
 rows_own z (entry.Open s) table = refl
 rows_own z (entry.Op s q n op outcome) table =
     rows_of_recorded s.client s.client n (row z (kept_of outcome)) table
@@ -118,7 +117,7 @@ rows_own z (entry.Op s q n op outcome) table =
 rows_own z (entry.Again s q n) table = refl
 rows_own z (entry.Ended s q why due) table = refl
 
-rows_other : (z : ℕ) (e : Entry) (c : ClientId) (table : List Record) → same_client (session_of e).client c ≡ false → rows_of c (retry_after z e table) ≡ rows_of c table
+rows_other : (z : ℕ) (e : Entry) (c : ClientId) (table : Table) → same_client (session_of e).client c ≡ false → rows_of c (retry_after z e table) ≡ rows_of c table
 rows_other z (entry.Open s) c table h = refl
 rows_other z (entry.Op s q n op outcome) c table h =
     rows_of_recorded c s.client n (row z (kept_of outcome)) table

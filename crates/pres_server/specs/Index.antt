@@ -26,9 +26,8 @@ use Rattle.pres_tree.specs.declared.scalar.Scalar.{Scalar}
 use Rattle.pres_tree.specs.Rows.{Rows}
 use Rattle.pres_write.specs.Basics.{applied}
 use Rattle.pres_write.specs.Outcomes.{kept_of, writes_in}
-use Rattle.pres_retry.specs.declared.table.Record.{Record}
 use Rattle.pres_retry.specs.declared.table.Row.{Row}
-use Rattle.pres_retry.specs.Tables.{row, rows_of, recorded}
+use Rattle.pres_retry.specs.Tables.{Table, row, rows_of, recorded}
 use Rattle.pres_retry.specs.Verdicts.{verdict, again}
 use Rattle.pres_log.specs.Logs.{tree}
 use Rattle.pres_server.specs.declared.index.Index.{Index}
@@ -130,7 +129,7 @@ abbrev pub Tells : Heard → Index → Type 0
 Tells heard index = (c : ClientId) → heard_last heard c ≡ moment_at (place_at index c)
 
 -- the kept answers after entry number z
-abbrev pub retry_after : ℕ → Entry → List Record → List Record
+abbrev pub retry_after : ℕ → Entry → Table → Table
 retry_after z (entry.Op s q n op outcome) table = recorded s.client n (row z (kept_of outcome)) table
 retry_after z _ table = table
 
