@@ -1,2 +1,2 @@
-pub mod Places
+pub mod Puts
 pub mod Records

@@ -1,24 +1,35 @@
--- The records of answered writes, in the order in which they came.
-use Rattle.std.specs.Prelude.{◌≡◌, ◌+◌, ℕ, List, [], ◌∷◌, ◌++◌, map, filter, slice_get, IfSome}
-use Rattle.pres_wire.specs.Ids.{ClientId, same_client}
+-- The answered writes of each client, which are numbered 1, 2, .. without a gap.
+use Rattle.std.specs.Prelude.{ℕ, List, [], ◌∷◌, ◌++◌, length, map, unwrap_or, IfSome, Vec}
+use Rattle.std.specs.declared.alloc.Global.{Global}
+use Rattle.std.specs.FinMap.Entries.{find, put}
+use Rattle.pres_wire.specs.Ids.{ClientId, client_cmp}
+use Rattle.pres_wire.specs.Numbers.{IsNumber}
 use Rattle.pres_write.specs.declared.outcome.Kept.{Kept}
-use Rattle.pres_retry.specs.declared.table.Record.{Record}
 use Rattle.pres_retry.specs.declared.table.Row.{Row}
 
 abbrev pub row : ℕ → Kept → Row
 row done kept = record { done = done; kept = kept }
 
--- the table after one more record
-abbrev pub recorded : ClientId → ℕ → Row → List Record → List Record
-recorded client n row table = table ++ record { client = client; number = n; row = row } ∷ []
+-- the clients that have answered writes, in byte order, each with what is kept of its writes 1, 2, ..
+abbrev pub Table : Type 0
+Table = List (ClientId × List Row)
 
-abbrev pub records_of : ClientId → List Record → List Record
-records_of client table = filter (λ r. same_client r.client client) table
+-- what is kept of the client's writes 1, 2, .., nothing for a stranger
+abbrev pub rows_of : ClientId → Table → List Row
+rows_of client table = unwrap_or (find client_cmp client table) []
 
--- what is kept of the client's writes 1, 2, ..
-abbrev pub rows_of : ClientId → List Record → List Row
-rows_of client table = map (λ r. r.row) (records_of client table)
+-- the table with a row behind those of the client
+abbrev pub with_row : ClientId → Row → Table → Table
+with_row client row table = put client_cmp client (rows_of client table ++ row ∷ []) table
 
--- each client's records are numbered 1, 2, ..
-abbrev pub AreNumbered : List Record → Type 0
-AreNumbered table = (client : ClientId) (k : ℕ) → IfSome (slice_get (records_of client table) k) (λ r. r.number ≡ k + 1)
+-- the table after the client's next write, number n
+abbrev pub recorded : ClientId → ℕ → Row → Table → Table
+recorded client n row table = with_row client row table
+
+-- each client of the table has rows of its writes 1 to a number
+abbrev pub AreNumbered : Table → Type 0
+AreNumbered table = (client : ClientId) → IfSome (find client_cmp client table) (λ rows. IsNumber (length rows))
+
+-- the table that a map of vectors is
+abbrev pub table_of : List (ClientId × Vec Row Global) → Table
+table_of entries = map (λ e. (e.0, e.1.items)) entries

@@ -1,9 +1,9 @@
 //! The table of kept answers.
 
-ghost use Rattle.std.specs.Prelude.{◌≡◌, ◌≢◌, ◌+◌, ◌-◌, ◌++◌, ◌∷◌, [], length, slice_get, IfErr, IfOk, OnOk};
-ghost use Rattle.std.specs.Option.{option_copied};
+ghost use Rattle.std.specs.Prelude.{◌≡◌, ◌≢◌, ◌+◌, ◌++◌, ◌∷◌, ◌≤◌, [], length, IfErr, IfOk, OnOk};
 ghost use Rattle.pres_wire.specs.Ids.{ClientId};
-ghost use Rattle.pres_retry.specs.Tables.{row, recorded, rows_of};
+ghost use Rattle.pres_wire.specs.Numbers.{greatest_number};
+ghost use Rattle.pres_retry.specs.Tables.{row, recorded, rows_of, table_of, with_row};
 ghost use Rattle.pres_retry.specs.Verdicts.{verdict, told};
 ghost use Rattle.pres_retry.specs.declared.fault.RetryFault.TheVariants.{Memory};
 
@@ -11,6 +11,7 @@ use crate::fault::RetryFault;
 use pres_wire::{ClientId, Count, Number};
 use pres_write::Kept;
 use std::alloc::{AllocError, Global};
+use std::collections::BTreeMap;
 use std::marker::Model;
 
 /// What is kept of an answered write.
@@ -45,40 +46,65 @@ pub enum Verdict<'a> {
     Gap,
 }
 
-#[derive(Drop)]
-pub(crate) struct Record {
-    pub(crate) client: ClientId,
-    pub(crate) number: Number,
-    pub(crate) row: Row,
-}
-
 /// The answers to the writes of each client, which are numbered 1, 2, .. Contracts see the list of
-/// the records in the order in which they came.
+/// the clients that have any, in byte order, each with its rows in the order of their numbers.
 #[derive(Drop)]
 pub struct RetryTable {
-    records: Vec<Record>,
+    alloc: Global,
+    rows: BTreeMap<ClientId, Vec<Row>>,
 }
 
 impl Model for RetryTable {
-    ghost use Rattle.std.specs.Prelude.{List};
-    ghost use Rattle.pres_retry.specs.declared.table.Record.{Record};
+    ghost use Rattle.pres_retry.specs.Tables.{Table, table_of, AreNumbered};
 
-    ghost Value = { List Record };
+    ghost Value = { Table };
 
-    ghost use Rattle.pres_retry.specs.Tables.{AreNumbered};
+    ghost view = { λ t. table_of t.rows.entries };
 
-    ghost view = { λ t. t.records.items };
+    ghost invariant = { λ t. AreNumbered (table_of t.rows.entries) };
+}
 
-    ghost invariant = { λ t. AreNumbered t.records.items };
+// Puts a row behind those of the client. Memory is the one refusal.
+fn push(
+    rows: &mut BTreeMap<ClientId, Vec<Row>>,
+    alloc: Global,
+    client: ClientId,
+    row: Row,
+) -> Result<(), RetryFault>
+    ensures pushed { OnOk result
+        (table_of rows.new.entries ≡ with_row client row (table_of rows.old.entries)) }
+    ensures err { IfErr result
+        (λ e. (e ≡ Memory) × (table_of rows.new.entries ≡ table_of rows.old.entries)) }
+{
+    if let Some(kept) = rows.get_mut(&client) {
+        kept.push(row)?;
+        return Ok(());
+    }
+    let mut kept = Vec::new(alloc);
+    kept.push(row)?;
+    drop(rows.insert(client, kept)?);
+    Ok(())
 }
 
 impl RetryTable {
-    /// The table without answers.
+    /// The table without answers. It keeps the allocator and takes no memory.
     pub fn new(alloc: Global) -> RetryTable
         ensures { result ≡ [] }
     {
         RetryTable {
-            records: Vec::new(alloc),
+            alloc,
+            rows: BTreeMap::new(alloc),
+        }
+    }
+
+    // What is kept of the client's writes, in their order.
+    fn kept(&self, client: &ClientId) -> &[Row]
+        ensures rows { result.now ≡ rows_of client.now self.now }
+        ensures count { length result.now ≤ greatest_number }
+    {
+        match self.rows.get(client) {
+            Some(rows) => rows.as_slice(),
+            None => &[],
         }
     }
 
@@ -86,12 +112,9 @@ impl RetryTable {
     pub fn last(&self, client: &ClientId) -> Count
         ensures { result ≡ length (rows_of client.now self.now) }
     {
-        let mut last = Count::zero();
-        for record in &self.records {
-            if record.client == *client {
-                last = Count::up_to(record.number);
-            }
-        }
+        let Some(last) = Count::new(self.kept(client).len() as u64) else {
+            unreachable!()
+        };
         last
     }
 
@@ -101,38 +124,22 @@ impl RetryTable {
         ensures err { IfErr result (λ e. e ≡ Memory) }
     {
         let mut rows = Vec::new(alloc);
-        for record in &self.records {
-            if record.client == *client {
-                rows.push(record.row.copy(alloc)?)?;
-            }
+        for row in self.kept(client) {
+            rows.push(row.copy(alloc)?)?;
         }
         Ok(rows)
-    }
-
-    // What is kept of the client's write with the number.
-    fn row(&self, client: &ClientId, n: Number) -> Option<&Row>
-        ensures { option_copied result ≡ slice_get (rows_of client.now self.now) (n - 1) }
-    {
-        // it ensures that numbers count from 1
-        let _ = n.get();
-        for record in &self.records {
-            if record.client == *client && record.number == n {
-                return Some(&record.row);
-            }
-        }
-        None
     }
 
     /// What the client's write with the number is.
     pub fn find(&self, client: &ClientId, n: Number) -> Verdict<'_>
         ensures { told result ≡ verdict n (rows_of client.now self.now) }
     {
-        // it ensures that numbers count from 1
-        let _ = n.get();
-        if self.last(client).next() == Some(n) {
+        let rows = self.kept(client);
+        let place = (n.get() - 1) as usize;
+        if place == rows.len() {
             return Verdict::New;
         }
-        match self.row(client, n) {
+        match rows.get(place) {
             Some(row) => Verdict::Again(row),
             None => Verdict::Gap,
         }
@@ -154,12 +161,9 @@ impl RetryTable {
             → rows_of other self.new ≡ rows_of other self.old) }
         ensures err { IfErr result (λ e. (e ≡ Memory) × (self.new ≡ self.old)) }
     {
-        let row = Row { done, kept };
-        self.records.push(Record {
-            client,
-            number: n,
-            row,
-        })?;
+        // it ensures that no number is past the greatest one
+        let _ = n.get();
+        push(&mut self.rows, self.alloc, client, Row { done, kept })?;
         Ok(())
     }
 }

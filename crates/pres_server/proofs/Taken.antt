@@ -10,9 +10,8 @@ use Rattle.pres_wire.specs.declared.id.SessionId.{SessionId}
 use Rattle.pres_wire.specs.Ids.{ClientId, client_cmp, same_client, stamp_of}
 use Rattle.pres_wire.specs.Numbers.{greatest_number}
 use Rattle.pres_session.specs.declared.gone.Gone.{Gone}
-use Rattle.pres_retry.specs.declared.table.Record.{Record}
 use Rattle.pres_retry.specs.declared.table.Row.{Row}
-use Rattle.pres_retry.specs.Tables.{row, rows_of}
+use Rattle.pres_retry.specs.Tables.{Table, row, rows_of}
 use Rattle.pres_retry.specs.Verdicts.{verdict, told_row, again, fresh, gap}
 use Rattle.pres_retry.proofs.Records.{rows_of_recorded}
 use Rattle.pres_log.specs.declared.entry.Entry.{Entry}
@@ -99,7 +98,7 @@ step_is z m (entry.Again s q n) (Some session) last rows = refl
 step_is z m (entry.Ended s q why due) None last rows = refl
 step_is z m (entry.Ended s q why due) (Some session) last rows = refl
 
-rows_own : (z : ℕ) (e : Entry) (table : List Record) → rows_of (session_of e).client (retry_after z e table) ≡ rows_after z e (rows_of (session_of e).client table)
+rows_own : (z : ℕ) (e : Entry) (table : Table) → rows_of (session_of e).client (retry_after z e table) ≡ rows_after z e (rows_of (session_of e).client table)
 rows_own z (entry.Open s) table = refl
 rows_own z (entry.Op s q n op outcome) table =
     rows_of_recorded s.client s.client n (row z (kept_of outcome)) table
@@ -107,7 +106,7 @@ rows_own z (entry.Op s q n op outcome) table =
 rows_own z (entry.Again s q n) table = refl
 rows_own z (entry.Ended s q why due) table = refl
 
-rows_other : (z : ℕ) (e : Entry) (c : ClientId) (table : List Record) → same_client (session_of e).client c ≡ false → rows_of c (retry_after z e table) ≡ rows_of c table
+rows_other : (z : ℕ) (e : Entry) (c : ClientId) (table : Table) → same_client (session_of e).client c ≡ false → rows_of c (retry_after z e table) ≡ rows_of c table
 rows_other z (entry.Open s) c table h = refl
 rows_other z (entry.Op s q n op outcome) c table h =
     rows_of_recorded c s.client n (row z (kept_of outcome)) table

@@ -11,9 +11,8 @@ use Rattle.pres_wire.specs.declared.id.SessionId.{SessionId}
 use Rattle.pres_wire.specs.declared.down.Down.{Down}
 use Rattle.pres_wire.specs.Ids.{ClientId, client_cmp, same_client}
 use Rattle.pres_session.specs.declared.gone.Gone.{Gone}
-use Rattle.pres_retry.specs.declared.table.Record.{Record}
 use Rattle.pres_retry.specs.declared.table.Row.{Row}
-use Rattle.pres_retry.specs.Tables.{row, rows_of, recorded}
+use Rattle.pres_retry.specs.Tables.{Table, row, rows_of, recorded}
 use Rattle.pres_retry.specs.Verdicts.{verdict, again}
 use Rattle.pres_log.specs.declared.entry.Entry.{Entry}
 use Rattle.pres_log.specs.declared.entry.Entry.TheVariants as entry
@@ -55,7 +54,7 @@ abbrev pub Tells : Heard → Index → Type 0
 Tells heard index = (c : ClientId) → heard_last heard c ≡ moment_at (session_at index c)
 
 -- the kept answers after entry number z
-abbrev pub retry_after : ℕ → Entry → List Record → List Record
+abbrev pub retry_after : ℕ → Entry → Table → Table
 retry_after z (entry.Op s q n op outcome) table = recorded s.client n (row z (kept_of outcome)) table
 retry_after z _ table = table
 
