@@ -22,6 +22,7 @@ use Rattle.pres_write.specs.declared.op.Op.{Op}
 use Rattle.pres_write.specs.declared.op.Op.TheVariants.{Set, Update, Tx}
 use Rattle.pres_write.specs.Drafts.{slot_printing}
 use Rattle.pres_write.specs.OpForms.{op_json, named, members_from, values_json}
+use Rattle.pres_write.specs.Unconditionals.{as_op}
 use Rattle.pres_write.specs.Updates.{Places}
 use Rattle.pres_wire.specs.declared.up.Up.{Up}
 use Rattle.pres_wire.specs.declared.up.Up.TheVariants as up
@@ -31,6 +32,7 @@ use Rattle.pres_write.specs.declared.outcome.Kept.TheVariants as kept
 use Rattle.pres_wire.specs.declared.id.SessionId.{SessionId}
 use Rattle.pres_wire.specs.declared.down.Code.{Code}
 use Rattle.pres_wire.specs.declared.down.Code.TheVariants as code
+use Rattle.pres_wire.specs.declared.down.Limit.TheVariants as limit
 use Rattle.pres_wire.specs.declared.down.Down.{Down}
 use Rattle.pres_wire.specs.declared.down.Down.TheVariants as down
 use Rattle.pres_wire.specs.DownForms.{out_json, session_or_null, down_json}
@@ -113,6 +115,9 @@ pub whole_up : (m : Up) → has_float (up_json m) ≡ false
 whole_up (up.Hello s) = refl
 whole_up (up.Op s q n op) = neither (has_float (op_json op)) false (whole_op op) refl
 whole_up (up.Bye s q) = refl
+whole_up (up.Left s q op) = neither (has_float (op_json (as_op op))) false (whole_op (as_op op)) refl
+whole_up (up.Cancel s q p) = refl
+whole_up (up.Beat s) = refl
 
 -- the text of a value that has no float
 pub whole_text : (r : Result (String Global) AllocError) (made d : Data) → made ≡ d → has_float d ≡ false → IfOk r (λ t. has_float made ≡ false → string_bytes t ≡ compact_text made) → IfOk r (λ t. string_bytes t ≡ compact_text d)
@@ -142,3 +147,6 @@ whole_down (down.Welcome s z ops) = refl
 whole_down (down.Reply s r z q n done out) = neither (has_float (out_json out)) false (whole_out out) refl
 whole_down (down.Gone s r z why) = refl
 whole_down (down.Fault s c) = whole_fault s c
+whole_down (down.Armed s r z q) = refl
+whole_down (down.Denied s r z q limit.Plan) = refl
+whole_down (down.Denied s r z q limit.Listens) = refl

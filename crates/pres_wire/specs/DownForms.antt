@@ -11,6 +11,8 @@ use Rattle.pres_wire.specs.declared.id.Why.{Why}
 use Rattle.pres_wire.specs.declared.id.Why.TheVariants as why
 use Rattle.pres_wire.specs.declared.down.Code.{Code}
 use Rattle.pres_wire.specs.declared.down.Code.TheVariants as code
+use Rattle.pres_wire.specs.declared.down.Limit.{Limit}
+use Rattle.pres_wire.specs.declared.down.Limit.TheVariants as limit
 use Rattle.pres_wire.specs.declared.down.Down.{Down}
 use Rattle.pres_wire.specs.declared.down.Down.TheVariants as down
 use Rattle.pres_wire.specs.Fields.{Named, message, whole, stamp_json, session_json}
@@ -32,6 +34,10 @@ code_number code.Full = 5
 code_number code.Busy = 6
 code_number code.Spent = 7
 code_number code.Down = 8
+
+abbrev pub limit_number : Limit → ℕ
+limit_number limit.Plan = 1
+limit_number limit.Listens = 2
 
 -- the last stamp goes with code 2 alone
 abbrev pub last_field : Code → List Named
@@ -62,3 +68,6 @@ down_json (down.Reply s r z q n done out) =
 down_json (down.Gone s r z reason) =
     message (codes "gone") ((codes "s", session_json s) ∷ (codes "r", whole r) ∷ (codes "z", whole z) ∷ (codes "why", string (why_word reason)) ∷ [])
 down_json (down.Fault s c) = message (codes "fault") ((codes "s", session_or_null s) ∷ (codes "code", whole (code_number c)) ∷ last_field c)
+down_json (down.Armed s r z q) = message (codes "armed") ((codes "s", session_json s) ∷ (codes "r", whole r) ∷ (codes "z", whole z) ∷ (codes "q", whole q) ∷ [])
+down_json (down.Denied s r z q reached) =
+    message (codes "denied") ((codes "s", session_json s) ∷ (codes "r", whole r) ∷ (codes "z", whole z) ∷ (codes "q", whole q) ∷ (codes "why", whole (limit_number reached)) ∷ [])

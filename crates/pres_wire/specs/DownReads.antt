@@ -13,6 +13,8 @@ use Rattle.pres_wire.specs.declared.id.Why.{Why}
 use Rattle.pres_wire.specs.declared.id.Why.TheVariants as why
 use Rattle.pres_wire.specs.declared.down.Code.{Code}
 use Rattle.pres_wire.specs.declared.down.Code.TheVariants as code
+use Rattle.pres_wire.specs.declared.down.Limit.{Limit}
+use Rattle.pres_wire.specs.declared.down.Limit.TheVariants as limit
 use Rattle.pres_wire.specs.declared.down.Down.{Down}
 use Rattle.pres_wire.specs.declared.down.Down.TheVariants as down
 use Rattle.pres_wire.specs.DownForms.{down_json}
@@ -67,6 +69,9 @@ code_of n last =
     else (if n == 7 then Some code.Spent
     else (if n == 8 then Some code.Down else None)))))))
 
+abbrev pub limit_of : ℕ → Option Limit
+limit_of n = if n == 1 then Some limit.Plan else (if n == 2 then Some limit.Listens else None)
+
 abbrev pub session_unless : Option ⊤ → Option SessionId → Option (Option SessionId)
 session_unless (Some t) s = Some None
 session_unless None s = option_map Some s
@@ -103,12 +108,29 @@ fault_of d =
     given (field_of message_number (codes "code") d) (λ n.
     given (code_of n (field_of stamp_of (codes "last") d)) (λ c. Some (down.Fault s c))))
 
+abbrev pub armed_of : Data → Option Down
+armed_of d =
+    given (field_of session_of (codes "s") d) (λ s.
+    given (field_of message_number (codes "r") d) (λ r.
+    given (field_of message_number (codes "z") d) (λ z.
+    given (field_of message_number (codes "q") d) (λ q. Some (down.Armed s r z q)))))
+
+abbrev pub denied_of : Data → Option Down
+denied_of d =
+    given (field_of session_of (codes "s") d) (λ s.
+    given (field_of message_number (codes "r") d) (λ r.
+    given (field_of message_number (codes "z") d) (λ z.
+    given (field_of message_number (codes "q") d) (λ q.
+    given (option_and_then limit_of (field_of message_number (codes "why") d)) (λ reached. Some (down.Denied s r z q reached))))))
+
 abbrev pub by_word : Data → List ℕ → Option Down
 by_word d word =
     if is_word word (codes "welcome") then welcome_of d
     else (if is_word word (codes "reply") then reply_of d
     else (if is_word word (codes "gone") then gone_of d
-    else (if is_word word (codes "fault") then fault_of d else None)))
+    else (if is_word word (codes "fault") then fault_of d
+    else (if is_word word (codes "armed") then armed_of d
+    else (if is_word word (codes "denied") then denied_of d else None)))))
 
 -- the message that the JSON value is the form of
 abbrev pub down_of : Data → Option Down
@@ -124,6 +146,8 @@ with_one_null (down.Welcome s z ops) = down.Welcome s z ops
 with_one_null (down.Reply s r z q n done out) = down.Reply s r z q n done (one_null out)
 with_one_null (down.Gone s r z reason) = down.Gone s r z reason
 with_one_null (down.Fault s c) = down.Fault s c
+with_one_null (down.Armed s r z q) = down.Armed s r z q
+with_one_null (down.Denied s r z q reached) = down.Denied s r z q reached
 
 -- its JSON is the form of no other message
 abbrev pub HasForm : Down → Type 0

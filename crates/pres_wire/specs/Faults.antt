@@ -10,6 +10,7 @@ field_name field.Session = codes "s"
 field_name field.Q = codes "q"
 field_name field.N = codes "n"
 field_name field.Op = codes "op"
+field_name field.Path = codes "path"
 
 abbrev pub number_of : WireFault → ℕ
 number_of Memory = 1

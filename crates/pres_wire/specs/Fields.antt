@@ -1,8 +1,9 @@
 -- The fields of messages: their JSON, and what is read of it.
-use Rattle.std.specs.Prelude.{◌&&◌, ◌==◌, ℕ, Bool, List, [], ◌∷◌, nat_le, if◌then◌else◌, codes, Option, Some, None, option_and_then}
+use Rattle.std.specs.Prelude.{◌&&◌, ◌==◌, ℕ, Bool, List, [], ◌∷◌, nat_le, if◌then◌else◌, codes, Option, Some, None, is_none, option_and_then}
 use Rattle.std.specs.Cmp.Lexicographic.{pointwise}
 use Rattle.serde_json.specs.Data.{Data, number, string, array, object, unsigned, Items, no_items, item, Members, no_members, put}
 use Rattle.serde_json.specs.Find.{get, as_str, as_array, as_number, as_u64}
+use Rattle.pres_tree.specs.Paths.{Path, segments, path_fault, path_text}
 use Rattle.pres_wire.specs.declared.id.SessionId.{SessionId}
 use Rattle.pres_wire.specs.declared.id.Stamp.{Stamp}
 use Rattle.pres_wire.specs.Ids.{ClientId, is_client_id}
@@ -31,6 +32,9 @@ stamp_json t = array (item (whole t.incarnation) (item (whole t.attempt) no_item
 abbrev pub session_json : SessionId → Data
 session_json s = array (item (string s.client) (item (whole s.incarnation) (item (whole s.attempt) no_items)))
 
+abbrev pub path_json : Path → Data
+path_json p = string (path_text p)
+
 -- ---- fields from JSON
 
 abbrev pub is_word : List ℕ → List ℕ → Bool
@@ -50,6 +54,13 @@ message_number d = option_and_then in_range (option_and_then as_u64 (as_number d
 -- a count: 0 to 2^53 - 1
 abbrev pub message_count : Data → Option ℕ
 message_count d = option_and_then (λ n. if nat_le n greatest_number then Some n else None) (option_and_then as_u64 (as_number d))
+
+-- a text that is a path's
+abbrev pub path_in : List ℕ → Option Path
+path_in text = if is_none (path_fault text) then Some (segments text) else None
+
+abbrev pub path_of : Data → Option Path
+path_of d = option_and_then path_in (as_str d)
 
 -- a client id
 abbrev pub client_in : List ℕ → Option ClientId

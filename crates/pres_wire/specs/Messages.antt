@@ -1,5 +1,5 @@
 -- What messages name.
-use Rattle.std.specs.Prelude.{ℕ, Option, Some}
+use Rattle.std.specs.Prelude.{ℕ, Option, Some, None}
 use Rattle.pres_wire.specs.declared.id.SessionId.{SessionId}
 use Rattle.pres_wire.specs.declared.up.Up.{Up}
 use Rattle.pres_wire.specs.declared.up.Up.TheVariants as up
@@ -11,6 +11,18 @@ abbrev pub session_in : Up → SessionId
 session_in (up.Hello s) = s
 session_in (up.Op s q n op) = s
 session_in (up.Bye s q) = s
+session_in (up.Left s q op) = s
+session_in (up.Cancel s q p) = s
+session_in (up.Beat s) = s
+
+-- the number of a message in its session; a Hello and a Beat have none
+abbrev pub q_in : Up → Option ℕ
+q_in (up.Hello s) = None
+q_in (up.Op s q n op) = Some q
+q_in (up.Bye s q) = Some q
+q_in (up.Left s q op) = Some q
+q_in (up.Cancel s q p) = Some q
+q_in (up.Beat s) = None
 
 -- the session that a message is for
 abbrev pub session_for : Down → Option SessionId
@@ -18,6 +30,8 @@ session_for (down.Welcome s z ops) = Some s
 session_for (down.Reply s r z q n done out) = Some s
 session_for (down.Gone s r z why) = Some s
 session_for (down.Fault session code) = session
+session_for (down.Armed s r z q) = Some s
+session_for (down.Denied s r z q limit) = Some s
 
 -- the server's number in a message to a client, 0 in a Fault
 abbrev pub number_in : Down → ℕ
@@ -25,3 +39,5 @@ number_in (down.Welcome s z ops) = z
 number_in (down.Reply s r z q n done out) = z
 number_in (down.Gone s r z why) = z
 number_in (down.Fault session code) = 0
+number_in (down.Armed s r z q) = z
+number_in (down.Denied s r z q limit) = z

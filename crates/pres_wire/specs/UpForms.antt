@@ -3,9 +3,12 @@ use Rattle.std.specs.Prelude.{ℕ, List, [], ◌∷◌, if◌then◌else◌, cod
 use Rattle.serde_json.specs.Data.{Data}
 use Rattle.serde_json.specs.Find.{get, as_str}
 use Rattle.serde_json.specs.Read.{read}
+use Rattle.pres_tree.specs.Paths.{Path}
 use Rattle.pres_write.specs.declared.op.Op.{Op}
+use Rattle.pres_write.specs.declared.unconditional.Unconditional.{Unconditional}
 use Rattle.pres_write.specs.declared.fault.WriteFault.{WriteFault}
 use Rattle.pres_write.specs.OpForms.{op_json, op_read}
+use Rattle.pres_write.specs.Unconditionals.{as_op, unconditional_read}
 use Rattle.pres_wire.specs.declared.id.SessionId.{SessionId}
 use Rattle.pres_wire.specs.declared.fault.Field.{Field}
 use Rattle.pres_wire.specs.declared.fault.Field.TheVariants as field
@@ -14,13 +17,16 @@ use Rattle.pres_wire.specs.declared.fault.WireFault.TheVariants.{NotJson, TooLon
 use Rattle.pres_wire.specs.declared.up.Up.{Up}
 use Rattle.pres_wire.specs.declared.up.Up.TheVariants as up
 use Rattle.pres_wire.specs.Faults.{field_name}
-use Rattle.pres_wire.specs.Fields.{message, whole, session_json, is_word, field_of, message_number, session_of}
+use Rattle.pres_wire.specs.Fields.{message, whole, path_json, session_json, is_word, field_of, message_number, path_of, session_of}
 
 -- the JSON of a message: its word, and its fields in the order in which they are checked
 abbrev pub up_json : Up → Data
 up_json (up.Hello s) = message (codes "hello") ((codes "s", session_json s) ∷ [])
 up_json (up.Op s q n op) = message (codes "op") ((codes "s", session_json s) ∷ (codes "q", whole q) ∷ (codes "n", whole n) ∷ (codes "op", op_json op) ∷ [])
 up_json (up.Bye s q) = message (codes "bye") ((codes "s", session_json s) ∷ (codes "q", whole q) ∷ [])
+up_json (up.Left s q op) = message (codes "left") ((codes "s", session_json s) ∷ (codes "q", whole q) ∷ (codes "op", op_json (as_op op)) ∷ [])
+up_json (up.Cancel s q p) = message (codes "cancel") ((codes "s", session_json s) ∷ (codes "q", whole q) ∷ (codes "path", path_json p) ∷ [])
+up_json (up.Beat s) = message (codes "beat") ((codes "s", session_json s) ∷ [])
 
 -- ---- reading
 
@@ -43,13 +49,21 @@ abbrev pub number_field : Field → Data → Result ℕ WireFault
 number_field f d = needed f (field_of message_number (field_name f) d)
 
 -- what an operation is refused for is a Write
-abbrev pub or_write : Result Op WriteFault → Result Op WireFault
+abbrev pub or_write : {A : Type 0} → Result A WriteFault → Result A WireFault
 or_write (Ok op) = Ok op
 or_write (Err e) = Err (Write e)
 
 -- `op`
 abbrev pub op_field : Data → Result Op WireFault
 op_field d = and_then (needed field.Op (get (codes "op") d)) (λ v. or_write (op_read v))
+
+-- `op` of a Left: a transaction, whatever else it holds, is a wrong field
+abbrev pub left_field : Data → Result Unconditional WireFault
+left_field d = and_then (needed field.Op (get (codes "op") d)) (λ v. and_then (or_write (unconditional_read v)) (needed field.Op))
+
+-- `path`
+abbrev pub path_field : Data → Result Path WireFault
+path_field d = needed field.Path (field_of path_of (codes "path") d)
 
 -- the fields of each message, in the order in which they are checked
 abbrev pub hello_read : Data → Result Up WireFault
@@ -62,13 +76,25 @@ op_message_read d =
 abbrev pub bye_read : Data → Result Up WireFault
 bye_read d = and_then (session_field d) (λ s. and_then (number_field field.Q d) (λ q. Ok (up.Bye s q)))
 
+abbrev pub left_read : Data → Result Up WireFault
+left_read d = and_then (session_field d) (λ s. and_then (number_field field.Q d) (λ q. and_then (left_field d) (λ op. Ok (up.Left s q op))))
+
+abbrev pub cancel_read : Data → Result Up WireFault
+cancel_read d = and_then (session_field d) (λ s. and_then (number_field field.Q d) (λ q. and_then (path_field d) (λ p. Ok (up.Cancel s q p))))
+
+abbrev pub beat_read : Data → Result Up WireFault
+beat_read d = and_then (session_field d) (λ s. Ok (up.Beat s))
+
 -- `m` is the word of a message
 abbrev pub by_word : Data → Option (List ℕ) → Result Up WireFault
 by_word d None = Err NoSuchMessage
 by_word d (Some word) =
     if is_word word (codes "hello") then hello_read d
     else (if is_word word (codes "op") then op_message_read d
-    else (if is_word word (codes "bye") then bye_read d else Err NoSuchMessage))
+    else (if is_word word (codes "bye") then bye_read d
+    else (if is_word word (codes "left") then left_read d
+    else (if is_word word (codes "cancel") then cancel_read d
+    else (if is_word word (codes "beat") then beat_read d else Err NoSuchMessage)))))
 
 -- the message of a JSON value, or why it is refused
 abbrev pub up_read : Data → Result Up WireFault

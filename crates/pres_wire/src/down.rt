@@ -8,7 +8,7 @@ ghost use Rattle.pres_tree.specs.Printing.{json_of};
 ghost use Rattle.pres_tree.specs.Reading.{rows_of};
 ghost use Rattle.pres_tree.specs.Scalars.{scalar_reading, scalar_printing};
 ghost use Rattle.pres_wire.specs.Messages.{session_for, number_in};
-ghost use Rattle.pres_wire.specs.DownForms.{why_word, code_number, out_json, session_or_null, down_json};
+ghost use Rattle.pres_wire.specs.DownForms.{why_word, code_number, limit_number, out_json, session_or_null, down_json};
 ghost use Rattle.pres_wire.specs.DownReads.{session_or_none, why_of, one_null, out_of, HasForm};
 
 use crate::id::{SessionId, Stamp, Why};
@@ -37,6 +37,15 @@ pub enum Code {
     Spent,
     /// The server has to be started again.
     Down,
+}
+
+/// The limit that a message met.
+#[derive(Clone, Copy, Debug, PartialEq, Eq)]
+pub enum Limit {
+    /// What a session may have left for its end.
+    Plan,
+    /// The places that a session may listen to.
+    Listens,
 }
 
 /// A message from the server to a client.
@@ -71,6 +80,22 @@ pub enum Down {
         session: Option<SessionId>,
         code: Code,
     },
+    /// What the session's message `q` left or took back stands at the server's number `z`.
+    Armed {
+        session: SessionId,
+        r: Number,
+        z: Number,
+        q: Number,
+    },
+    /// The session's message `q` did nothing, since it met a limit. This stands at the server's
+    /// number `z`.
+    Denied {
+        session: SessionId,
+        r: Number,
+        z: Number,
+        q: Number,
+        why: Limit,
+    },
 }
 
 impl Code {
@@ -91,6 +116,18 @@ impl Code {
     }
 }
 
+impl Limit {
+    /// The number in the message.
+    pub fn number(self) -> u8
+        ensures { result ≡ limit_number self }
+    {
+        match self {
+            Limit::Plan => 1,
+            Limit::Listens => 2,
+        }
+    }
+}
+
 impl Down {
     /// The session that it is for.
     pub fn session(&self) -> Option<&SessionId>
@@ -101,6 +138,8 @@ impl Down {
             Down::Reply { session, .. } => Some(session),
             Down::Gone { session, .. } => Some(session),
             Down::Fault { session, .. } => session.as_ref(),
+            Down::Armed { session, .. } => Some(session),
+            Down::Denied { session, .. } => Some(session),
         }
     }
 
@@ -113,6 +152,8 @@ impl Down {
             Down::Reply { z, .. } => Count::up_to(*z),
             Down::Gone { z, .. } => Count::up_to(*z),
             Down::Fault { .. } => Count::zero(),
+            Down::Armed { z, .. } => Count::up_to(*z),
+            Down::Denied { z, .. } => Count::up_to(*z),
         }
     }
 
@@ -153,6 +194,25 @@ impl Down {
                 session: copied_session(alloc, session)?,
                 code: *code,
             }),
+            Down::Armed { session, r, z, q } => Ok(Down::Armed {
+                session: session.copy(alloc)?,
+                r: *r,
+                z: *z,
+                q: *q,
+            }),
+            Down::Denied {
+                session,
+                r,
+                z,
+                q,
+                why,
+            } => Ok(Down::Denied {
+                session: session.copy(alloc)?,
+                r: *r,
+                z: *z,
+                q: *q,
+                why: *why,
+            }),
         }
     }
 
@@ -189,6 +249,14 @@ impl Down {
             }
             Down::Gone { session, r, z, why } => gone_value(alloc, session, *r, *z, *why),
             Down::Fault { session, code } => fault_value(alloc, session, *code),
+            Down::Armed { session, r, z, q } => armed_value(alloc, session, *r, *z, *q),
+            Down::Denied {
+                session,
+                r,
+                z,
+                q,
+                why,
+            } => denied_value(alloc, session, *r, *z, *q, *why),
         }
     }
 }
@@ -301,4 +369,39 @@ fn fault_value(alloc: Global, session: &Option<SessionId>, code: Code) -> Result
         }
         _ => json!(in alloc; {"code": number, "m": "fault", "s": session}),
     }
+}
+
+// The JSON value of an Armed.
+fn armed_value(
+    alloc: Global,
+    session: &SessionId,
+    r: Number,
+    z: Number,
+    q: Number,
+) -> Result<Value, AllocError>
+    ensures json { IfOk result (λ made. view made ≡ down_json (Down.Armed session.now r z q)) }
+    ensures form { IfOk result (λ _. HasForm (Down.Armed session.now r z q)) }
+{
+    let session = session.to_value(alloc)?;
+    json!(in alloc; {"m": "armed", "q": q.get(), "r": r.get(), "s": session, "z": z.get()})
+}
+
+// The JSON value of a Denied.
+fn denied_value(
+    alloc: Global,
+    session: &SessionId,
+    r: Number,
+    z: Number,
+    q: Number,
+    why: Limit,
+) -> Result<Value, AllocError>
+    ensures json { IfOk result (λ made.
+        view made ≡ down_json (Down.Denied session.now r z q why)) }
+    ensures form { IfOk result (λ _. HasForm (Down.Denied session.now r z q why)) }
+{
+    let session = session.to_value(alloc)?;
+    let why = why.number();
+    json!(in alloc; {
+        "m": "denied", "q": q.get(), "r": r.get(), "s": session, "why": why, "z": z.get()
+    })
 }

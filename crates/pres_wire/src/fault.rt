@@ -19,6 +19,8 @@ pub enum Field {
     N,
     /// The operation.
     Op,
+    /// The path.
+    Path,
 }
 
 impl Field {
@@ -31,6 +33,7 @@ impl Field {
             Field::Q => "q",
             Field::N => "n",
             Field::Op => "op",
+            Field::Path => "path",
         }
     }
 }

@@ -1,15 +1,16 @@
 //! The fields of messages, read.
 
-ghost use Rattle.std.specs.Prelude.{◌≡◌, ◌⊎◌, MatchResult};
+ghost use Rattle.std.specs.Prelude.{◌≡◌, ◌⊎◌, MatchResult, Some, None, codes};
+ghost use Rattle.serde_json.specs.Find.{get};
 ghost use Rattle.serde_json.specs.View.{view};
-ghost use Rattle.pres_wire.specs.UpForms.{session_field, number_field, op_field};
+ghost use Rattle.pres_wire.specs.UpForms.{session_field, number_field, op_field, left_field, path_field};
 ghost use Rattle.pres_wire.specs.declared.fault.WireFault.TheVariants.{Memory};
 
 use crate::fault::{Field, WireFault};
 use crate::id::SessionId;
 use crate::number::Number;
-use pres_tree::TreeFault;
-use pres_write::{Op, WriteFault};
+use pres_tree::{Path, TreeFault};
+use pres_write::{Op, Unconditional, WriteFault};
 use serde_json::Value;
 use std::alloc::Global;
 
@@ -38,18 +39,58 @@ pub(crate) fn number_field(message: &Value, field: Field) -> Result<Number, Wire
         .ok_or(WireFault::Field(field))
 }
 
+// The JSON value under the name of operations.
+fn op_value(message: &Value) -> Result<&Value, WireFault>
+    ensures { MatchResult result
+        (λ v. get (codes "op") (view message.now) ≡ Some (view v.now))
+        (λ e. (get (codes "op") (view message.now) ≡ None) × (e ≡ WireFault.Field Field.Op)) }
+{
+    message
+        .get(Field::Op.name())
+        .ok_or(WireFault::Field(Field::Op))
+}
+
 // The operation of a message.
 pub(crate) fn op_field(alloc: Global, message: &Value) -> Result<Op, WireFault>
     ensures { MatchResult result
         (λ op. op_field (view message.now) ≡ Ok op)
         (λ e. (e ≡ Memory) ⊎ (op_field (view message.now) ≡ Err e)) }
 {
-    let Some(value) = message.get(Field::Op.name()) else {
-        return Err(WireFault::Field(Field::Op));
-    };
+    let value = op_value(message)?;
     match Op::from_value(alloc, value) {
         Ok(op) => Ok(op),
         Err(WriteFault::Tree(TreeFault::Memory)) => Err(WireFault::Memory),
         Err(fault) => Err(WireFault::Write(fault)),
+    }
+}
+
+// The operation of a Left.
+pub(crate) fn left_field(alloc: Global, message: &Value) -> Result<Unconditional, WireFault>
+    ensures { MatchResult result
+        (λ op. left_field (view message.now) ≡ Ok op)
+        (λ e. (e ≡ Memory) ⊎ (left_field (view message.now) ≡ Err e)) }
+{
+    let value = op_value(message)?;
+    match Unconditional::from_value(alloc, value) {
+        Ok(Some(op)) => Ok(op),
+        Ok(None) => Err(WireFault::Field(Field::Op)),
+        Err(WriteFault::Tree(TreeFault::Memory)) => Err(WireFault::Memory),
+        Err(fault) => Err(WireFault::Write(fault)),
+    }
+}
+
+// The path of a message.
+pub(crate) fn path_field(alloc: Global, message: &Value) -> Result<Path, WireFault>
+    ensures { MatchResult result
+        (λ p. path_field (view message.now) ≡ Ok p)
+        (λ e. (e ≡ Memory) ⊎ (path_field (view message.now) ≡ Err e)) }
+{
+    let Some(text) = message.get(Field::Path.name()).and_then(Value::as_str) else {
+        return Err(WireFault::Field(Field::Path));
+    };
+    match Path::parse(alloc, text) {
+        Ok(path) => Ok(path),
+        Err(TreeFault::Memory) => Err(WireFault::Memory),
+        Err(_) => Err(WireFault::Field(Field::Path)),
     }
 }

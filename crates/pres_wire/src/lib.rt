@@ -8,7 +8,7 @@ mod id;
 mod number;
 mod up;
 
-pub use down::{Code, Down};
+pub use down::{Code, Down, Limit};
 pub use fault::{Field, WireFault};
 pub use id::{ClientId, IdFault, SessionId, Stamp, Why};
 pub use number::{Count, Number};

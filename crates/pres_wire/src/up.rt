@@ -1,19 +1,21 @@
 //! Messages to the server.
 
-ghost use Rattle.std.specs.Prelude.{◌≡◌, ◌≤◌, ◌⊎◌, IfOk, MatchResult, Ok, Err, length, string_bytes};
+ghost use Rattle.std.specs.Prelude.{◌≡◌, ◌≤◌, ◌⊎◌, IfOk, MatchResult, Ok, Err, Some, length, string_bytes};
 ghost use Rattle.serde_json.specs.Data.{depth};
 ghost use Rattle.serde_json.specs.View.{view};
 ghost use Rattle.serde_json.specs.Written.{compact_text};
 ghost use Rattle.pres_write.specs.OpForms.{op_json, op_read};
-ghost use Rattle.pres_wire.specs.Messages.{session_in};
-ghost use Rattle.pres_wire.specs.UpForms.{up_json, up_read, hello_read, op_message_read, bye_read, decoded, longest_text};
+ghost use Rattle.pres_write.specs.Unconditionals.{as_op, unconditional_read};
+ghost use Rattle.pres_wire.specs.Messages.{session_in, q_in};
+ghost use Rattle.pres_wire.specs.UpForms.{up_json, up_read, hello_read, op_message_read, bye_read, left_read, cancel_read, beat_read, decoded, longest_text};
 ghost use Rattle.pres_wire.specs.declared.fault.WireFault.TheVariants.{Memory};
 
 use crate::fault::{Field, WireFault};
-use crate::field::{number_field, op_field, session_field};
+use crate::field::{left_field, number_field, op_field, path_field, session_field};
 use crate::id::SessionId;
 use crate::number::Number;
-use pres_write::Op;
+use pres_tree::Path;
+use pres_write::{Op, Unconditional};
 use serde_json::{Value, json};
 use std::alloc::{AllocError, Global};
 
@@ -39,6 +41,22 @@ pub enum Up {
         session: SessionId,
         q: Number,
     },
+    /// Leaves the operation for the end of the session, as its message `q`.
+    Left {
+        session: SessionId,
+        q: Number,
+        op: Unconditional,
+    },
+    /// Takes back what was left at the path and below it, as message `q` of the session.
+    Cancel {
+        session: SessionId,
+        q: Number,
+        path: Path,
+    },
+    /// Says that the client is there.
+    Beat {
+        session: SessionId,
+    },
 }
 
 impl Up {
@@ -50,6 +68,22 @@ impl Up {
             Up::Hello { session } => session,
             Up::Op { session, .. } => session,
             Up::Bye { session, .. } => session,
+            Up::Left { session, .. } => session,
+            Up::Cancel { session, .. } => session,
+            Up::Beat { session } => session,
+        }
+    }
+
+    /// Its number in its session, none in a Hello and a Beat.
+    pub fn q(&self) -> Option<Number>
+        ensures { result ≡ q_in self.now }
+    {
+        match self {
+            Up::Hello { .. } | Up::Beat { .. } => None,
+            Up::Op { q, .. } => Some(*q),
+            Up::Bye { q, .. } => Some(*q),
+            Up::Left { q, .. } => Some(*q),
+            Up::Cancel { q, .. } => Some(*q),
         }
     }
 
@@ -71,12 +105,26 @@ impl Up {
                 session: session.copy(alloc)?,
                 q: *q,
             }),
+            Up::Left { session, q, op } => Ok(Up::Left {
+                session: session.copy(alloc)?,
+                q: *q,
+                op: op.copy(alloc)?,
+            }),
+            Up::Cancel { session, q, path } => Ok(Up::Cancel {
+                session: session.copy(alloc)?,
+                q: *q,
+                path: path.copy(alloc)?,
+            }),
+            Up::Beat { session } => Ok(Up::Beat {
+                session: session.copy(alloc)?,
+            }),
         }
     }
 
     /// The message of a text. Refused, in this order: TooLong, NotJson, NoSuchMessage, Field of
-    /// the first field that is missing or wrong (session, q, n, op), Write. Names that the
-    /// message has not are ignored.
+    /// the first field that is missing or wrong (session, q, n, and op or
+    /// path; a transaction is no operation of a Left), Write. Names that the message has not are
+    /// ignored.
     pub fn decode(alloc: Global, text: &str) -> Result<Up, WireFault>
         ensures { MatchResult result
             (λ m. decoded text.now ≡ Ok m)
@@ -110,6 +158,12 @@ impl Up {
             read_op(alloc, value)
         } else if word == "bye" {
             read_bye(alloc, value)
+        } else if word == "left" {
+            read_left(alloc, value)
+        } else if word == "cancel" {
+            read_cancel(alloc, value)
+        } else if word == "beat" {
+            read_beat(alloc, value)
         } else {
             Err(WireFault::NoSuchMessage)
         }
@@ -146,6 +200,12 @@ impl Up {
                 let session = session.to_value(alloc)?;
                 json!(in alloc; {"m": "bye", "q": q.get(), "s": session})
             }
+            Up::Left { session, q, op } => left_value(alloc, session, *q, op),
+            Up::Cancel { session, q, path } => cancel_value(alloc, session, *q, path),
+            Up::Beat { session } => {
+                let session = session.to_value(alloc)?;
+                json!(in alloc; {"m": "beat", "s": session})
+            }
         }
     }
 }
@@ -179,6 +239,82 @@ fn read_bye(alloc: Global, message: &Value) -> Result<Up, WireFault>
     let session = session_field(alloc, message)?;
     let q = number_field(message, Field::Q)?;
     Ok(Up::Bye { session, q })
+}
+
+fn read_left(alloc: Global, message: &Value) -> Result<Up, WireFault>
+    ensures { MatchResult result
+        (λ m. left_read (view message.now) ≡ Ok m)
+        (λ e. (e ≡ Memory) ⊎ (left_read (view message.now) ≡ Err e)) }
+{
+    let session = session_field(alloc, message)?;
+    let q = number_field(message, Field::Q)?;
+    let op = left_field(alloc, message)?;
+    Ok(Up::Left { session, q, op })
+}
+
+fn read_cancel(alloc: Global, message: &Value) -> Result<Up, WireFault>
+    ensures { MatchResult result
+        (λ m. cancel_read (view message.now) ≡ Ok m)
+        (λ e. (e ≡ Memory) ⊎ (cancel_read (view message.now) ≡ Err e)) }
+{
+    let session = session_field(alloc, message)?;
+    let q = number_field(message, Field::Q)?;
+    let path = path_field(alloc, message)?;
+    Ok(Up::Cancel { session, q, path })
+}
+
+fn read_beat(alloc: Global, message: &Value) -> Result<Up, WireFault>
+    ensures { MatchResult result
+        (λ m. beat_read (view message.now) ≡ Ok m)
+        (λ e. (e ≡ Memory) ⊎ (beat_read (view message.now) ≡ Err e)) }
+{
+    let session = session_field(alloc, message)?;
+    Ok(Up::Beat { session })
+}
+
+// The JSON value of a Left.
+fn left_value(
+    alloc: Global,
+    session: &SessionId,
+    q: Number,
+    op: &Unconditional,
+) -> Result<Value, AllocError>
+    ensures json { IfOk result (λ made. view made ≡ up_json (Up.Left session.now q op.now)) }
+    ensures reads_back { IfOk result (λ _.
+        up_read (up_json (Up.Left session.now q op.now)) ≡ Ok (Up.Left session.now q op.now)) }
+    ensures low { IfOk result (λ _. depth (up_json (Up.Left session.now q op.now)) ≤ 127) }
+{
+    let session = session.to_value(alloc)?;
+    let op = unconditional_value(alloc, op)?;
+    json!(in alloc; {"m": "left", "op": op, "q": q.get(), "s": session})
+}
+
+// The JSON value of a Cancel.
+fn cancel_value(
+    alloc: Global,
+    session: &SessionId,
+    q: Number,
+    path: &Path,
+) -> Result<Value, AllocError>
+    ensures json { IfOk result (λ made. view made ≡ up_json (Up.Cancel session.now q path.now)) }
+    ensures reads_back { IfOk result (λ _.
+        up_read (up_json (Up.Cancel session.now q path.now))
+        ≡ Ok (Up.Cancel session.now q path.now)) }
+    ensures low { IfOk result (λ _. depth (up_json (Up.Cancel session.now q path.now)) ≤ 127) }
+{
+    let session = session.to_value(alloc)?;
+    let path = path.text(alloc)?;
+    json!(in alloc; {"m": "cancel", "path": path, "q": q.get(), "s": session})
+}
+
+// The JSON value of an operation of a Left, which is read as the operation, and nests few levels.
+fn unconditional_value(alloc: Global, op: &Unconditional) -> Result<Value, AllocError>
+    ensures json { IfOk result (λ made. view made ≡ op_json (as_op op.now)) }
+    ensures reads_back { IfOk result (λ _.
+        unconditional_read (op_json (as_op op.now)) ≡ Ok (Some op.now)) }
+    ensures low { IfOk result (λ _. depth (op_json (as_op op.now)) ≤ 64) }
+{
+    op.to_value(alloc)
 }
 
 // The JSON value of an operation, which is read as the operation, and nests few levels.

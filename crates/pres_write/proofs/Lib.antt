@@ -8,5 +8,6 @@ pub mod Named
 pub mod Ordered
 pub mod Overlaps
 pub mod Printed
+pub mod Putting
 pub mod Slots
 pub mod Together

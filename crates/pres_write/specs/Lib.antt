@@ -6,4 +6,5 @@ pub mod OpForms
 pub mod Outcomes
 pub mod Placeholders
 pub mod Transactions
+pub mod Unconditionals
 pub mod Updates

@@ -1,6 +1,6 @@
 -- Operations as JSON: {"op":"set","path":P,"value":V}, {"op":"update","path":P,"values":{NAME:V, ..}} and
 -- {"expect":E,"op":"tx","path":P,"value":V}. Read, not printed: {"op":"remove","path":P}, the set of null.
-use Rattle.std.specs.Prelude.{◌==◌, ◌≡◌, ◌≢◌, ◌⊎◌, ◌-◌, ◌+◌, List, [], ◌∷◌, ℕ, Bool, if◌then◌else◌, codes, drop, length, nat_lt, map, Option, Some, None, Result, Ok, Err}
+use Rattle.std.specs.Prelude.{◌==◌, ◌≡◌, ◌≢◌, ◌⊎◌, ◌-◌, ◌+◌, List, [], ◌∷◌, ℕ, Bool, false, if◌then◌else◌, codes, drop, length, nat_lt, map, Option, Some, None, Result, Ok, Err}
 use Rattle.std.specs.Option.{option_and_then, option_or}
 use Rattle.std.specs.Ordering.{nat_cmp}
 use Rattle.std.specs.Map.{keys_of}
@@ -87,8 +87,16 @@ form_read d word text =
 abbrev pub op_read : Data → Result Op WriteFault
 op_read d = with_part (option_and_then as_str (get (codes "op") d)) (λ word. with_part (option_and_then as_str (get (codes "path") d)) (form_read d word))
 
+abbrev pub says_tx : Option (List ℕ) → Bool
+says_tx None = false
+says_tx (Some word) = is_word word (codes "tx")
+
+-- an object whose `op` is the text "tx", whatever else it holds
+abbrev pub is_tx : Data → Bool
+is_tx d = says_tx (option_and_then as_str (get (codes "op") d))
+
 -- the fault by which code refuses what is read so: Memory never in the place of Shape
-abbrev pub IsRefusal : Result Op WriteFault → WriteFault → Type 0
+abbrev pub IsRefusal : {A : Type 0} → Result A WriteFault → WriteFault → Type 0
 IsRefusal read e = ((e ≡ Tree Memory) × (read ≢ Err Shape)) ⊎ (read ≡ Err e)
 
 -- ---- printing

@@ -9,7 +9,9 @@ mod moment;
 mod op;
 mod outcome;
 mod placement;
+mod puts;
 mod transaction;
+mod unconditional;
 mod update;
 
 pub use basic::{Basic, apply, apply_all, apply_owned, copy_writes};
@@ -20,5 +22,7 @@ pub use moment::{MAX_SAFE_INTEGER, Moment};
 pub use op::Op;
 pub use outcome::{Kept, Outcome};
 pub use placement::Placement;
+pub use puts::Puts;
 pub use transaction::Transaction;
+pub use unconditional::Unconditional;
 pub use update::Update;

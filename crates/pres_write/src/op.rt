@@ -57,7 +57,7 @@ fn tx_form(alloc: Global, path: String, expect: Value, value: Value) -> Result<V
 }
 
 // The JSON value of an update.
-fn update_value(alloc: Global, update: &Update) -> Result<Value, AllocError>
+pub(crate) fn update_value(alloc: Global, update: &Update) -> Result<Value, AllocError>
     ensures json { IfOk result (λ made. view made ≡ op_json (Op.Update update.now)) }
     ensures reads_back { IfOk result (λ made. op_read (view made) ≡ Ok (Op.Update update.now)) }
 {
@@ -78,7 +78,7 @@ fn tx_value(alloc: Global, tx: &Transaction) -> Result<Value, AllocError>
 }
 
 // The JSON value of the set of a draft at its path.
-fn set_value(alloc: Global, placement: &Placement) -> Result<Value, AllocError>
+pub(crate) fn set_value(alloc: Global, placement: &Placement) -> Result<Value, AllocError>
     ensures json { IfOk result (λ made. view made ≡ op_json (Op.Set placement.now)) }
     ensures reads_back { IfOk result (λ made. op_read (view made) ≡ Ok (Op.Set placement.now)) }
 {

@@ -10,6 +10,7 @@ ghost use Rattle.pres_tree.specs.declared.fault.TreeFault.TheVariants.{Memory};
 ghost use Rattle.pres_write.specs.Basics.{Apart};
 ghost use Rattle.pres_write.specs.Drafts.{slot_reading};
 ghost use Rattle.pres_write.specs.OpForms.{below_read, place_fault, values_json};
+ghost use Rattle.pres_write.specs.Unconditionals.{puts_below};
 ghost use Rattle.pres_write.specs.Updates.{FitsBelow, most_places, update_writes};
 ghost use Rattle.pres_write.specs.declared.fault.WriteFault.TheVariants.{Tree as TreeRefused};
 
@@ -18,6 +19,8 @@ use crate::draft::Draft;
 use crate::fault::WriteFault;
 use crate::items::Items;
 use crate::moment::Moment;
+use crate::placement::Placement;
+use crate::puts::Puts;
 use pres_tree::{Path, TreeFault};
 use serde_json::{Map, Value};
 use std::alloc::{AllocError, Global};
@@ -113,6 +116,18 @@ impl Update {
             writes.push(settled_write(alloc, path, draft, moment)?)?;
         }
         Ok(Items::of(writes))
+    }
+
+    /// Its drafts at their whole paths.
+    pub fn puts(&self, alloc: Global) -> Result<Puts, AllocError>
+        ensures { IfOk result (λ puts. puts ≡ puts_below self.now) }
+    {
+        let mut placements = Vec::new(alloc);
+        for (place, draft) in self.places.iter() {
+            let path = whole_path(alloc, &self.path, place)?;
+            placements.push(Placement::fitting(path, draft.copy(alloc)?))?;
+        }
+        Ok(Puts::of(placements))
     }
 
     /// An equal update.
