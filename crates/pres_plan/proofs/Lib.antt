@@ -1,0 +1,3 @@
+pub mod Fitting
+pub mod Grows
+pub mod Left
