@@ -1,6 +1,6 @@
 //! Plans: the rows that a session leaves.
 
-ghost use Rattle.std.specs.Prelude.{◌≡◌, ◌↔◌, ◌<◌, ◌≤◌, ◌++◌, ◌∷◌, ℕ, [], All, false, length, map, nat_le, filter, is_ok, if◌then◌else◌, IfOk, IfErr, IsErrOf, OnOk, OnErr};
+ghost use Rattle.std.specs.Prelude.{◌≡◌, ◌↔◌, ◌<◌, ◌≤◌, ◌++◌, ◌∷◌, ℕ, [], All, false, length, map, nat_le, not, filter, is_ok, if◌then◌else◌, IfOk, IfErr, IsErrOf, OnOk, OnErr};
 ghost use Rattle.std.specs.List.{list_any};
 ghost use Rattle.pres_tree.specs.Paths.{is_prefix, overlap};
 ghost use Rattle.pres_plan.specs.Plans.{most_rows, path_of, covers, is_left, puts_above, plan_of, puts, cancels, due, due_rows};
@@ -69,7 +69,7 @@ impl Plan {
         ensures { (q : ℕ) →
             result ≡ nat_le (length (plan_of (self.now ++ puts q placements.now))) most_rows }
     {
-        let left = self.rows.iter().filter(|row| !is_replaced(row, placements)).count();
+        let left = count_left(&self.rows, placements);
         placements.len() <= MOST_ROWS - left
     }
 
@@ -78,7 +78,7 @@ impl Plan {
         ensures { (q : ℕ) →
             result ≡ nat_le (length (plan_of (self.now ++ cancels q path.now))) most_rows }
     {
-        let left = self.rows.iter().filter(|row| !path.is_prefix_of(row.action.path())).count();
+        let left = count_outside(&self.rows, path);
         left < MOST_ROWS || !self.has_put_above(path)
     }
 
@@ -146,7 +146,7 @@ impl Plan {
         ensures unchanged { OnErr result (self.new ≡ self.old) }
     {
         if !self.has_put_above(path) {
-            self.rows.retain(|row| !path.is_prefix_of(row.action.path()));
+            take_back(&mut self.rows, path);
             return Ok(());
         }
         if !self.may_cancel(path) {
@@ -199,6 +199,30 @@ fn is_replaced(row: &PlanRow, placements: &[Placement]) -> bool
     ensures { result ≡ list_any (λ p. is_prefix p.0 (path_of row.now.action)) placements.now }
 {
     placements.iter().any(|placement| placement.path().is_prefix_of(row.action.path()))
+}
+
+// How many of the rows stay where the placements are put.
+fn count_left(rows: &[PlanRow], placements: &[Placement]) -> usize
+    ensures { result ≡ length (filter
+        (λ row. not (list_any (λ p. is_prefix p.0 (path_of row.action)) placements.now)) rows.now) }
+{
+    rows.iter().filter(|row| !is_replaced(row, placements)).count()
+}
+
+// How many of the rows are not at the path or below it.
+fn count_outside(rows: &[PlanRow], path: &Path) -> usize
+    ensures { result ≡ length (filter
+        (λ row. not (is_prefix path.now (path_of row.action))) rows.now) }
+{
+    rows.iter().filter(|row| !path.is_prefix_of(row.action.path())).count()
+}
+
+// Takes the rows away that are at the path or below it.
+fn take_back(rows: &mut Vec<PlanRow>, path: &Path)
+    ensures { rows.new.items ≡ filter
+        (λ row. not (is_prefix path.now (path_of row.action))) rows.old.items }
+{
+    rows.retain(|row| !path.is_prefix_of(row.action.path()));
 }
 
 // Whether one of the rows is at the place of the row or above it.
