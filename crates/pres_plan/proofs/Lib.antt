@@ -1,0 +1,4 @@
+pub mod Fitting
+pub mod Grows
+pub mod Left
+pub mod Steps

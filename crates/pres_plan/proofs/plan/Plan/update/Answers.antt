@@ -1,0 +1,47 @@
+use Rattle.std.proofs.Common.{◌≡◌, ◌≤◌, ◌++◌, List, length, ap, ◌∙◌, sym, subst}
+use Rattle.std.specs.Prelude.{nat_le}
+use Rattle.pres_plan.specs.declared.row.PlanRow.{PlanRow}
+use Rattle.pres_plan.specs.Plans.{plan_of, puts}
+use Rattle.pres_plan.proofs.Steps.{is_plan, puts_done, is_full, few_rows, not_refused, out_of_memory}
+use Rattle.pres_plan.proofs.plan.Plan.update.Goals as goal
+
+pub returns-then-not-may_update-clause-full : goal.returns-then-not-may_update-clause-full
+returns-then-not-may_update-clause-full c =
+    is_full (length (plan_of (c.args.self.now ++ puts c.args.q c.args.placements)))
+    (sym c.if-not-may_update.true ∙ c.may_update.ensures c.args.q ∙ ap (λ ps. nat_le (length (plan_of (c.args.self.now ++ puts c.args.q ps))) 256) c.as_slice.ensures)
+
+pub returns-in_err-rows-clause-full : goal.returns-in_err-rows-clause-full
+returns-in_err-rows-clause-full c =
+    out_of_memory c.from_residual.result _
+    (few_rows (length (plan_of (c.args.self.now ++ puts c.args.q c.args.placements))) c.may_update.result
+    (c.may_update.ensures c.args.q ∙ ap (λ ps. nat_le (length (plan_of (c.args.self.now ++ puts c.args.q ps))) 256) c.as_slice.ensures)
+    c.if-not-may_update.false)
+    c.from_residual.ensures
+
+pub returns-in_err-replace-clause-full : goal.returns-in_err-replace-clause-full
+returns-in_err-replace-clause-full c =
+    out_of_memory c.from_residual-in_err-replace.result _
+    (few_rows (length (plan_of (c.args.self.now ++ puts c.args.q c.args.placements))) c.may_update.result
+    (c.may_update.ensures c.args.q ∙ ap (λ ps. nat_le (length (plan_of (c.args.self.now ++ puts c.args.q ps))) 256) c.as_slice.ensures)
+    c.if-not-may_update.false)
+    c.from_residual-in_err-replace.ensures
+
+done : (c : goal.In_ok-replace) → c.replace.new.rows.items ≡ plan_of (c.args.self.now ++ puts c.args.q c.args.placements)
+done c =
+    puts_done c.self.inside.rows.items c.in_ok-rows.rows.items c.replace.new.rows.items c.args.q c.args.placements c.self.invariant c.requires.apart c.in_ok-rows.ensures c.in_ok-replace.ensures.ok
+    ∙ ap (λ l. plan_of (l ++ puts c.args.q c.args.placements)) c.self.view_is
+
+few : (c : goal.In_ok-replace) → length (plan_of (c.args.self.now ++ puts c.args.q c.args.placements)) ≤ 256
+few c =
+    few_rows (length (plan_of (c.args.self.now ++ puts c.args.q c.args.placements))) c.may_update.result
+    (c.may_update.ensures c.args.q ∙ ap (λ ps. nat_le (length (plan_of (c.args.self.now ++ puts c.args.q ps))) 256) c.as_slice.ensures)
+    c.if-not-may_update.false
+
+pub invariant_of-self-2 : goal.invariant_of-self-2
+invariant_of-self-2 c = is_plan (c.args.self.now ++ puts c.args.q c.args.placements) c.replace.new.rows.items (done c) (subst (λ (l : List PlanRow). length l ≤ 256) (sym (done c)) (few c))
+
+pub returns-clause-ok : goal.returns-clause-ok
+returns-clause-ok c = done c
+
+pub returns-clause-full : goal.returns-clause-full
+returns-clause-full c = not_refused (length (plan_of (c.args.self.now ++ puts c.args.q c.args.placements))) (few c)

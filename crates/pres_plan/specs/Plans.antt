@@ -1,0 +1,97 @@
+-- Plans: what stands of a session's puts and cancels, and what is written at its end. Puts, updates and cancels
+-- behave as those of onDisconnect of Firebase Realtime Database.
+use Rattle.std.specs.Prelude.{◌≡◌, ◌≤◌, ◌&&◌, ◌||◌, ℕ, Bool, true, false, not, List, [], ◌∷◌, ◌++◌, map, length, filter, if◌then◌else◌}
+use Rattle.std.specs.List.{list_any}
+use Rattle.pres_tree.specs.Paths.{Path, is_prefix, meet}
+use Rattle.pres_tree.specs.Rows.{Rows, IsValue, value_at}
+use Rattle.pres_tree.specs.declared.scalar.Scalar.{Scalar}
+use Rattle.pres_write.specs.declared.basic.Basic.{Basic}
+use Rattle.pres_write.specs.declared.draft.Slot.{Slot}
+use Rattle.pres_write.specs.Basics.{basic, applied}
+use Rattle.pres_write.specs.Drafts.{settled}
+use Rattle.pres_plan.specs.declared.row.Action.{Action}
+use Rattle.pres_plan.specs.declared.row.Action.TheVariants.{Put, Keep}
+use Rattle.pres_plan.specs.declared.row.PlanRow.{PlanRow}
+use Rattle.pres_plan.specs.declared.row.DueRow.{DueRow}
+
+-- ---- actions: a put, or a cancel, which is a row that keeps
+
+-- one put for each placement, in order
+abbrev pub puts : ℕ → List (Path × Rows Slot) → List PlanRow
+puts q placements = map (λ p. record { q = q; action = Put p }) placements
+
+abbrev pub cancels : ℕ → Path → List PlanRow
+cancels q path = record { q = q; action = Keep path } ∷ []
+
+abbrev pub path_of : Action → Path
+path_of (Put placement) = placement.0
+path_of (Keep path) = path
+
+abbrev pub is_put : Action → Bool
+is_put (Put placement) = true
+is_put (Keep path) = false
+
+-- ---- plans
+
+-- the later row is at the path of the other one or above it
+abbrev pub covers : PlanRow → PlanRow → Bool
+covers later row = is_prefix (path_of later.action) (path_of row.action)
+
+-- none of the later rows covers the row
+abbrev pub is_left : List PlanRow → PlanRow → Bool
+is_left later row = not (list_any (λ l. covers l row) later)
+
+-- the actions that no later one covers
+abbrev pub lasting : List PlanRow → List PlanRow
+lasting [] = []
+lasting (a ∷ later) = if is_left later a then a ∷ lasting later else lasting later
+
+-- the row puts a draft above the path
+abbrev pub puts_above : Path → PlanRow → Bool
+puts_above path row = is_put row.action && (is_prefix (path_of row.action) path && not (is_prefix path (path_of row.action)))
+
+-- a put matters, and a cancel where a put is left above it: there the place keeps its value
+abbrev pub matters : List PlanRow → PlanRow → Bool
+matters left row = is_put row.action || list_any (puts_above (path_of row.action)) left
+
+-- the rows that a list of actions leaves, in the order of the actions
+abbrev pub plan_of : List PlanRow → List PlanRow
+plan_of actions = let left = lasting actions in filter (matters left) left
+
+-- the most rows of a plan
+abbrev pub most_rows : ℕ
+most_rows = 256
+
+-- what every plan keeps: its rows stand for themselves, and they are few
+pub record IsPlan (rows : List PlanRow) : Type 0 where
+  pub whole : plan_of rows ≡ rows
+  pub few : length rows ≤ most_rows
+
+-- ---- the end
+
+-- what an action writes: a put its draft at the moment, a row that keeps what stands at its path
+abbrev pub due_write : Rows Scalar → ℕ → Action → Basic
+due_write tree moment (Put placement) = basic placement.0 (settled moment placement.1)
+due_write tree moment (Keep path) = basic path (value_at path tree)
+
+abbrev pub due_row : Rows Scalar → ℕ → PlanRow → DueRow
+due_row tree moment row = record { q = row.q; basic = due_write tree moment row.action }
+
+abbrev pub due_rows : Rows Scalar → ℕ → List PlanRow → List DueRow
+due_rows tree moment rows = map (due_row tree moment) rows
+
+-- the writes alone
+abbrev pub due : Rows Scalar → ℕ → List PlanRow → List Basic
+due tree moment rows = map (λ row. due_write tree moment row.action) rows
+
+-- ---- laws
+
+-- To add actions to a plan is to plan all actions: its rows stand for what made them.
+abbrev pub PlanGrows : List PlanRow → List PlanRow → Type 0
+PlanGrows old new = plan_of (plan_of old ++ new) ≡ plan_of (old ++ new)
+
+-- A cancelled place that no later action meets holds after the end what it held before.
+abbrev pub CancelKeeps : Rows Scalar → ℕ → List PlanRow → ℕ → Path → List PlanRow → Type 0
+CancelKeeps tree moment before q path later =
+    IsValue tree → list_any (λ l. meet (path_of l.action) path) later ≡ false →
+    value_at path (applied tree (due tree moment (plan_of (before ++ cancels q path ++ later)))) ≡ value_at path tree

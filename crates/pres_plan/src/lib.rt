@@ -1,0 +1,11 @@
+//! What a session leaves for its disconnection: puts and updates, and cancels that take them back.
+#![tactic(auto)]
+
+mod fault;
+pub mod laws;
+mod plan;
+mod row;
+
+pub use fault::PlanFault;
+pub use plan::{MOST_ROWS, Plan};
+pub use row::{Action, DueRow, PlanRow};

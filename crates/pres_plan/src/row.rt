@@ -1,0 +1,128 @@
+//! Actions, the rows of a plan, and what they come to.
+
+ghost use Rattle.std.specs.Prelude.{◌≡◌, IfOk};
+ghost use Rattle.pres_tree.specs.Rows.{Fits, rows_in};
+ghost use Rattle.pres_write.specs.Basics.{basic};
+ghost use Rattle.pres_plan.specs.Plans.{path_of, is_put, due_write, due_row};
+
+use pres_tree::{Path, Tree};
+use pres_wire::Number;
+use pres_write::{Basic, Moment, Placement, settle};
+use std::alloc::{AllocError, Global};
+
+/// What is left for a place.
+#[derive(Drop)]
+pub enum Action {
+    /// The draft is written there.
+    Put(Placement),
+    /// The place keeps its value, where the put of a place above it would take that away.
+    Keep(Path),
+}
+
+impl Action {
+    /// The place.
+    pub fn path(&self) -> &Path
+        ensures { result.now ≡ path_of self.now }
+    {
+        match self {
+            Action::Put(placement) => placement.path(),
+            Action::Keep(path) => path,
+        }
+    }
+
+    /// Whether it writes a draft.
+    pub fn is_put(&self) -> bool
+        ensures { result ≡ is_put self.now }
+    {
+        matches!(self, Action::Put(_))
+    }
+
+    /// An equal action.
+    pub fn copy(&self, alloc: Global) -> Result<Action, AllocError>
+        ensures { IfOk result (λ made. made ≡ self.now) }
+    {
+        match self {
+            Action::Put(placement) => Ok(Action::Put(placement.copy(alloc)?)),
+            Action::Keep(path) => Ok(Action::Keep(path.copy(alloc)?)),
+        }
+    }
+
+    // The write that it comes to on the tree at the moment.
+    pub(crate) fn write(
+        &self,
+        alloc: Global,
+        tree: &Tree,
+        moment: Moment,
+    ) -> Result<Basic, AllocError>
+        ensures { IfOk result (λ made. made ≡ due_write tree.now moment self.now) }
+    {
+        match self {
+            Action::Put(placement) => {
+                let path = placement.path().copy(alloc)?;
+                let value = settle(alloc, placement.draft(), moment)?;
+                Ok(fitting(path, value))
+            }
+            Action::Keep(path) => {
+                let value = held(alloc, tree, path)?;
+                Ok(fitting(path.copy(alloc)?, value))
+            }
+        }
+    }
+}
+
+// What stands at the path, copied.
+fn held(alloc: Global, tree: &Tree, path: &Path) -> Result<Tree, AllocError>
+    ensures value { IfOk result (λ held. held ≡ value_at path.now tree.now) }
+    ensures fits { IfOk result (λ held. Fits path.now held) }
+{
+    // it ensures that the tree is a value
+    let _ = tree.is_empty();
+    match tree.at(path) {
+        Some(held) => held.copy(alloc),
+        None => Ok(Tree::empty()),
+    }
+}
+
+// The write of a value that may stand at the path.
+fn fitting(path: Path, value: Tree) -> Basic
+    requires { Fits path value }
+    ensures { result ≡ basic path value }
+{
+    // it ensures that the path is one
+    let _ = path.len();
+    match Basic::new(path, Some(value)) {
+        Ok(made) => made,
+        Err(_) => unreachable!(),
+    }
+}
+
+/// An action with the number of the message that asked for it.
+#[derive(Drop)]
+pub struct PlanRow {
+    pub q: Number,
+    pub action: Action,
+}
+
+impl PlanRow {
+    // The write that it comes to on the tree at the moment, with the number of its message.
+    pub(crate) fn due(
+        &self,
+        alloc: Global,
+        tree: &Tree,
+        moment: Moment,
+    ) -> Result<DueRow, AllocError>
+        ensures { IfOk result (λ made. made ≡ due_row tree.now moment self.now) }
+    {
+        Ok(DueRow {
+            q: self.q,
+            basic: self.action.write(alloc, tree, moment)?,
+        })
+    }
+}
+
+/// A write that is due at the end of a session, with the number of the message that asked for it.
+#[derive(Drop)]
+pub struct DueRow {
+    pub q: Number,
+    pub basic: Basic,
+}
