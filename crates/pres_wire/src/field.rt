@@ -1,8 +1,9 @@
 //! The fields of messages, read.
 
-ghost use Rattle.std.specs.Prelude.{◌≡◌, ◌⊎◌, MatchResult, Some, None, codes};
+ghost use Rattle.std.specs.Prelude.{◌≡◌, ◌≢◌, ◌⊎◌, MatchResult, Some, None, codes};
 ghost use Rattle.serde_json.specs.Find.{get};
 ghost use Rattle.serde_json.specs.View.{view};
+ghost use Rattle.pres_write.specs.declared.fault.WriteFault.TheVariants.{Tree};
 ghost use Rattle.pres_wire.specs.UpForms.{session_field, number_field, op_field, left_field, path_field};
 ghost use Rattle.pres_wire.specs.declared.fault.WireFault.TheVariants.{Memory};
 
@@ -50,6 +51,17 @@ fn op_value(message: &Value) -> Result<&Value, WireFault>
         .ok_or(WireFault::Field(Field::Op))
 }
 
+// What a message is refused for where its operation is.
+fn refusal(fault: WriteFault) -> WireFault
+    ensures memory { fault ≡ Tree TreeFault.Memory → result ≡ Memory }
+    ensures write { (fault ≢ Tree TreeFault.Memory) → result ≡ WireFault.Write fault }
+{
+    match fault {
+        WriteFault::Tree(TreeFault::Memory) => WireFault::Memory,
+        _ => WireFault::Write(fault),
+    }
+}
+
 // The operation of a message.
 pub(crate) fn op_field(alloc: Global, message: &Value) -> Result<Op, WireFault>
     ensures { MatchResult result
@@ -59,8 +71,7 @@ pub(crate) fn op_field(alloc: Global, message: &Value) -> Result<Op, WireFault>
     let value = op_value(message)?;
     match Op::from_value(alloc, value) {
         Ok(op) => Ok(op),
-        Err(WriteFault::Tree(TreeFault::Memory)) => Err(WireFault::Memory),
-        Err(fault) => Err(WireFault::Write(fault)),
+        Err(fault) => Err(refusal(fault)),
     }
 }
 
@@ -74,8 +85,7 @@ pub(crate) fn left_field(alloc: Global, message: &Value) -> Result<Unconditional
     match Unconditional::from_value(alloc, value) {
         Ok(Some(op)) => Ok(op),
         Ok(None) => Err(WireFault::Field(Field::Op)),
-        Err(WriteFault::Tree(TreeFault::Memory)) => Err(WireFault::Memory),
-        Err(fault) => Err(WireFault::Write(fault)),
+        Err(fault) => Err(refusal(fault)),
     }
 }
 

@@ -152,20 +152,14 @@ impl Up {
         let Some(word) = value.get("m").and_then(Value::as_str) else {
             return Err(WireFault::NoSuchMessage);
         };
-        if word == "hello" {
-            read_hello(alloc, value)
-        } else if word == "op" {
-            read_op(alloc, value)
-        } else if word == "bye" {
-            read_bye(alloc, value)
-        } else if word == "left" {
-            read_left(alloc, value)
-        } else if word == "cancel" {
-            read_cancel(alloc, value)
-        } else if word == "beat" {
-            read_beat(alloc, value)
-        } else {
-            Err(WireFault::NoSuchMessage)
+        match word {
+            "hello" => read_hello(alloc, value),
+            "op" => read_op(alloc, value),
+            "bye" => read_bye(alloc, value),
+            "left" => read_left(alloc, value),
+            "cancel" => read_cancel(alloc, value),
+            "beat" => read_beat(alloc, value),
+            _ => Err(WireFault::NoSuchMessage),
         }
     }
 
