@@ -1,4 +1,6 @@
+pub mod Cancels
 pub mod Fitting
 pub mod Grows
+pub mod Kept
 pub mod Left
 pub mod Steps

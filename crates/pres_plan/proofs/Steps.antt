@@ -124,11 +124,14 @@ clear_done old new q p plan none new_is =
 
 -- ---- refusals
 
-pub is_full : (n : ℕ) → false ≡ nat_le n 256 → IsErrOf {T = Unit {0}} (Err Full) Full ↔ (256 < n)
-is_full n e = (λ _. leb-false n 256 (sym e), λ _. refl)
+abbrev AnswersRoom : Bool → List PlanRow → (ℕ → List PlanRow) → Type 0
+AnswersRoom b old new = (q : ℕ) → b ≡ nat_le (length (plan_of (old ++ new q))) 256
 
-pub few_rows : (n : ℕ) (b : Bool) → b ≡ nat_le n 256 → b ≡ true → n ≤ 256
-few_rows n b e h = leb-true n 256 (sym e ∙ h)
+pub few_rows : (old : List PlanRow) (new : ℕ → List PlanRow) (b : Bool) → AnswersRoom b old new → b ≡ true → (q : ℕ) → length (plan_of (old ++ new q)) ≤ 256
+few_rows old new b e h q = leb-true (length (plan_of (old ++ new q))) 256 (sym (e q) ∙ h)
+
+pub is_full : (old : List PlanRow) (new : ℕ → List PlanRow) (b : Bool) → AnswersRoom b old new → b ≡ false → (q : ℕ) → IsErrOf {T = Unit {0}} (Err Full) Full ↔ (256 < length (plan_of (old ++ new q)))
+is_full old new b e h q = (λ _. leb-false (length (plan_of (old ++ new q))) 256 (sym (e q) ∙ h), λ _. refl)
 
 pub not_refused : (n : ℕ) → n ≤ 256 → IsErrOf {T = Unit {0}} {E = PlanFault} (Ok tt) Full ↔ (256 < n)
 not_refused n few = (λ e. absurd cc, λ many. absurd (omega arith))

@@ -1,7 +1,7 @@
 //! Actions, the rows of a plan, and what they come to.
 
 ghost use Rattle.std.specs.Prelude.{◌≡◌, IfOk};
-ghost use Rattle.pres_tree.specs.Rows.{Fits, rows_in};
+ghost use Rattle.pres_tree.specs.Rows.{Fits, value_at};
 ghost use Rattle.pres_write.specs.Basics.{basic};
 ghost use Rattle.pres_plan.specs.Plans.{path_of, is_put, due_write, due_row};
 

@@ -1,4 +1,4 @@
-use Rattle.std.proofs.Common.{◌≡◌, ◌≤◌, ◌++◌, List, length, ap, ◌∙◌, sym, subst}
+use Rattle.std.proofs.Common.{◌≡◌, ◌≤◌, ◌++◌, List, length, ap, sym, ◌∙◌, subst}
 use Rattle.std.specs.Prelude.{nat_le}
 use Rattle.pres_plan.specs.declared.row.PlanRow.{PlanRow}
 use Rattle.pres_plan.specs.Plans.{plan_of, puts}
@@ -7,23 +7,24 @@ use Rattle.pres_plan.proofs.plan.Plan.update.Goals as goal
 
 pub returns-then-not-may_update-clause-full : goal.returns-then-not-may_update-clause-full
 returns-then-not-may_update-clause-full c =
-    is_full (length (plan_of (c.args.self.now ++ puts c.args.q c.args.placements)))
-    (sym c.if-not-may_update.true ∙ c.may_update.ensures c.args.q ∙ ap (λ ps. nat_le (length (plan_of (c.args.self.now ++ puts c.args.q ps))) 256) c.as_slice.ensures)
+    is_full c.args.self.now (λ q. puts q c.args.placements) c.may_update.result
+    (λ q. c.may_update.ensures q ∙ ap (λ ps. nat_le (length (plan_of (c.args.self.now ++ puts q ps))) 256) c.as_slice.ensures)
+    c.if-not-may_update.true c.args.q
 
 pub returns-in_err-rows-clause-full : goal.returns-in_err-rows-clause-full
 returns-in_err-rows-clause-full c =
-    out_of_memory c.from_residual.result _
-    (few_rows (length (plan_of (c.args.self.now ++ puts c.args.q c.args.placements))) c.may_update.result
-    (c.may_update.ensures c.args.q ∙ ap (λ ps. nat_le (length (plan_of (c.args.self.now ++ puts c.args.q ps))) 256) c.as_slice.ensures)
-    c.if-not-may_update.false)
+    out_of_memory c.from_residual.result (length (plan_of (c.args.self.now ++ puts c.args.q c.args.placements)))
+    (few_rows c.args.self.now (λ q. puts q c.args.placements) c.may_update.result
+    (λ q. c.may_update.ensures q ∙ ap (λ ps. nat_le (length (plan_of (c.args.self.now ++ puts q ps))) 256) c.as_slice.ensures)
+    c.if-not-may_update.false c.args.q)
     c.from_residual.ensures
 
 pub returns-in_err-replace-clause-full : goal.returns-in_err-replace-clause-full
 returns-in_err-replace-clause-full c =
-    out_of_memory c.from_residual-in_err-replace.result _
-    (few_rows (length (plan_of (c.args.self.now ++ puts c.args.q c.args.placements))) c.may_update.result
-    (c.may_update.ensures c.args.q ∙ ap (λ ps. nat_le (length (plan_of (c.args.self.now ++ puts c.args.q ps))) 256) c.as_slice.ensures)
-    c.if-not-may_update.false)
+    out_of_memory c.from_residual-in_err-replace.result (length (plan_of (c.args.self.now ++ puts c.args.q c.args.placements)))
+    (few_rows c.args.self.now (λ q. puts q c.args.placements) c.may_update.result
+    (λ q. c.may_update.ensures q ∙ ap (λ ps. nat_le (length (plan_of (c.args.self.now ++ puts q ps))) 256) c.as_slice.ensures)
+    c.if-not-may_update.false c.args.q)
     c.from_residual-in_err-replace.ensures
 
 done : (c : goal.In_ok-replace) → c.replace.new.rows.items ≡ plan_of (c.args.self.now ++ puts c.args.q c.args.placements)
@@ -33,9 +34,9 @@ done c =
 
 few : (c : goal.In_ok-replace) → length (plan_of (c.args.self.now ++ puts c.args.q c.args.placements)) ≤ 256
 few c =
-    few_rows (length (plan_of (c.args.self.now ++ puts c.args.q c.args.placements))) c.may_update.result
-    (c.may_update.ensures c.args.q ∙ ap (λ ps. nat_le (length (plan_of (c.args.self.now ++ puts c.args.q ps))) 256) c.as_slice.ensures)
-    c.if-not-may_update.false
+    few_rows c.args.self.now (λ q. puts q c.args.placements) c.may_update.result
+    (λ q. c.may_update.ensures q ∙ ap (λ ps. nat_le (length (plan_of (c.args.self.now ++ puts q ps))) 256) c.as_slice.ensures)
+    c.if-not-may_update.false c.args.q
 
 pub invariant_of-self-2 : goal.invariant_of-self-2
 invariant_of-self-2 c = is_plan (c.args.self.now ++ puts c.args.q c.args.placements) c.replace.new.rows.items (done c) (subst (λ (l : List PlanRow). length l ≤ 256) (sym (done c)) (few c))

@@ -1,0 +1,48 @@
+use Rattle.std.proofs.Common.{refl, ◌≡◌, ◌≤◌, [], ◌∷◌, ◌++◌, List, length, ap, sym, ◌∙◌, subst}
+use Rattle.std.specs.Prelude.{nat_le}
+use Rattle.pres_plan.specs.declared.row.PlanRow.{PlanRow}
+use Rattle.pres_plan.specs.Plans.{plan_of, puts}
+use Rattle.pres_plan.proofs.Steps.{is_plan, puts_done, is_full, few_rows, not_refused, out_of_memory}
+use Rattle.pres_plan.proofs.plan.Plan.put.Goals as goal
+
+pub returns-then-not-may_update-clause-full : goal.returns-then-not-may_update-clause-full
+returns-then-not-may_update-clause-full c =
+    is_full c.args.self.now (λ q. puts q (c.args.placement ∷ [])) c.may_update.result
+    (λ q. c.may_update.ensures q ∙ ap (λ ps. nat_le (length (plan_of (c.args.self.now ++ puts q ps))) 256) c.from_ref.ensures.value)
+    c.if-not-may_update.true c.args.q
+
+pub returns-in_err-one-clause-full : goal.returns-in_err-one-clause-full
+returns-in_err-one-clause-full c =
+    out_of_memory c.from_residual.result (length (plan_of (c.args.self.now ++ puts c.args.q (c.args.placement ∷ []))))
+    (few_rows c.args.self.now (λ q. puts q (c.args.placement ∷ [])) c.may_update.result
+    (λ q. c.may_update.ensures q ∙ ap (λ ps. nat_le (length (plan_of (c.args.self.now ++ puts q ps))) 256) c.from_ref.ensures.value)
+    c.if-not-may_update.false c.args.q)
+    c.from_residual.ensures
+
+pub returns-in_err-replace-clause-full : goal.returns-in_err-replace-clause-full
+returns-in_err-replace-clause-full c =
+    out_of_memory c.from_residual-in_err-replace.result (length (plan_of (c.args.self.now ++ puts c.args.q (c.args.placement ∷ []))))
+    (few_rows c.args.self.now (λ q. puts q (c.args.placement ∷ [])) c.may_update.result
+    (λ q. c.may_update.ensures q ∙ ap (λ ps. nat_le (length (plan_of (c.args.self.now ++ puts q ps))) 256) c.from_ref.ensures.value)
+    c.if-not-may_update.false c.args.q)
+    c.from_residual-in_err-replace.ensures
+
+done : (c : goal.In_ok-replace) → c.replace.new.rows.items ≡ plan_of (c.args.self.now ++ puts c.args.q (c.args.placement ∷ []))
+done c =
+    puts_done c.self.inside.rows.items c.into_vec-rows.result.items c.replace.new.rows.items c.args.q (c.args.placement ∷ []) c.self.invariant refl (c.into_vec-rows.ensures ∙ c.in_ok-one.ensures) c.in_ok-replace.ensures.ok
+    ∙ ap (λ l. plan_of (l ++ puts c.args.q (c.args.placement ∷ []))) c.self.view_is
+
+few : (c : goal.In_ok-replace) → length (plan_of (c.args.self.now ++ puts c.args.q (c.args.placement ∷ []))) ≤ 256
+few c =
+    few_rows c.args.self.now (λ q. puts q (c.args.placement ∷ [])) c.may_update.result
+    (λ q. c.may_update.ensures q ∙ ap (λ ps. nat_le (length (plan_of (c.args.self.now ++ puts q ps))) 256) c.from_ref.ensures.value)
+    c.if-not-may_update.false c.args.q
+
+pub invariant_of-self-2 : goal.invariant_of-self-2
+invariant_of-self-2 c = is_plan (c.args.self.now ++ puts c.args.q (c.args.placement ∷ [])) c.replace.new.rows.items (done c) (subst (λ (l : List PlanRow). length l ≤ 256) (sym (done c)) (few c))
+
+pub returns-clause-ok : goal.returns-clause-ok
+returns-clause-ok c = done c
+
+pub returns-clause-full : goal.returns-clause-full
+returns-clause-full c = not_refused (length (plan_of (c.args.self.now ++ puts c.args.q (c.args.placement ∷ [])))) (few c)
