@@ -1,7 +1,7 @@
 -- What a client's part answers is what the log asks for, and what it makes may come.
-use Rattle.std.proofs.Common.{refl, sym, ◌∙◌, ap, subst, ◌≡◌, ◌≢◌, ℕ, ◌+◌, ◌-◌, ◌^◌, ◌≤◌, List, [], ◌∷◌, ◌++◌, length, map, true, false, cond, ◌||◌, ◌&&◌, ◌==◌, nat_lt, nat_le, append_assoc, arith, length-append, Option, Some, None, slice_get, unwrap_or, inl, inr}
+use Rattle.std.proofs.Common.{refl, sym, ◌∙◌, ap, subst, ◌≡◌, ◌≢◌, ℕ, ◌+◌, ◌-◌, ◌^◌, ◌≤◌, List, [], ◌∷◌, ◌++◌, length, map, Bool, true, false, cond, ◌||◌, ◌&&◌, ◌==◌, nat_lt, nat_le, append_assoc, arith, length-append, Option, Some, None, slice_get, unwrap_or, inl, inr}
 use Rattle.std.specs.List.{list_any, list_all}
-use Rattle.std.proofs.lemmas.Bool.{and_from, eqb-true, eq-eqb}
+use Rattle.std.proofs.lemmas.Bool.{and_parts, and_from, eqb-true, eq-eqb}
 use Rattle.std.proofs.lemmas.Bool.Decides.{nat_tests}
 use Rattle.std.proofs.lemmas.Option.{slice_get_past, slice_get_cases}
 use Rattle.pres_tree.specs.declared.scalar.Scalar.{Scalar}
@@ -12,25 +12,33 @@ use Rattle.pres_wire.specs.declared.id.Stamp.{Stamp}
 use Rattle.pres_wire.specs.declared.id.SessionId.{SessionId}
 use Rattle.pres_wire.specs.declared.id.Why.{Why}
 use Rattle.pres_wire.specs.declared.id.Why.TheVariants as why
+use Rattle.pres_wire.specs.declared.up.Up.{Up}
 use Rattle.pres_wire.specs.declared.up.Up.TheVariants as up
+use Rattle.pres_wire.specs.declared.down.Limit.TheVariants as limit
+use Rattle.pres_wire.specs.Messages.{session_in}
+use Rattle.pres_write.specs.Unconditionals.{puts_of}
+use Rattle.pres_plan.specs.Plans.{most_rows, due}
 use Rattle.pres_wire.specs.Ids.{ClientId, same_session, is_earlier, stamp_of}
 use Rattle.pres_retry.specs.declared.table.Row.{Row}
 use Rattle.pres_retry.specs.Verdicts.{fresh, gap, verdict, told_row}
 use Rattle.pres_log.specs.declared.entry.Entry.{Entry}
 use Rattle.pres_log.specs.declared.entry.Entry.TheVariants as entry
 use Rattle.pres_log.specs.declared.fault.Fault.TheVariants as fault
-use Rattle.pres_log.specs.Logs.{tree}
+use Rattle.pres_log.specs.Logs.{entries, tree}
 use Rattle.pres_server.specs.declared.input.Input.{Input}
 use Rattle.pres_server.specs.declared.input.Input.TheVariants as input
-use Rattle.pres_server.specs.Sessions.{is_open, is_newest, count, open_sessions_of, open_sessions, last_of}
+use Rattle.pres_server.specs.Sessions.{session_of, opens, is_open, is_newest, count, open_sessions_of, open_sessions, last_of}
 use Rattle.pres_server.specs.Outcomes.{rows_for, ops}
 use Rattle.pres_server.specs.Streams.{stream}
 use Rattle.pres_server.specs.LegalLog.{MayCome, MayComeTogether, IsPlain, Supersedes, LeavesRoom, IsEndNumber}
-use Rattle.pres_server.specs.Turns.{Decision, refused, quiet, makes, op_by, in_order, if_open, ends_if_open, ends_first, hello, limited, wanted}
+use Rattle.pres_server.specs.SessionPlans.{plan, due_at}
+use Rattle.pres_server.specs.Heard.{State, late_client}
+use Rattle.pres_server.specs.Turns.{Decision, refused, quiet, makes, op_by, in_order, if_open, end_of, opening, ends_if_open, ends_first, ends_late, within_rows, leaves, hello, message, limited, wanted}
 use Rattle.pres_server.specs.Invariants.{MayComeUncounted}
-use Rattle.pres_server.specs.Parts.{LivePart, part_of, live_in, open_step, Sound, listed, session_with, same_stamp, is_live, said_by, hello_by, client_in, ends_live, wanted_by, open_steps, limited_by}
+use Rattle.pres_server.specs.Parts.{LivePart, part_of, live_in, open_step, Sound, listed, session_with, same_stamp, is_live, said_by, plan_in, plan_after, end_by, leaves_by, hello_by, message_by, ends_live, ends_of, ends_late_by, wanted_by, open_steps, limited_by}
 use Rattle.pres_server.proofs.Since.{client_itself, session_itself}
 use Rattle.pres_server.proofs.Steps.{In, or_false, open_listed, in_open}
+use Rattle.pres_server.proofs.PlanSteps.{plan_own}
 use Rattle.pres_server.proofs.Parts.{only_open, ended_own, no_more}
 use Rattle.pres_server.proofs.AfterEntry.{sound_after, open_after}
 
@@ -54,7 +62,7 @@ live_is s es sound =
 said_is : (s : SessionId) (q : ℕ) (d : Decision) (es : List Entry) → Sound es → if_open es s (in_order es s q d) ≡ said_by (part_of s.client es).live s q d
 said_is s q d es sound = elim (is_open s es) as (λ b. is_open s es ≡ b → cond b (in_order es s q d) (refused fault.Session) ≡ said_by (part_of s.client es).live s q d) [
   | true ↦ λ o.
-      let l : LivePart = record { stamp = (stamp_of s); count = count s es; sent = length (stream s es) } in
+      let l : LivePart = record { stamp = (stamp_of s); count = count s es; sent = length (stream s es); plan = plan s es } in
       let same : same_stamp (stamp_of s) (stamp_of s) ≡ true = stamp_itself (stamp_of s) in
       ap (λ b. cond b (in_order es s q d) (refused fault.Session)) (sym same) ∙ ap (λ xs. said_by (live_in xs es) s q d) (sym (only_open s es sound o))
   | false ↦ λ o. by (part_of s.client es).live (sym (live_is s es sound) ∙ o)
@@ -90,19 +98,79 @@ op_is rows t m s q n op = elim (n == 0) as (λ z. (n == 0) ≡ z → op_by (cond
       within : (k n : ℕ) → nat_lt k n ≡ false → 1 ≤ n → k ≤ n - 1 → ⊥
       within k n h low end = grind (arith, nat_tests)
 
-hello_is : (s : SessionId) (es : List Entry) → Sound es → hello es s ≡ hello_by (part_of s.client es) s
-hello_is s es sound = λ i. cond (sound.newest s i) (makes (map (λ t. entry.Ended t None why.Superseded []) (sound.one_open s.client i) ++ entry.Open s ∷ [])) (refused (fault.Old (unwrap_or (last_of s.client es) (stamp_of s))))
+-- where the session is open, another answer to its next message makes no difference elsewhere
+said_alike : (l : Option LivePart) (s : SessionId) (q : ℕ) (d e : Decision) → (is_live l (stamp_of s) ≡ true → d ≡ e) → said_by l s q d ≡ said_by l s q e
+said_alike None s q d e h = refl
+said_alike (Some l) s q d e h = by (same_stamp (stamp_of s) l.stamp) h where
+  by : (b : Bool) → (b ≡ true → d ≡ e) → cond b (cond (nat_le q l.count) quiet (cond (q == l.count + 1) d (refused fault.Order))) (refused fault.Session)
+      ≡ cond b (cond (nat_le q l.count) quiet (cond (q == l.count + 1) e (refused fault.Order))) (refused fault.Session)
+  by true k = ap (λ x. cond (nat_le q l.count) quiet (cond (q == l.count + 1) x (refused fault.Order))) (k refl)
+  by false k = refl
 
-ends_is : (es : List Entry) (w : Why) (s : SessionId) → Sound es → ends_if_open es w s ≡ ends_live (part_of s.client es).live w s
-ends_is es w s sound = ap (λ b. cond b (makes (entry.Ended s None w [] ∷ [])) quiet) (live_is s es sound)
+-- what an open session's next message asks for, said of the log and by its part
+said_same : (s : SessionId) (q : ℕ) (d e : Decision) (es : List Entry) → Sound es → (is_open s es ≡ true → d ≡ e) → if_open es s (in_order es s q d) ≡ said_by (part_of s.client es).live s q e
+said_same s q d e es sound h = said_is s q d es sound ∙ said_alike (part_of s.client es).live s q d e (λ k. h (live_is s es sound ∙ k))
 
-pub wanted_is : (es : List Entry) (m : ℕ) (i : Input) → Sound es → wanted es m i ≡ wanted_by (part_of (client_in i) es) (tree es) m i
-wanted_is es m (input.Up (up.Hello s)) sound = hello_is s es sound
-wanted_is es m (input.Up (up.Op s q n op)) sound = said_is s q _ es sound
-wanted_is es m (input.Up (up.Bye s q)) sound = said_is s q _ es sound
-wanted_is es m (input.Lost s) sound = ends_is es why.Lost s sound
-wanted_is es m (input.Slow s) sound = ends_is es why.Slow s sound
-wanted_is es m (input.Restart c) sound = ap (ends_first why.Restart) (sound.one_open c)
+end_is : (es : List Entry) (m : ℕ) (q : Option ℕ) (w : Why) (s : SessionId) → Sound es → is_open s es ≡ true → end_of es m q w s ≡ end_by (part_of s.client es).live (tree es) m q w s
+end_is es m q w s sound o = ap (λ xs. entry.Ended s q w (due (tree es) m (plan_in (live_in xs es)))) (sym (only_open s es sound o))
+
+leaves_is : (es : List Entry) (e : Entry) (q : ℕ) → Sound es → is_open (session_of e) es ≡ true → leaves es e (session_of e) q ≡ leaves_by (part_of (session_of e).client es).live e (session_of e) q
+leaves_is es e q sound o =
+    let s = session_of e in
+    ap (λ rows. within_rows (length rows) e s q)
+    (plan_own s es e (and_parts (list_any (opens s) es) _ o).0 (session_itself s) ∙ ap (λ xs. plan_after e (plan_in (live_in xs es))) (sym (only_open s es sound o)))
+
+-- the open session of a client's part
+open_there : (c : ClientId) (es : List Entry) (l : LivePart) → Sound es → (part_of c es).live ≡ Some l → is_open (session_with c l.stamp) es ≡ true
+open_there c es l sound k =
+    let t : SessionId = session_with c l.stamp in
+    (in_open t c es (ap (list_any (same_session t)) (sound.one_open c ∙ ap (listed c) k) ∙ ap (λ b. b || false) (session_itself t))).1
+
+ends_listed : (es : List Entry) (m : ℕ) (w : Why) (c : ClientId) → Sound es → map (end_of es m None w) (open_sessions_of c es) ≡ map (end_by (part_of c es).live (tree es) m None w) (listed c (part_of c es).live)
+ends_listed es m w c sound = ap (map (end_of es m None w)) (sound.one_open c) ∙ by (part_of c es).live refl where
+  by : (l : Option LivePart) → (part_of c es).live ≡ l → map (end_of es m None w) (listed c l) ≡ map (end_by (part_of c es).live (tree es) m None w) (listed c l)
+  by None k = refl
+  by (Some l) k = ap (λ e. e ∷ []) (end_is es m None w (session_with c l.stamp) sound (open_there c es l sound k))
+
+hello_is : (s : SessionId) (m : ℕ) (es : List Entry) → Sound es → hello es m s ≡ hello_by (part_of s.client es) (tree es) m s
+hello_is s m es sound =
+    λ i. cond (sound.newest s i) (makes (ends_listed es m why.Superseded s.client sound i ++ entry.Open s ∷ [])) (refused (fault.Old (unwrap_or (last_of s.client es) (stamp_of s))))
+
+ends_is : (es : List Entry) (m : ℕ) (w : Why) (s : SessionId) → Sound es → ends_if_open es m w s ≡ ends_live (part_of s.client es).live (tree es) m w s
+ends_is es m w s sound = by (is_open s es) refl where
+  made : Decision
+  made = makes (end_by (part_of s.client es).live (tree es) m None w s ∷ [])
+
+  by : (b : Bool) → is_open s es ≡ b → cond b (makes (end_of es m None w s ∷ [])) quiet ≡ ends_live (part_of s.client es).live (tree es) m w s
+  by true o = ap (λ e. makes (e ∷ [])) (end_is es m None w s sound o) ∙ ap (λ b. cond b made quiet) (sym o ∙ live_is s es sound)
+  by false o = ap (λ b. cond b made quiet) (sym o ∙ live_is s es sound)
+
+first_is : (es : List Entry) (m : ℕ) (w : Why) (c : ClientId) → Sound es → ends_first es m w (open_sessions_of c es) ≡ ends_of (part_of c es).live (tree es) m w c
+first_is es m w c sound = ap (ends_first es m w) (sound.one_open c) ∙ by (part_of c es).live refl where
+  by : (l : Option LivePart) → (part_of c es).live ≡ l → ends_first es m w (listed c l) ≡ ends_of l (tree es) m w c
+  by None k = refl
+  by (Some l) k =
+      let t : SessionId = session_with c l.stamp in
+      ap (λ e. makes (e ∷ [])) (end_is es m None w t sound (open_there c es l sound k)) ∙ ap (λ live. makes (end_by live (tree es) m None w t ∷ [])) k
+
+late_is : (es : List Entry) (m : ℕ) (o : Option ClientId) → Sound es → ends_late es m o ≡ ends_late_by (λ c. part_of c es) (tree es) m o
+late_is es m None sound = refl
+late_is es m (Some c) sound = first_is es m why.Lease c sound
+
+message_is : (es : List Entry) (m : ℕ) (u : Up) → Sound es → message es m u ≡ message_by (part_of (session_in u).client es) (tree es) m u
+message_is es m (up.Hello s) sound = hello_is s m es sound
+message_is es m (up.Op s q n op) sound = said_is s q _ es sound
+message_is es m (up.Left s q op) sound = said_same s q _ _ es sound (λ o. leaves_is es (entry.Left s q (puts_of op)) q sound o)
+message_is es m (up.Cancel s q path) sound = said_same s q _ _ es sound (λ o. leaves_is es (entry.Cancelled s q path) q sound o)
+message_is es m (up.Bye s q) sound = said_same s q _ _ es sound (λ o. ap (λ e. makes (e ∷ [])) (end_is es m (Some q) why.Bye s sound o))
+message_is es m (up.Beat s) sound = ap (λ b. cond b quiet (refused fault.Session)) (live_is s es sound)
+
+pub wanted_is : (state : State) (m : ℕ) (i : Input) → Sound (entries state.log) → wanted state m i ≡ wanted_by (λ c. part_of c (entries state.log)) state.heard (tree (entries state.log)) m i
+wanted_is state m (input.Up u) sound = message_is (entries state.log) m u sound
+wanted_is state m (input.Lost s) sound = ends_is (entries state.log) m why.Lost s sound
+wanted_is state m (input.Slow s) sound = ends_is (entries state.log) m why.Slow s sound
+wanted_is state m (input.Restart c) sound = first_is (entries state.log) m why.Restart c sound
+wanted_is state m input.Tick sound = late_is (entries state.log) m (late_client m state.heard) sound
 
 -- entries that may come together, but for the limit on open sessions
 abbrev pub MayComeTogetherUncounted : List Entry → ℕ → List Entry → Type 0
@@ -114,22 +182,22 @@ abbrev pub Allowed : List Entry → ℕ → Decision → Type 0
 Allowed es m (makes xs) = MayComeTogetherUncounted es m xs
 Allowed es m other = Unit {0}
 
-hello_allowed : (es : List Entry) (m : ℕ) (s : SessionId) → Sound es → Allowed es m (hello es s)
-hello_allowed es m s sound = elim (is_newest s es) as (λ b. is_newest s es ≡ b → Allowed es m (cond b (makes (map (λ t. entry.Ended t None why.Superseded []) (open_sessions_of s.client es) ++ entry.Open s ∷ [])) (refused (fault.Old (unwrap_or (last_of s.client es) (stamp_of s)))))) [
-  | true ↦ λ new. by new (live_in (open_sessions_of s.client es) es) (sound.one_open s.client)
+hello_allowed : (es : List Entry) (m : ℕ) (s : SessionId) → Sound es → Allowed es m (hello es m s)
+hello_allowed es m s sound = elim (is_newest s es) as (λ b. is_newest s es ≡ b → Allowed es m (cond b (opening es m s) (refused (fault.Old (unwrap_or (last_of s.client es) (stamp_of s)))))) [
+  | true ↦ λ new. by new (part_of s.client es).live refl
   | false ↦ λ _. tt
 ] refl where
-  by : is_newest s es ≡ true → (l : Option LivePart) → open_sessions_of s.client es ≡ listed s.client l → MayComeTogetherUncounted es m (map (λ t. entry.Ended t None why.Superseded []) (open_sessions_of s.client es) ++ entry.Open s ∷ [])
-  by new None e = subst (λ xs. MayComeTogetherUncounted es m (map (λ t. entry.Ended t None why.Superseded []) xs ++ entry.Open s ∷ [])) (sym e) (tt, (new, e))
-  by new (Some l) e =
+  opens_after : List SessionId → Type 0
+  opens_after xs = MayComeTogetherUncounted es m (map (end_of es m None why.Superseded) xs ++ entry.Open s ∷ [])
+
+  by : is_newest s es ≡ true → (l : Option LivePart) → (part_of s.client es).live ≡ l → opens_after (open_sessions_of s.client es)
+  by new None k = let none = sound.one_open s.client ∙ ap (listed s.client) k in subst opens_after (sym none) (tt, (new, none))
+  by new (Some l) k =
       let t : SessionId = session_with s.client l.stamp in
-      let here : In t (open_sessions_of s.client es) = ap (list_any (same_session t)) e ∙ ap (λ b. b || false) (session_itself t) in
-      let o : is_open t es ≡ true = (in_open t s.client es here).1 in
-      let ss = no_more s.client es (entry.Ended t None why.Superseded []) refl in
-      subst (λ xs. MayComeTogetherUncounted es m (map (λ t. entry.Ended t None why.Superseded []) xs ++ entry.Open s ∷ [])) (sym e)
-      ((refl, refl), (o, refl, refl), (newest_still s t new, ended_own es t None why.Superseded [] sound o)) where
-        newest_still : (s t : SessionId) → is_newest s es ≡ true → is_newest s (es ++ entry.Ended t None why.Superseded [] ∷ []) ≡ true
-        newest_still s t new = ap (list_all (λ x. is_earlier (stamp_of x) (stamp_of s))) (no_more s.client es (entry.Ended t None why.Superseded []) refl) ∙ new
+      let o = open_there s.client es l sound k in
+      let e : Entry = end_of es m None why.Superseded t in
+      subst opens_after (sym (sound.one_open s.client ∙ ap (listed s.client) k))
+      ((refl, refl), (o, refl, refl), (ap (list_all (λ x. is_earlier (stamp_of x) (stamp_of s))) (no_more s.client es e refl) ∙ new, ended_own es t None why.Superseded (due_at es m t) sound o))
 
 said_allowed : (es : List Entry) (m : ℕ) (s : SessionId) (q : ℕ) (d : Decision) → (is_open s es ≡ true → q ≡ count s es + 1 → Allowed es m d) → Allowed es m (if_open es s (in_order es s q d))
 said_allowed es m s q d h = elim (is_open s es) as (λ b. is_open s es ≡ b → Allowed es m (cond b (in_order es s q d) (refused fault.Session))) [
@@ -157,29 +225,52 @@ op_allowed es m s q n op o k = elim (n == 0) as (λ z. (n == 0) ≡ z → Allowe
   high : (a b : ℕ) → nat_lt b a ≡ false → a ≤ b
   high a b e = grind (arith, nat_tests)
 
-ends_allowed : (es : List Entry) (m : ℕ) (w : Why) (s : SessionId) → w ≢ why.Superseded → IsEndNumber s None w es → Allowed es m (ends_if_open es w s)
-ends_allowed es m w s plain none = elim (is_open s es) as (λ b. is_open s es ≡ b → Allowed es m (cond b (makes (entry.Ended s None w [] ∷ [])) quiet)) [
+-- an action that is left, or denied
+leaves_allowed : (es : List Entry) (m : ℕ) (e : Entry) (s : SessionId) (q n : ℕ) → is_open s es ≡ true → q ≡ count s es + 1 → IsPlain e → (n ≤ most_rows → MayComeUncounted es m e) → Allowed es m (within_rows n e s q)
+leaves_allowed es m e s q n o k plain h = by (nat_le n most_rows) refl where
+  few : nat_le n most_rows ≡ true → n ≤ most_rows
+  few b = grind (arith, nat_tests)
+
+  by : (b : Bool) → nat_le n most_rows ≡ b → Allowed es m (makes (cond b e (entry.Denied s q limit.Plan) ∷ []))
+  by true b = (plain, h (few b))
+  by false b = (tt, (o, k))
+
+ends_allowed : (es : List Entry) (m : ℕ) (w : Why) (s : SessionId) → w ≢ why.Superseded → IsEndNumber s None w es → Allowed es m (ends_if_open es m w s)
+ends_allowed es m w s plain none = elim (is_open s es) as (λ b. is_open s es ≡ b → Allowed es m (cond b (makes (end_of es m None w s ∷ [])) quiet)) [
   | true ↦ λ o. (plain, (o, none, refl))
   | false ↦ λ _. tt
 ] refl
 
-restart_allowed : (es : List Entry) (m : ℕ) (c : ClientId) → Sound es → Allowed es m (ends_first why.Restart (open_sessions_of c es))
-restart_allowed es m c sound = by (live_in (open_sessions_of c es) es) (sound.one_open c) where
-  by : (l : Option LivePart) → open_sessions_of c es ≡ listed c l → Allowed es m (ends_first why.Restart (open_sessions_of c es))
-  by None e = subst (λ xs. Allowed es m (ends_first why.Restart xs)) (sym e) tt
-  by (Some l) e =
-      let t : SessionId = session_with c l.stamp in
-      let here : In t (open_sessions_of c es) = ap (list_any (same_session t)) e ∙ ap (λ b. b || false) (session_itself t) in
-      subst (λ xs. Allowed es m (ends_first why.Restart xs)) (sym e) ((λ e. absurd (cc)), ((in_open t c es here).1, refl, refl))
+first_allowed : (es : List Entry) (m : ℕ) (w : Why) (c : ClientId) → Sound es → w ≢ why.Superseded → ((s : SessionId) → IsEndNumber s None w es) → Allowed es m (ends_first es m w (open_sessions_of c es))
+first_allowed es m w c sound plain none = by (part_of c es).live refl where
+  by : (l : Option LivePart) → (part_of c es).live ≡ l → Allowed es m (ends_first es m w (open_sessions_of c es))
+  by None k = subst (λ xs. Allowed es m (ends_first es m w xs)) (sym (sound.one_open c ∙ ap (listed c) k)) tt
+  by (Some l) k =
+      subst (λ xs. Allowed es m (ends_first es m w xs)) (sym (sound.one_open c ∙ ap (listed c) k)) (plain, (open_there c es l sound k, none (session_with c l.stamp), refl))
 
-pub wanted_allowed : (es : List Entry) (m : ℕ) (i : Input) → Sound es → Allowed es m (wanted es m i)
-wanted_allowed es m (input.Up (up.Hello s)) sound = hello_allowed es m s sound
-wanted_allowed es m (input.Up (up.Op s q n op)) sound =
+late_allowed : (es : List Entry) (m : ℕ) (o : Option ClientId) → Sound es → Allowed es m (ends_late es m o)
+late_allowed es m None sound = tt
+late_allowed es m (Some c) sound = first_allowed es m why.Lease c sound (λ e. absurd (cc)) (λ s. refl)
+
+message_allowed : (es : List Entry) (m : ℕ) (u : Up) → Sound es → Allowed es m (message es m u)
+message_allowed es m (up.Hello s) sound = hello_allowed es m s sound
+message_allowed es m (up.Op s q n op) sound =
     said_allowed es m s q (op_by (verdict n (rows_for s.client es)) (tree es) m s q n op) (λ o k. subst (Allowed es m) (sym (op_is (rows_for s.client es) (tree es) m s q n op)) (op_allowed es m s q n op o k))
-wanted_allowed es m (input.Up (up.Bye s q)) sound = said_allowed es m s q (makes (entry.Ended s (Some q) why.Bye [] ∷ [])) (λ o k. ((λ e. absurd (cc)), (o, ap Some k, refl)))
-wanted_allowed es m (input.Lost s) sound = ends_allowed es m why.Lost s (λ e. absurd (cc)) refl
-wanted_allowed es m (input.Slow s) sound = ends_allowed es m why.Slow s (λ e. absurd (cc)) refl
-wanted_allowed es m (input.Restart c) sound = restart_allowed es m c sound
+message_allowed es m (up.Left s q op) sound =
+    let e : Entry = entry.Left s q (puts_of op) in
+    said_allowed es m s q (leaves es e s q) (λ o k. leaves_allowed es m e s q (length (plan s (es ++ e ∷ []))) o k tt (λ few. ((o, k), few)))
+message_allowed es m (up.Cancel s q path) sound =
+    let e : Entry = entry.Cancelled s q path in
+    said_allowed es m s q (leaves es e s q) (λ o k. leaves_allowed es m e s q (length (plan s (es ++ e ∷ []))) o k tt (λ few. ((o, k), few)))
+message_allowed es m (up.Bye s q) sound = said_allowed es m s q (makes (end_of es m (Some q) why.Bye s ∷ [])) (λ o k. ((λ e. absurd (cc)), (o, ap Some k, refl)))
+message_allowed es m (up.Beat s) sound = elim (is_open s es) as (λ b. Allowed es m (cond b quiet (refused fault.Session))) [ true ↦ tt | false ↦ tt ]
+
+pub wanted_allowed : (state : State) (m : ℕ) (i : Input) → Sound (entries state.log) → Allowed (entries state.log) m (wanted state m i)
+wanted_allowed state m (input.Up u) sound = message_allowed (entries state.log) m u sound
+wanted_allowed state m (input.Lost s) sound = ends_allowed (entries state.log) m why.Lost s (λ e. absurd (cc)) refl
+wanted_allowed state m (input.Slow s) sound = ends_allowed (entries state.log) m why.Slow s (λ e. absurd (cc)) refl
+wanted_allowed state m (input.Restart c) sound = first_allowed (entries state.log) m why.Restart c sound (λ e. absurd (cc)) (λ s. refl)
+wanted_allowed state m input.Tick sound = late_allowed (entries state.log) m (late_client m state.heard) sound
 
 -- the open sessions after several entries
 pub opens_are : (es : List Entry) (m : ℕ) (xs : List Entry) → Sound es → MayComeTogetherUncounted es m xs → length (open_sessions (es ++ xs)) ≡ open_steps xs (length (open_sessions es))
@@ -204,18 +295,27 @@ together es m (e ∷ []) t h = (t.0, full es e t.1 h) where
   full bs (entry.Open s) g k = (g.0, g.1, k)
   full bs (entry.Op s q n op outcome) g k = g
   full bs (entry.Again s q n) g k = g
+  full bs (entry.Left s q puts) g k = g
+  full bs (entry.Cancelled s q path) g k = g
+  full bs (entry.Denied s q v) g k = g
   full bs (entry.Ended s q w rows) g k = g
 together es m (e ∷ f ∷ []) t h = (t.0, first_of e f t.0 t.1, full (es ++ e ∷ []) f t.2 (subst (λ l. length (open_sessions l) ≤ 1024) (sym (append_assoc es (e ∷ []) (f ∷ []))) h)) where
   full : (bs : List Entry) (x : Entry) → MayComeUncounted bs m x → length (open_sessions (bs ++ x ∷ [])) ≤ 1024 → MayCome bs m x
   full bs (entry.Open s) g k = (g.0, g.1, k)
   full bs (entry.Op s q n op outcome) g k = g
   full bs (entry.Again s q n) g k = g
+  full bs (entry.Left s q puts) g k = g
+  full bs (entry.Cancelled s q path) g k = g
+  full bs (entry.Denied s q v) g k = g
   full bs (entry.Ended s q w rows) g k = g
 
   first_of : (x y : Entry) → Supersedes x y → MayComeUncounted es m x → MayCome es m x
   first_of (entry.Open s) y p g = absurd p
   first_of (entry.Op s q n op outcome) y p g = g
   first_of (entry.Again s q n) y p g = g
+  first_of (entry.Left s q puts) y p g = g
+  first_of (entry.Cancelled s q path) y p g = g
+  first_of (entry.Denied s q v) y p g = g
   first_of (entry.Ended s q w rows) y p g = g
 together es m (e ∷ f ∷ g ∷ more) t h = absurd t
 

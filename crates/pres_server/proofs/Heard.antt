@@ -18,7 +18,8 @@ use Rattle.pres_log.specs.declared.entry.Entry.TheVariants as entry
 use Rattle.pres_server.specs.declared.index.Index.{Index}
 use Rattle.pres_server.specs.Sessions.{session_of}
 use Rattle.pres_server.specs.Heard.{Heard, heard_last, heard_since, heard_again, heard_after, heard_after_all}
-use Rattle.pres_server.specs.Places.{Session, moment_at, live_after, answered_at, heard_at}
+use Rattle.pres_server.specs.Parts.{plan_after}
+use Rattle.pres_server.specs.Places.{Session, moment_at, live_after, answered, heard_at}
 use Rattle.pres_server.specs.Index.{session_at, gone_at, part_at, heard_in, Steps, Tells, Hears, Indexed}
 use Rattle.pres_server.proofs.Since.{client_same, client_itself, client_sym}
 use Rattle.pres_server.proofs.AfterEntry.{clients_total, clients_apart, same_by_cmp}
@@ -48,9 +49,9 @@ again_other c k m heard h = by (heard_last heard k) where
   by None = refl
   by (Some last) = find_put c k (max last m) heard false h
 
-moment_answered : (m : ℕ) (live : Option Session) → moment_at (answered_at m live) ≡ option_map (λ last. max last m) (moment_at live)
-moment_answered m None = refl
-moment_answered m (Some session) = refl
+moment_answered : (m : ℕ) (e : Entry) (live : Option Session) → moment_at (option_map (λ session. answered m (plan_after e session.plan) session) live) ≡ option_map (λ last. max last m) (moment_at live)
+moment_answered m e None = refl
+moment_answered m e (Some session) = refl
 
 moment_heard : (m : ℕ) (live : Option Session) → moment_at (heard_at m live) ≡ option_map (λ last. max last m) (moment_at live)
 moment_heard m None = refl
@@ -58,14 +59,20 @@ moment_heard m (Some session) = refl
 
 own_after : (m : ℕ) (e : Entry) (heard : Heard) (live : Option Session) → heard_last heard (session_of e).client ≡ moment_at live → heard_last (heard_after m e heard) (session_of e).client ≡ moment_at (live_after m e live)
 own_after m (entry.Open s) heard live h = find_put s.client s.client m heard true (client_itself s.client)
-own_after m (entry.Op s q n op outcome) heard live h = again_own s.client m heard (moment_at live) h ∙ sym (moment_answered m live)
-own_after m (entry.Again s q n) heard live h = again_own s.client m heard (moment_at live) h ∙ sym (moment_answered m live)
+own_after m (entry.Op s q n op outcome) heard live h = again_own s.client m heard (moment_at live) h ∙ sym (moment_answered m (entry.Op s q n op outcome) live)
+own_after m (entry.Again s q n) heard live h = again_own s.client m heard (moment_at live) h ∙ sym (moment_answered m (entry.Again s q n) live)
+own_after m (entry.Left s q puts) heard live h = again_own s.client m heard (moment_at live) h ∙ sym (moment_answered m (entry.Left s q puts) live)
+own_after m (entry.Cancelled s q path) heard live h = again_own s.client m heard (moment_at live) h ∙ sym (moment_answered m (entry.Cancelled s q path) live)
+own_after m (entry.Denied s q why) heard live h = again_own s.client m heard (moment_at live) h ∙ sym (moment_answered m (entry.Denied s q why) live)
 own_after m (entry.Ended s q why rows) heard live h = find_where s.client s.client heard true (client_itself s.client)
 
 other_after : (m : ℕ) (e : Entry) (c : ClientId) (heard : Heard) → same_client (session_of e).client c ≡ false → heard_last (heard_after m e heard) c ≡ heard_last heard c
 other_after m (entry.Open s) c heard h = find_put c s.client m heard false h
 other_after m (entry.Op s q n op outcome) c heard h = again_other c s.client m heard h
 other_after m (entry.Again s q n) c heard h = again_other c s.client m heard h
+other_after m (entry.Left s q puts) c heard h = again_other c s.client m heard h
+other_after m (entry.Cancelled s q path) c heard h = again_other c s.client m heard h
+other_after m (entry.Denied s q why) c heard h = again_other c s.client m heard h
 other_after m (entry.Ended s q why rows) c heard h = find_where c s.client heard false h
 
 -- the list of one entry more is that of the index with one entry more
@@ -92,6 +99,9 @@ sorted_after : (m : ℕ) (e : Entry) (heard : Heard) → T (is_sorted client_cmp
 sorted_after m (entry.Open s) heard h = is_sorted-put client_cmp clients_total s.client m heard h
 sorted_after m (entry.Op s q n op outcome) heard h = again_sorted s.client m heard h
 sorted_after m (entry.Again s q n) heard h = again_sorted s.client m heard h
+sorted_after m (entry.Left s q puts) heard h = again_sorted s.client m heard h
+sorted_after m (entry.Cancelled s q path) heard h = again_sorted s.client m heard h
+sorted_after m (entry.Denied s q why) heard h = again_sorted s.client m heard h
 sorted_after m (entry.Ended s q why rows) heard h = is_sorted-where_key client_cmp (λ x. not (same_client s.client x)) heard h
 
 pub sorted_after_all : (m : ℕ) (es : List Entry) (heard : Heard) → T (is_sorted client_cmp heard) → T (is_sorted client_cmp (heard_after_all m es heard))

@@ -1,6 +1,7 @@
 pub mod Since
 pub mod StreamSteps
 pub mod Steps
+pub mod PlanSteps
 pub mod Parts
 pub mod AfterEntry
 pub mod Decide

@@ -1,6 +1,6 @@
 -- What one entry more changes in what the log says of each client.
 use Rattle.std.proofs.Common.{refl, sym, ◌∙◌, ap, subst, ◌≡◌, ℕ, ◌+◌, ◌-◌, ◌≤◌, List, [], ◌∷◌, ◌++◌, length, Bool, true, false, not, cond, ◌||◌, ◌&&◌, ◌==◌, inl, inr, append-nil, true≢false, arith, IsTrue, length-append, Option, Some, None, slice_get}
-use Rattle.std.specs.List.{list_any, list_all, before_first, after_first, filter, filter_map, last_or}
+use Rattle.std.specs.List.{list_any, list_all, before_first, after_first, filter, filter_map, flat_map, last_or}
 use Rattle.std.specs.Option.{option_map}
 use Rattle.std.proofs.lemmas.Bool.{and_parts}
 use Rattle.std.proofs.lemmas.Bool.Decides.{nat_tests}
@@ -23,7 +23,10 @@ use Rattle.pres_wire.specs.declared.down.Down.TheVariants.{Reply}
 use Rattle.std.proofs.lemmas.Option.{slice_get_cases}
 use Rattle.pres_server.specs.LegalLog.{MayCome}
 use Rattle.pres_server.specs.Invariants.{MayComeUncounted}
-use Rattle.pres_server.specs.Parts.{LivePart, session_with, part_of, live_in, one_more, part_step, Sound, listed, comes_after}
+use Rattle.pres_server.specs.SessionPlans.{actions_in}
+use Rattle.pres_plan.specs.Plans.{plan_of}
+use Rattle.pres_server.specs.Parts.{LivePart, Part, session_with, part_of, live_in, one_more, rows_step, part_step, Sound, listed, comes_after}
+use Rattle.pres_server.proofs.PlanSteps.{plan_own, plan_other}
 use Rattle.pres_server.proofs.Since.{after-append, after-cons, client_same, client_itself, client_sym, session_same, session_itself}
 use Rattle.pres_server.proofs.Steps.{In, or_false, any-filter, any-opened, is_open-append, is_open-same, open_listed, filter_alike, filter-filter, sessions_of-append, in_sessions, in_open, rows_for-append, count_own, count_other, length-stream_own, stream_other}
 
@@ -31,6 +34,9 @@ pub uncounted : (es : List Entry) (m : ℕ) (e : Entry) → MayCome es m e → M
 uncounted es m (entry.Open s) h = (h.0, h.1)
 uncounted es m (entry.Op s q n op outcome) h = h
 uncounted es m (entry.Again s q n) h = h
+uncounted es m (entry.Left s q puts) h = h
+uncounted es m (entry.Cancelled s q path) h = h
+uncounted es m (entry.Denied s q why) h = h
 uncounted es m (entry.Ended s q why rows) h = h
 
 -- a stamp isn't before itself
@@ -140,7 +146,7 @@ live_other c es e k same = ap (λ l. live_in l (es ++ e ∷ [])) same ∙ by (op
       let o = (and_parts (list_any (opens g) es) _ a.1).0 in
       let apart : same_client g.client (session_of e).client ≡ false = ap (λ x. same_client x (session_of e).client) (sym (client_same c g.client a.0)) ∙ client_sym c (session_of e).client ∙ k in
       let other : same_session g (session_of e) ≡ false = ap (λ b. b && g.incarnation == (session_of e).incarnation && g.attempt == (session_of e).attempt) apart in
-      λ i. Some (record { stamp = (stamp_of g); count = count_other g es e o other i; sent = length (stream_other g es e a.1 other i) })
+      λ i. Some (record { stamp = (stamp_of g); count = count_other g es e o other i; sent = length (stream_other g es e a.1 other i); plan = plan_other g es e o other i })
 
 -- and all of the part stays, where no other session of it is opened and no write of it made
 pub part_other : (c : ClientId) (es : List Entry) (e : Entry) → same_client (session_of e).client c ≡ false →
@@ -159,36 +165,60 @@ no_row c es e k = row_given c es e None k ∙ append-nil (rows_for c es)
 
 -- the open session's part after an entry of its own that gives one message
 pub live_own : (s : SessionId) (es : List Entry) (e : Entry) → Sound es → is_open s es ≡ true → session_of e ≡ s → open_sessions_of s.client (es ++ e ∷ []) ≡ open_sessions_of s.client es →
-    length (sent_for s (es ++ e ∷ []) e) ≡ 1 → live_in (open_sessions_of s.client (es ++ e ∷ [])) (es ++ e ∷ []) ≡ option_map one_more (live_in (open_sessions_of s.client es) es)
+    length (sent_for s (es ++ e ∷ []) e) ≡ 1 → live_in (open_sessions_of s.client (es ++ e ∷ [])) (es ++ e ∷ []) ≡ option_map (one_more e) (live_in (open_sessions_of s.client es) es)
 live_own s es e sound o k same one =
     let only = only_open s es sound o in
+    let was = (and_parts (list_any (opens s) es) _ o).0 in
     let own_entry : same_session s (session_of e) ≡ true = ap (same_session s) k ∙ session_itself s in
     ap (λ l. live_in l (es ++ e ∷ [])) (same ∙ only)
-    ∙ (λ i. Some (record { stamp = (stamp_of s); count = count_own s es e (and_parts (list_any (opens s) es) _ o).0 own_entry i; sent = length-stream_own s es e o one i }))
-    ∙ ap (λ l. option_map one_more (live_in l es)) (sym only)
+    ∙ (λ i. Some (record { stamp = (stamp_of s); count = count_own s es e was own_entry i; sent = length-stream_own s es e o one i; plan = plan_own s es e was own_entry i }))
+    ∙ ap (λ l. option_map (one_more e) (live_in l es)) (sym only)
 
-pub part_op : (es : List Entry) (m : ℕ) (s : SessionId) (q n : ℕ) (op : Op) (outcome : Outcome) → Sound es → is_open s es ≡ true →
+-- the part of each client after an entry that its open session gives, and that answers it once
+part_said : (es : List Entry) (e : Entry) → Sound es → is_open (session_of e) es ≡ true → opened (e ∷ []) ≡ [] → ((s : SessionId) → opens s e ≡ false) → ((s : SessionId) → ends s e ≡ false)
+    → length (own_answer (es ++ e ∷ []) e) ≡ 1 → rows_for (session_of e).client (es ++ e ∷ []) ≡ rows_step (length es + 1) e (rows_for (session_of e).client es)
+    → ((c : ClientId) → same_client (session_of e).client c ≡ false → rows_for c (es ++ e ∷ []) ≡ rows_for c es)
+    → (c : ClientId) → part_of c (es ++ e ∷ []) ≡ cond (same_client (session_of e).client c)
+    (record { last = (part_of c es).last; rows = rows_step (length es + 1) e (rows_for c es); live = option_map (one_more e) (part_of c es).live }) (part_of c es)
+part_said es e sound o none opens_none ends_none one mine others c = by (same_client s.client c) refl where
+  s : SessionId
+  s = session_of e
+
+  after : ClientId → Part
+  after k = record { last = (part_of k es).last; rows = rows_step (length es + 1) e (rows_for k es); live = option_map (one_more e) (part_of k es).live }
+
+  sent_one : length (sent_for s (es ++ e ∷ []) e) ≡ 1
+  sent_one = ap (λ b. length (cond b (own_answer (es ++ e ∷ []) e) [])) (session_itself s) ∙ one
+
+  own : part_of s.client (es ++ e ∷ []) ≡ after s.client
+  own = λ i. record {
+    last = option_map (stamp_of) (last_or None (no_more s.client es e none i));
+    rows = mine i;
+    live = live_own s es e sound o refl (open_of_same s.client es e none opens_none ends_none) sent_one i;
+  }
+
+  by : (b : Bool) → same_client s.client c ≡ b → part_of c (es ++ e ∷ []) ≡ cond b (after c) (part_of c es)
+  by true k = subst (λ x. part_of x (es ++ e ∷ []) ≡ after x) (client_same s.client c k) own
+  by false k = part_other c es e k (no_more c es e none) (others c k) (open_of_same c es e none opens_none ends_none)
+
+pub part_op : (es : List Entry) (s : SessionId) (q n : ℕ) (op : Op) (outcome : Outcome) → Sound es → is_open s es ≡ true →
     (c : ClientId) → let e = entry.Op s q n op outcome in part_of c (es ++ e ∷ []) ≡ cond (same_client s.client c) (part_step (length es + 1) e (part_of c es)) (part_of c es)
-part_op es m s q n op outcome sound o c =
-    let e = entry.Op s q n op outcome in
-    let ss = no_more c es e refl in
-    let os = open_of_same c es e refl (λ _. refl) (λ _. refl) in
-    elim (same_client s.client c) as (λ b. same_client s.client c ≡ b → part_of c (es ++ e ∷ []) ≡ cond b (part_step (length es + 1) e (part_of c es)) (part_of c es)) [
-      | true ↦ λ k. subst (λ x. part_of x (es ++ e ∷ []) ≡ part_step (length es + 1) e (part_of x es)) (client_same s.client c k) own
-      | false ↦ λ k. part_other c es e k ss (no_row c es e (ap (λ b. cond b (Some (record { done = length es + 1; kept = kept_of outcome })) None) (client_sym c s.client ∙ k))) os
-    ] refl where
+part_op es s q n op outcome sound o = part_said es e sound o refl (λ _. refl) (λ _. refl) refl
+    (row_given s.client es e (Some row) (ap (λ b. cond b (Some row) None) (client_itself s.client)))
+    (λ c k. no_row c es e (ap (λ b. cond b (Some row) None) (client_sym c s.client ∙ k))) where
       e : Entry
       e = entry.Op s q n op outcome
 
-      one : length (sent_for s (es ++ e ∷ []) e) ≡ 1
-      one = ap (λ b. length (cond b (own_answer (es ++ e ∷ []) e) [])) (session_itself s)
+      row : Row
+      row = record { done = length es + 1; kept = kept_of outcome }
 
-      own : part_of s.client (es ++ e ∷ []) ≡ part_step (length es + 1) e (part_of s.client es)
-      own = λ i. record {
-        last = option_map (stamp_of) (last_or None (no_more s.client es e refl i));
-        rows = row_given s.client es e (Some (record { done = length es + 1; kept = kept_of outcome })) (ap (λ b. cond b (Some (record { done = length es + 1; kept = kept_of outcome })) None) (client_itself s.client)) i;
-        live = live_own s es e sound o refl (open_of_same s.client es e refl (λ _. refl) (λ _. refl)) one i;
-      }
+-- an entry that makes no write
+part_plain : (es : List Entry) (e : Entry) → Sound es → is_open (session_of e) es ≡ true → opened (e ∷ []) ≡ [] → ((s : SessionId) → opens s e ≡ false) → ((s : SessionId) → ends s e ≡ false)
+    → length (own_answer (es ++ e ∷ []) e) ≡ 1 → ((c : ClientId) → row_in c (length es + 1) e ≡ None) → rows_step (length es + 1) e (rows_for (session_of e).client es) ≡ rows_for (session_of e).client es
+    → (c : ClientId) → part_of c (es ++ e ∷ []) ≡ cond (same_client (session_of e).client c)
+    (record { last = (part_of c es).last; rows = rows_step (length es + 1) e (rows_for c es); live = option_map (one_more e) (part_of c es).live }) (part_of c es)
+part_plain es e sound o none opens_none ends_none one no_write same =
+    part_said es e sound o none opens_none ends_none one (no_row (session_of e).client es e (no_write (session_of e).client) ∙ sym same) (λ c _. no_row c es e (no_write c))
 
 -- a write that is made again has a row
 pub row_there : (es : List Entry) (c : ClientId) (n : ℕ) → 1 ≤ n → n ≤ ops c es → (row : Row) × (slice_get (rows_for c es) (n - 1) ≡ Some row)
@@ -209,25 +239,13 @@ sent_again es s q n row k =
 
 pub part_again : (es : List Entry) (s : SessionId) (q n : ℕ) → Sound es → is_open s es ≡ true → 1 ≤ n → n ≤ ops s.client es →
     (c : ClientId) → let e = entry.Again s q n in part_of c (es ++ e ∷ []) ≡ cond (same_client s.client c) (part_step (length es + 1) e (part_of c es)) (part_of c es)
-part_again es s q n sound o low high c =
-    let e = entry.Again s q n in
-    let os = open_of_same c es e refl (λ _. refl) (λ _. refl) in
-    elim (same_client s.client c) as (λ b. same_client s.client c ≡ b → part_of c (es ++ e ∷ []) ≡ cond b (part_step (length es + 1) e (part_of c es)) (part_of c es)) [
-      | true ↦ λ k. subst (λ x. part_of x (es ++ e ∷ []) ≡ part_step (length es + 1) e (part_of x es)) (client_same s.client c k) own
-      | false ↦ λ k. part_other c es e k (no_more c es e refl) (no_row c es e refl) os
-    ] refl where
-      e : Entry
-      e = entry.Again s q n
+part_again es s q n sound o low high = part_plain es e sound o refl (λ _. refl) (λ _. refl) one (λ _. refl) refl where
+  e : Entry
+  e = entry.Again s q n
 
-      one : length (sent_for s (es ++ e ∷ []) e) ≡ 1
-      one = let row = row_there es s.client n low high in ap length (sent_again es s q n row.0 row.1)
-
-      own : part_of s.client (es ++ e ∷ []) ≡ part_step (length es + 1) e (part_of s.client es)
-      own = λ i. record {
-        last = option_map (stamp_of) (last_or None (no_more s.client es e refl i));
-        rows = no_row s.client es e refl i;
-        live = live_own s es e sound o refl (open_of_same s.client es e refl (λ _. refl) (λ _. refl)) one i;
-      }
+  one : length (own_answer (es ++ e ∷ []) e) ≡ 1
+  one = let row = row_there es s.client n low high in
+      sym (ap (λ b. length (cond b (own_answer (es ++ e ∷ []) e) [])) (session_itself s)) ∙ ap length (sent_again es s q n row.0 row.1)
 
 -- the open sessions of the client of an ended one, and of another client
 pub ended_own : (es : List Entry) (s : SessionId) (q : Option ℕ) (why : Why) (rows : List Basic) → Sound es → is_open s es ≡ true → open_sessions_of s.client (es ++ entry.Ended s q why rows ∷ []) ≡ []
@@ -310,13 +328,16 @@ part_opened es s sound new none c =
         last = option_map (stamp_of) ((ap (last_or None) (opened_own es s) ∙ last_or-append None (sessions_of s.client es) s) i);
         rows = no_row s.client es e refl i;
         live = (ap (λ l. live_in l (es ++ e ∷ [])) now_open
-            ∙ λ j. Some (record { stamp = (stamp_of s); count = length (filter (λ x. same_session s (session_of x)) (nothing j)); sent = length (numbered_from 1 (sent_from s (before_first (opens s) (es ++ e ∷ []) ++ e ∷ []) (nothing j))) })) i;
+            ∙ λ j. Some (record { stamp = (stamp_of s); count = length (filter (λ x. same_session s (session_of x)) (nothing j)); sent = length (numbered_from 1 (sent_from s (before_first (opens s) (es ++ e ∷ []) ++ e ∷ []) (nothing j))); plan = plan_of (flat_map actions_in (filter (λ x. same_session s (session_of x)) (nothing j))) })) i;
       }
 
 -- the step of each client's part
 pub part_after : (es : List Entry) (m : ℕ) (e : Entry) → Sound es → MayComeUncounted es m e →
     (c : ClientId) → part_of c (es ++ e ∷ []) ≡ cond (same_client (session_of e).client c) (part_step (length es + 1) e (part_of c es)) (part_of c es)
 part_after es m (entry.Open s) sound f c = part_opened es s sound f.0 f.1 c
-part_after es m (entry.Op s q n op outcome) sound f c = part_op es m s q n op outcome sound f.0.0 c
+part_after es m (entry.Op s q n op outcome) sound f c = part_op es s q n op outcome sound f.0.0 c
 part_after es m (entry.Again s q n) sound f c = part_again es s q n sound f.0.0 f.1 f.2 c
+part_after es m (entry.Left s q puts) sound f c = part_plain es (entry.Left s q puts) sound f.0.0 refl (λ _. refl) (λ _. refl) refl (λ _. refl) refl c
+part_after es m (entry.Cancelled s q path) sound f c = part_plain es (entry.Cancelled s q path) sound f.0.0 refl (λ _. refl) (λ _. refl) refl (λ _. refl) refl c
+part_after es m (entry.Denied s q why) sound f c = part_plain es (entry.Denied s q why) sound f.0 refl (λ _. refl) (λ _. refl) refl (λ _. refl) refl c
 part_after es m (entry.Ended s q why rows) sound f c = part_ended es s q why rows sound f.0 c

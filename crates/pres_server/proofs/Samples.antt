@@ -19,6 +19,7 @@ use Rattle.pres_log.specs.declared.fault.Fault.TheVariants as fault
 use Rattle.pres_log.specs.Logs.{Log, entries, tree}
 use Rattle.pres_server.specs.declared.input.Input.{Input}
 use Rattle.pres_server.specs.declared.input.Input.TheVariants as input
+use Rattle.pres_server.specs.Heard.{State}
 use Rattle.pres_server.specs.Turns.{refused, quiet, makes, moment_of, turn, log_after}
 use Rattle.pres_server.specs.Streams.{answers}
 use Rattle.pres_server.specs.LegalLog.{IsLegal}
@@ -36,9 +37,13 @@ set_a = Set (at_a, ([], Fixed (Int (pos 1))) ∷ [])
 abbrev wrote_a : Outcome
 wrote_a = Wrote (basic at_a (([], Int (pos 1)) ∷ []) ∷ [])
 
+-- a server with the log, whose clients were not heard of
+abbrev state : Log → State
+state log = record { log = log; heard = [] }
+
 -- the log after an input, whose batch is committed
 abbrev next : Log → ℕ → Input → Log
-next log now i = log_after log (moment_of log now) (turn log i now)
+next log now i = log_after log (moment_of log now) (turn (state log) i now)
 
 -- ---- superseded session
 
@@ -57,10 +62,10 @@ newer_session = refl
 newer_session_answers : answers (entries opened_once) end_and_open ≡ Gone (alice 1) 1 2 why.Superseded ∷ Welcome (alice 2) 3 0 ∷ []
 newer_session_answers = refl
 
-late_message : turn opened_twice (input.Up (up.Op (alice 1) 1 1 set_a)) 3000 ≡ refused fault.Session
+late_message : turn (state opened_twice) (input.Up (up.Op (alice 1) 1 1 set_a)) 3000 ≡ refused fault.Session
 late_message = refl
 
-same_write : turn opened_twice (input.Up (up.Op (alice 2) 1 1 set_a)) 3000 ≡ makes (entry.Op (alice 2) 1 1 set_a wrote_a ∷ [])
+same_write : turn (state opened_twice) (input.Up (up.Op (alice 2) 1 1 set_a)) 3000 ≡ makes (entry.Op (alice 2) 1 1 set_a wrote_a ∷ [])
 same_write = refl
 
 -- ---- lost reply, resent write
@@ -77,7 +82,7 @@ wrote_and_lost = refl
 welcome_again : answers (entries (next wrote_once 1002 (input.Lost (alice 1)))) (entry.Open (alice 2) ∷ []) ≡ Welcome (alice 2) 4 1 ∷ []
 welcome_again = refl
 
-resent_write : turn came_back (input.Up (up.Op (alice 2) 1 1 set_a)) 1004 ≡ makes (entry.Again (alice 2) 1 1 ∷ [])
+resent_write : turn (state came_back) (input.Up (up.Op (alice 2) 1 1 set_a)) 1004 ≡ makes (entry.Again (alice 2) 1 1 ∷ [])
 resent_write = refl
 
 resent_answer : answers (entries came_back) (entry.Again (alice 2) 1 1 ∷ []) ≡ Reply (alice 2) 1 5 1 1 2 kept.Wrote ∷ []
@@ -88,33 +93,33 @@ tree_of_one_write = refl
 
 -- ---- message order faults
 
-repeated_hello : turn opened_once (input.Up (up.Hello (alice 1))) 1001 ≡ refused (fault.Old (record { incarnation = 1; attempt = 1 }))
+repeated_hello : turn (state opened_once) (input.Up (up.Hello (alice 1))) 1001 ≡ refused (fault.Old (record { incarnation = 1; attempt = 1 }))
 repeated_hello = refl
 
-gap_of_messages : turn opened_once (input.Up (up.Bye (alice 1) 2)) 1001 ≡ refused fault.Order
+gap_of_messages : turn (state opened_once) (input.Up (up.Bye (alice 1) 2)) 1001 ≡ refused fault.Order
 gap_of_messages = refl
 
-gap_of_writes : turn opened_once (input.Up (up.Op (alice 1) 1 2 set_a)) 1001 ≡ refused fault.Order
+gap_of_writes : turn (state opened_once) (input.Up (up.Op (alice 1) 1 2 set_a)) 1001 ≡ refused fault.Order
 gap_of_writes = refl
 
-repeated_message : turn wrote_once (input.Up (up.Op (alice 1) 1 1 set_a)) 1002 ≡ quiet
+repeated_message : turn (state wrote_once) (input.Up (up.Op (alice 1) 1 1 set_a)) 1002 ≡ quiet
 repeated_message = refl
 
 -- ---- ends
 
-goodbye : turn opened_once (input.Up (up.Bye (alice 1) 1)) 1001 ≡ makes (entry.Ended (alice 1) (Some 1) why.Bye [] ∷ [])
+goodbye : turn (state opened_once) (input.Up (up.Bye (alice 1) 1)) 1001 ≡ makes (entry.Ended (alice 1) (Some 1) why.Bye [] ∷ [])
 goodbye = refl
 
 lost_twice : turn (next opened_once 1001 (input.Lost (alice 1))) (input.Slow (alice 1)) 1002 ≡ quiet
 lost_twice = refl
 
-started_again : turn opened_once (input.Restart (codes "alice")) 5000 ≡ makes (entry.Ended (alice 1) None why.Restart [] ∷ [])
+started_again : turn (state opened_once) (input.Restart (codes "alice")) 5000 ≡ makes (entry.Ended (alice 1) None why.Restart [] ∷ [])
 started_again = refl
 
-stranger : turn opened_once (input.Restart (codes "bob")) 5000 ≡ quiet
+stranger : turn (state opened_once) (input.Restart (codes "bob")) 5000 ≡ quiet
 stranger = refl
 
 -- ---- legal logs
 
 is_legal : IsLegal opened_twice
-is_legal = turn_is_legal opened_once (input.Up (up.Hello (alice 2))) 2000 (turn_is_legal [] (input.Up (up.Hello (alice 1))) 1000 tt)
+is_legal = turn_is_legal (state opened_once) (input.Up (up.Hello (alice 2))) 2000 (turn_is_legal (state []) (input.Up (up.Hello (alice 1))) 1000 tt)

@@ -61,6 +61,9 @@ any-opened s [] = refl
 any-opened s (entry.Open t ∷ es) = ap (λ b. same_session s t || b) (any-opened s es)
 any-opened s (entry.Op t q n op outcome ∷ es) = any-opened s es
 any-opened s (entry.Again t q n ∷ es) = any-opened s es
+any-opened s (entry.Left t q puts ∷ es) = any-opened s es
+any-opened s (entry.Cancelled t q path ∷ es) = any-opened s es
+any-opened s (entry.Denied t q why ∷ es) = any-opened s es
 any-opened s (entry.Ended t q why rows ∷ es) = any-opened s es
 
 -- s is among the open sessions of its client where it is open

@@ -1,8 +1,15 @@
 -- What the index says after one entry more.
-use Rattle.std.proofs.Common.{refl, sym, ◌∙◌, ap, subst, ◌≡◌, ℕ, ◌+◌, ◌-◌, ◌^◌, ◌<◌, ◌≤◌, List, [], ◌∷◌, ◌++◌, length, Bool, true, false, cond, append-nil, arith, length-append, Option, Some, None, is_some, slice_get, ◌==◌, unwrap_or}
+use Rattle.std.proofs.Common.{refl, sym, ◌∙◌, ap, subst, ◌≡◌, ℕ, ◌+◌, ◌-◌, ◌^◌, ◌<◌, ◌≤◌, List, [], ◌∷◌, ◌++◌, length, Bool, true, false, cond, append-nil, arith, length-append, Option, Some, None, is_some, slice_get, ◌==◌, unwrap_or, All}
 use Rattle.std.specs.Option.{option_map}
 use Rattle.std.specs.BTreeMap.{get, Updates}
 use Rattle.std.proofs.lemmas.Bool.Decides.{nat_tests}
+use Rattle.std.specs.List.{list_any}
+use Rattle.std.proofs.lemmas.Bool.{and_parts}
+use Rattle.pres_tree.specs.declared.scalar.Scalar.{Scalar}
+use Rattle.pres_tree.specs.Rows.{Rows}
+use Rattle.pres_write.specs.declared.basic.Basic.{Basic}
+use Rattle.pres_plan.specs.declared.row.PlanRow.{PlanRow}
+use Rattle.pres_plan.specs.Plans.{most_rows, due}
 use Rattle.pres_write.specs.Basics.{applied}
 use Rattle.pres_write.specs.Outcomes.{kept_of, writes_in}
 use Rattle.pres_wire.specs.declared.id.Stamp.{Stamp}
@@ -19,16 +26,18 @@ use Rattle.pres_log.specs.declared.entry.Entry.TheVariants as entry
 use Rattle.pres_log.specs.Logs.{tree}
 use Rattle.pres_log.proofs.Entries.{tree-append}
 use Rattle.pres_server.specs.declared.index.Index.{Index}
-use Rattle.pres_server.specs.Sessions.{session_of, is_open, open_sessions, count}
+use Rattle.pres_server.specs.Sessions.{session_of, opens, is_open, open_sessions, count}
 use Rattle.pres_server.specs.Streams.{stream, answers_to}
-use Rattle.pres_server.specs.Parts.{Part, LivePart, Sound, part_of, part_step, live_in, answer_by, open_step, comes_after}
+use Rattle.pres_server.specs.SessionPlans.{plan}
+use Rattle.pres_server.specs.Parts.{Part, LivePart, Sound, IsAsked, plan_after, rows_step, part_of, part_step, live_in, answer_by, open_step, comes_after}
 use Rattle.pres_server.specs.Invariants.{MayComeUncounted, MayComeInTurn, MayTakeAll}
-use Rattle.pres_server.specs.Places.{Session, last_stamp, live_part, live_after, gone_after, HasRoom, MayOpen}
+use Rattle.pres_server.specs.Places.{Session, last_stamp, live_part, live_after, gone_after, HasRoom, MayLeaveAt, AreDueAt, MayOpen}
 use Rattle.pres_server.specs.Index.{session_at, gone_at, part_at, retry_after, tree_after_entry, GoneSteps, Steps, MayTake, Indexed}
-use Rattle.pres_server.proofs.Since.{client_same, client_itself}
+use Rattle.pres_server.proofs.Since.{client_same, client_itself, session_itself}
+use Rattle.pres_server.proofs.PlanSteps.{plan_own}
 use Rattle.pres_server.proofs.Parts.{part_after, only_open, row_there}
-use Rattle.pres_server.proofs.AfterEntry.{sound_after, open_after, answers_are, same_by_cmp, open_counted}
-use Rattle.pres_server.proofs.Whole.{count_small, stream_small, open_small}
+use Rattle.pres_server.proofs.AfterEntry.{sound_after, open_after, answers_are, same_by_cmp}
+use Rattle.pres_server.proofs.Whole.{count_small, stream_small}
 
 -- ---- what a client's part says of its place
 
@@ -44,8 +53,39 @@ room_there : (es : List Entry) (s : SessionId) (index : Index) → Indexed es in
 room_there es s index ix sound o small =
     let c = count_small s es in
     let e = stream_small s es in
-    room_by (session_at index s.client) (record { stamp = stamp_of s; count = count s es; sent = length (stream s es) })
+    room_by (session_at index s.client) (record { stamp = stamp_of s; count = count s es; sent = length (stream s es); plan = plan s es })
     (ap (λ (p : Part). p.live) (ix.parts s.client) ∙ ap (λ xs. live_in xs es) (only_open s es sound o)) (omega arith) (omega arith)
+
+-- what the log says of an open session
+abbrev here : List Entry → SessionId → LivePart
+here es s = record { stamp = stamp_of s; count = count s es; sent = length (stream s es); plan = plan s es }
+
+live_there : (es : List Entry) (s : SessionId) (index : Index) → Indexed es index → Sound es → is_open s es ≡ true → option_map live_part (session_at index s.client) ≡ Some (here es s)
+live_there es s index ix sound o = ap (λ (p : Part). p.live) (ix.parts s.client) ∙ ap (λ xs. live_in xs es) (only_open s es sound o)
+
+due_by : (live : Option Session) (l : LivePart) → option_map live_part live ≡ Some l → (rows : List Basic) (tree : Rows Scalar) (m : ℕ) → rows ≡ due tree m l.plan → AreDueAt live rows
+due_by None l k rows tree m h = absurd (cc)
+due_by (Some session) l k rows tree m h =
+    let p : session.plan ≡ l.plan = ap (λ (o : Option LivePart). (unwrap_or o l).plan) k in
+    (tree, m, h ∙ ap (due tree m) (sym p))
+
+leaves_by : (live : Option Session) (l : LivePart) → option_map live_part live ≡ Some l → (q : ℕ) (e : Entry) → q ≡ l.count + 1 → IsAsked (Some l) → length (plan_after e l.plan) ≤ most_rows → MayLeaveAt live q e
+leaves_by None l k q e n asked few = absurd (cc)
+leaves_by (Some session) l k q e n asked few =
+    let p : l.plan ≡ session.plan = ap (λ (o : Option LivePart). (unwrap_or o l).plan) (sym k) in
+    record {
+      later = subst (λ (x : ℕ × List PlanRow). All (λ row. row.q < x.0) x.1) (λ i. (sym n i, p i)) asked;
+      few = subst (λ rows. length (plan_after e rows) ≤ most_rows) p few;
+    }
+
+-- the open session may leave what its next message asks for
+leaves_there : (es : List Entry) (e : Entry) (q : ℕ) (index : Index) → Indexed es index → Sound es → is_open (session_of e) es ≡ true → q ≡ count (session_of e) es + 1
+    → length (plan (session_of e) (es ++ e ∷ [])) ≤ most_rows → MayLeaveAt (session_at index (session_of e).client) q e
+leaves_there es e q index ix sound o n few =
+    let s = session_of e in
+    leaves_by (session_at index s.client) (here es s) (live_there es s index ix sound o) q e n
+    (subst (λ xs. IsAsked (live_in xs es)) (only_open s es sound o) (sound.asked s.client))
+    (subst (λ rows. length rows ≤ most_rows) (plan_own s es e (and_parts (list_any (opens s) es) _ o).0 (session_itself s)) few)
 
 may_open : (index : Index) (s : SessionId) → option_map live_part (session_at index s.client) ≡ None → comes_after (last_stamp (session_at index s.client) (gone_at index s.client)) (stamp_of s) ≡ true → MayOpen index.places s
 may_open index s l k =
@@ -77,33 +117,46 @@ takes es m (entry.Again s q n) index ix sound f small =
     let r = row_there es s.client n f.1 f.2 in
     let k : slice_get (rows_of s.client index.retry) (n - 1) ≡ Some r.0 = ap (λ (p : Part). slice_get p.rows (n - 1)) (ix.parts s.client) ∙ r.1 in
     (room_there es s index ix sound f.0.0 small, r.0, is_again n (rows_of s.client index.retry) r.0 f.1 (subst (λ (p : Part). n ≤ length p.rows) (sym (ix.parts s.client)) f.2) k, k)
-takes es m (entry.Ended s q why rows) index ix sound f small = (room_there es s index ix sound f.0 small, f.2)
+takes es m (entry.Left s q puts) index ix sound f small =
+    (room_there es s index ix sound f.0.0 small, leaves_there es (entry.Left s q puts) q index ix sound f.0.0 f.0.1 f.1)
+takes es m (entry.Cancelled s q path) index ix sound f small =
+    (room_there es s index ix sound f.0.0 small, leaves_there es (entry.Cancelled s q path) q index ix sound f.0.0 f.0.1 f.1)
+takes es m (entry.Denied s q why) index ix sound f small = room_there es s index ix sound f.0 small
+takes es m (entry.Ended s q why rows) index ix sound f small = (
+  room_there es s index ix sound f.0 small,
+  due_by (session_at index s.client) (here es s) (live_there es s index ix sound f.0) rows (tree es) m f.2,
+)
 
 -- ---- the parts after the entry
-
-abbrev rows_after : ℕ → Entry → List Row → List Row
-rows_after z (entry.Op s q n op outcome) rows = rows ++ row z (kept_of outcome) ∷ []
-rows_after z _ rows = rows
 
 abbrev pub part_in : Option Session → Option Stamp → List Row → Part
 part_in live last rows = record { last = last_stamp live last; rows = rows; live = option_map live_part live }
 
 step_is : (z m : ℕ) (e : Entry) (live : Option Session) (last : Option Stamp) (rows : List Row)
-    → part_in (live_after m e live) (gone_after e live last) (rows_after z e rows) ≡ part_step z e (part_in live last rows)
+    → part_in (live_after m e live) (gone_after e live last) (rows_step z e rows) ≡ part_step z e (part_in live last rows)
 step_is z m (entry.Open s) live last rows = refl
 step_is z m (entry.Op s q n op outcome) None last rows = refl
 step_is z m (entry.Op s q n op outcome) (Some session) last rows = refl
 step_is z m (entry.Again s q n) None last rows = refl
 step_is z m (entry.Again s q n) (Some session) last rows = refl
+step_is z m (entry.Left s q puts) None last rows = refl
+step_is z m (entry.Left s q puts) (Some session) last rows = refl
+step_is z m (entry.Cancelled s q path) None last rows = refl
+step_is z m (entry.Cancelled s q path) (Some session) last rows = refl
+step_is z m (entry.Denied s q why) None last rows = refl
+step_is z m (entry.Denied s q why) (Some session) last rows = refl
 step_is z m (entry.Ended s q why due) None last rows = refl
 step_is z m (entry.Ended s q why due) (Some session) last rows = refl
 
-rows_own : (z : ℕ) (e : Entry) (table : Table) → rows_of (session_of e).client (retry_after z e table) ≡ rows_after z e (rows_of (session_of e).client table)
+rows_own : (z : ℕ) (e : Entry) (table : Table) → rows_of (session_of e).client (retry_after z e table) ≡ rows_step z e (rows_of (session_of e).client table)
 rows_own z (entry.Open s) table = refl
 rows_own z (entry.Op s q n op outcome) table =
     rows_of_recorded s.client s.client n (row z (kept_of outcome)) table
     ∙ ap (λ b. rows_of s.client table ++ cond b (row z (kept_of outcome) ∷ []) []) (client_itself s.client)
 rows_own z (entry.Again s q n) table = refl
+rows_own z (entry.Left s q puts) table = refl
+rows_own z (entry.Cancelled s q path) table = refl
+rows_own z (entry.Denied s q why) table = refl
 rows_own z (entry.Ended s q why due) table = refl
 
 rows_other : (z : ℕ) (e : Entry) (c : ClientId) (table : Table) → same_client (session_of e).client c ≡ false → rows_of c (retry_after z e table) ≡ rows_of c table
@@ -113,6 +166,9 @@ rows_other z (entry.Op s q n op outcome) c table h =
     ∙ ap (λ b. rows_of c table ++ cond b (row z (kept_of outcome) ∷ []) []) h
     ∙ append-nil (rows_of c table)
 rows_other z (entry.Again s q n) c table h = refl
+rows_other z (entry.Left s q puts) c table h = refl
+rows_other z (entry.Cancelled s q path) c table h = refl
+rows_other z (entry.Denied s q why) c table h = refl
 rows_other z (entry.Ended s q why due) c table h = refl
 
 pub live_new : (z m : ℕ) (old new : Index) (e : Entry) → Steps z m old new e → (c : ClientId) (b : Bool) → same_client (session_of e).client c ≡ b
@@ -133,6 +189,9 @@ gone_new : (old new : Index) (e : Entry) → GoneSteps old new e → (c : Client
 gone_new old new (entry.Open s) st c b h = gone_changed old new s.client None st c b h
 gone_new old new (entry.Op s q n op outcome) st c b h = gone_stays old new s.client st c b h
 gone_new old new (entry.Again s q n) st c b h = gone_stays old new s.client st c b h
+gone_new old new (entry.Left s q puts) st c b h = gone_stays old new s.client st c b h
+gone_new old new (entry.Cancelled s q path) st c b h = gone_stays old new s.client st c b h
+gone_new old new (entry.Denied s q why) st c b h = gone_stays old new s.client st c b h
 gone_new old new (entry.Ended s q why rows) st c b h = gone_changed old new s.client (last_stamp (session_at old s.client) (gone_at old s.client)) st c b h
 
 part_own : (z m : ℕ) (old new : Index) (e : Entry) → Steps z m old new e → part_at new (session_of e).client ≡ part_step z e (part_at old (session_of e).client)
@@ -152,6 +211,9 @@ tree_step : (es : List Entry) (e : Entry) → tree (es ++ e ∷ []) ≡ tree_aft
 tree_step es (entry.Open s) = tree-append es (entry.Open s ∷ []) ∙ nothing es
 tree_step es (entry.Op s q n op outcome) = tree-append es (entry.Op s q n op outcome ∷ []) ∙ ap (applied (tree es)) (append-nil (writes_in outcome))
 tree_step es (entry.Again s q n) = tree-append es (entry.Again s q n ∷ []) ∙ nothing es
+tree_step es (entry.Left s q puts) = tree-append es (entry.Left s q puts ∷ []) ∙ nothing es
+tree_step es (entry.Cancelled s q path) = tree-append es (entry.Cancelled s q path ∷ []) ∙ nothing es
+tree_step es (entry.Denied s q why) = tree-append es (entry.Denied s q why ∷ []) ∙ nothing es
 tree_step es (entry.Ended s q why due) = tree-append es (entry.Ended s q why due ∷ []) ∙ ap (applied (tree es)) (append-nil due)
 
 -- the index says what the entries say, with one more

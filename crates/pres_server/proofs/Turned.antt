@@ -12,8 +12,8 @@ use Rattle.pres_server.specs.declared.index.Index.{Index}
 use Rattle.pres_server.specs.declared.input.Input.{Input}
 use Rattle.pres_server.specs.LegalLog.{MayFollow}
 use Rattle.pres_server.specs.Turns.{moment_of, wanted, turn, batch_of}
-use Rattle.pres_server.specs.Parts.{client_in, wanted_by, limited_by}
-use Rattle.pres_server.specs.Heard.{heard_after_all}
+use Rattle.pres_server.specs.Parts.{wanted_by, limited_by}
+use Rattle.pres_server.specs.Heard.{State, heard_after_all}
 use Rattle.pres_server.specs.Index.{part_at, heard_in, Indexed, Tells}
 use Rattle.pres_server.specs.Invariants.{MayTakeAll, Holds, Waits}
 use Rattle.pres_server.specs.Sessions.{open_sessions}
@@ -48,16 +48,21 @@ counted log moment index kept c h =
 pub moment_is : (log : Log) (moment now : ℕ) (index : Index) → Holds log moment index → now ≤ moments.last_moment → max moment now ≡ moment_of log now
 moment_is log moment now index kept low = let last = kept.last in omega arith
 
+-- what the server says of itself
+abbrev pub told : Log → Index → State
+told log index = record { log = log; heard = heard_in index }
+
 -- what the index decides is the turn
 pub turned : (log : Log) (moment now : ℕ) (index : Index) (i : Input) → Holds log moment index → now ≤ moments.last_moment
-    → turn log i now ≡ limited_by (number log) (open_count index.places) (wanted_by (part_at index (client_in i)) index.tree (max moment now) i)
+    → turn (told log index) i now ≡ limited_by (number log) (open_count index.places) (wanted_by (part_at index) (heard_in index) index.tree (max moment now) i)
 turned log moment now index i kept low =
     let es = entries log in
     let sound = legal_is_sound log kept.legal in
     let m = moment_of log now in
-    limited_is es m (wanted es m i) sound (wanted_allowed es m i sound)
-    ∙ (λ x. limited_by (length es) (sym (count_is log moment index kept) x) (wanted_is es m i sound x))
-    ∙ (λ x. limited_by (length es) (open_count index.places) (wanted_by (sym (kept.indexed.parts (client_in i)) x) (sym kept.indexed.tree x) (sym (moment_is log moment now index kept low) x) i))
+    let state = told log index in
+    limited_is es m (wanted state m i) sound (wanted_allowed state m i sound)
+    ∙ (λ x. limited_by (length es) (sym (count_is log moment index kept) x) (wanted_is state m i sound x))
+    ∙ (λ x. limited_by (length es) (open_count index.places) (wanted_by (λ c. sym (kept.indexed.parts c) x) (heard_in index) (sym kept.indexed.tree x) (sym (moment_is log moment now index kept low) x) i))
 
 -- ---- the commit
 

@@ -16,6 +16,7 @@ use Rattle.pres_log.specs.Batches.{may_hold}
 use Rattle.pres_log.specs.Logs.{Log, entries, last_moment}
 use Rattle.pres_log.proofs.Entries.{entries-push, last_moment-push}
 use Rattle.pres_server.specs.declared.input.Input.{Input}
+use Rattle.pres_server.specs.Heard.{State}
 use Rattle.pres_server.specs.Sessions.{session_of, opened, opens, ends, since_open, is_open, count, open_sessions}
 use Rattle.pres_server.specs.Streams.{stream, sent_for, sent_from, own_answer, repeated_reply}
 use Rattle.pres_server.specs.LegalLog.{IsLegal, IsLegalAfter, MayFollow, MayComeTogether, Supersedes, LeavesRoom}
@@ -52,6 +53,9 @@ sent_small s now e = by (same_session s (session_of e)) where
     row : (o : Option Row) → length (repeated_reply t (length now) q n o) ≤ 1
     row None = omega arith
     row (Some r) = omega arith
+  one (entry.Left t q puts) = omega arith
+  one (entry.Cancelled t q path) = omega arith
+  one (entry.Denied t q why) = omega arith
   one (entry.Ended t q why rows) = omega arith
 
   by : (b : Bool) → length (cond b (own_answer now e) []) ≤ 1
@@ -92,6 +96,9 @@ opened_small [] = omega arith
 opened_small (entry.Open s ∷ es) = let r = opened_small es in omega arith
 opened_small (entry.Op s q n op outcome ∷ es) = let r = opened_small es in omega arith
 opened_small (entry.Again s q n ∷ es) = let r = opened_small es in omega arith
+opened_small (entry.Left s q puts ∷ es) = let r = opened_small es in omega arith
+opened_small (entry.Cancelled s q path ∷ es) = let r = opened_small es in omega arith
+opened_small (entry.Denied s q why ∷ es) = let r = opened_small es in omega arith
 opened_small (entry.Ended s q why rows ∷ es) = let r = opened_small es in omega arith
 
 pub open_small : (es : List Entry) → length (open_sessions es) ≤ length es
@@ -125,10 +132,16 @@ held_together es m (e ∷ f ∷ []) t = by e f t.0 where
   by (entry.Ended s q w rows) (entry.Open u) h = refl
   by (entry.Ended s q w rows) (entry.Op u r n op outcome) h = absurd h
   by (entry.Ended s q w rows) (entry.Again u r n) h = absurd h
+  by (entry.Ended s q w rows) (entry.Left u r puts) h = absurd h
+  by (entry.Ended s q w rows) (entry.Cancelled u r path) h = absurd h
+  by (entry.Ended s q w rows) (entry.Denied u r v) h = absurd h
   by (entry.Ended s q w rows) (entry.Ended u r v more) h = absurd h
   by (entry.Open s) y h = absurd h
   by (entry.Op s q n op outcome) y h = absurd h
   by (entry.Again s q n) y h = absurd h
+  by (entry.Left s q puts) y h = absurd h
+  by (entry.Cancelled s q path) y h = absurd h
+  by (entry.Denied s q why) y h = absurd h
 held_together es m (e ∷ f ∷ g ∷ more) t = absurd t
 
 -- ---- one batch more
@@ -164,17 +177,21 @@ legal_leaves_room = of_legal (λ log. LeavesRoom (entries log)) (let none : leng
 -- ---- turns
 
 -- what a turn makes may follow
-pub may_follow : (log : Log) (i : Input) (now : ℕ) (xs : List Entry) → IsLegal log → turn log i now ≡ makes xs → MayFollow log (batch_of log (moment_of log now) xs)
-may_follow log i now xs legal e =
+pub may_follow : (state : State) (i : Input) (now : ℕ) (xs : List Entry) → IsLegal state.log → turn state i now ≡ makes xs → MayFollow state.log (batch_of state.log (moment_of state.log now) xs)
+may_follow state i now xs legal e =
+    let log = state.log in
     let es = entries log in
     let m = moment_of log now in
-    let full : AllowedFully es m (makes xs) = subst (AllowedFully es m) e (limited_allowed es m (wanted es m i) (wanted_allowed es m i (legal_is_sound log legal))) in
+    let full : AllowedFully es m (makes xs) = subst (AllowedFully es m) e (limited_allowed es m (wanted state m i) (wanted_allowed state m i (legal_is_sound log legal))) in
     let range = legal_in_range log legal in
     record { first = refl; not_earlier = omega arith; in_range = omega arith; allowed = full.0; room = full.1 }
 
-pub turn_is_legal : (log : Log) (i : Input) (now : ℕ) → TurnIsLegal log i now
-turn_is_legal log i now legal = by (turn log i now) refl where
-  by : (d : Decision) → turn log i now ≡ d → IsLegal (log_after log (moment_of log now) d)
-  by (makes xs) e = legal_after log (batch_of log (moment_of log now) xs) legal (may_follow log i now xs legal e)
+pub turn_is_legal : (state : State) (i : Input) (now : ℕ) → TurnIsLegal state i now
+turn_is_legal state i now legal = by (turn state i now) refl where
+  m : ℕ
+  m = moment_of state.log now
+
+  by : (d : Decision) → turn state i now ≡ d → IsLegal (log_after state.log m d)
+  by (makes xs) e = legal_after state.log (batch_of state.log m xs) legal (may_follow state i now xs legal e)
   by quiet e = legal
   by (refused c) e = legal

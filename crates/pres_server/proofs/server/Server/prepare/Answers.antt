@@ -6,7 +6,7 @@ use Rattle.pres_server.specs.declared.input.Input.{Input}
 use Rattle.pres_server.specs.LegalLog.{IsLegal, MayFollow}
 use Rattle.pres_server.specs.Turns.{Decision, makes, moment_of, turn, batch_of, IsRefusal, IsStep}
 use Rattle.pres_server.specs.Heard.{State, Pending, heard_of}
-use Rattle.pres_server.specs.Parts.{client_in, wanted_by, limited_by}
+use Rattle.pres_server.specs.Parts.{wanted_by, limited_by}
 use Rattle.pres_server.specs.Index.{part_at, heard_in}
 use Rattle.pres_server.specs.Invariants.{Holds}
 use Rattle.pres_server.specs.declared.turn.Step.{Step}
@@ -22,11 +22,11 @@ abbrev Inside : State → Log → ℕ → Index → Type 0
 Inside s log moment index = Holds log moment index × (record { log = log; heard = heard_in index } ≡ s)
 
 turn_is : (s : State) (log : Log) (moment : ℕ) (index : Index) → Inside s log moment index → (i : Input) (now m z : ℕ) → now ≤ moments.last_moment → m ≡ max moment now → z ≡ number log
-    → turn s.log i now ≡ limited_by z (open_count index.places) (wanted_by (part_at index (client_in i)) index.tree m i)
+    → turn s i now ≡ limited_by z (open_count index.places) (wanted_by (part_at index) (heard_in index) index.tree m i)
 turn_is s log moment index k i now m z low e f =
-    ap (λ (x : State). turn x.log i now) (sym k.1)
+    ap (λ x. turn x i now) (sym k.1)
     ∙ turned log moment now index i k.0 low
-    ∙ (λ x. limited_by (sym f x) (open_count index.places) (wanted_by (part_at index (client_in i)) index.tree (sym e x) i))
+    ∙ (λ x. limited_by (sym f x) (open_count index.places) (wanted_by (part_at index) (heard_in index) index.tree (sym e x) i))
 
 moment_as : (s : State) (log : Log) (moment : ℕ) (index : Index) → Inside s log moment index → (now m : ℕ) → now ≤ moments.last_moment → m ≡ max moment now → m ≡ moment_of s.log now
 moment_as s log moment index k now m low e = e ∙ moment_is log moment now index k.0 low ∙ ap (λ (x : State). moment_of x.log now) k.1
@@ -52,7 +52,7 @@ wait-requires c =
     let t = turn_is c.args.self log c.self.inside.moment c.self.inside.index k c.args.input c.args.now c.max-moment.result c.len-number.result c.millis.ensures.bound c.max-moment.ensures c.len-number.ensures in
     let m = moment_as c.args.self log c.self.inside.moment c.self.inside.index k c.args.now c.max-moment.result c.millis.ensures.bound c.max-moment.ensures in
     subst (λ x. MayFollow c.args.self.log (batch_of c.args.self.log x c.in-Ok-Makes.entries)) (sym m)
-    (may_follow c.args.self.log c.args.input c.args.now c.in-Ok-Makes.entries (subst (λ (s : State). IsLegal s.log) c.self.view_is c.self.invariant.legal) (t ∙ as_step _ _ _ _ c.in-Ok-Makes.field-0-is c.in-Ok-Makes.ensures))
+    (may_follow c.args.self c.args.input c.args.now c.in-Ok-Makes.entries (subst (λ (s : State). IsLegal s.log) c.self.view_is c.self.invariant.legal) (t ∙ as_step _ _ _ _ c.in-Ok-Makes.field-0-is c.in-Ok-Makes.ensures))
 
 pub returns-in-Ok-Makes-clause-turn : goal.returns-in-Ok-Makes-clause-turn
 returns-in-Ok-Makes-clause-turn c =
