@@ -266,10 +266,12 @@ impl Places {
     pub(crate) fn late(&self, moment: Moment) -> Option<&ClientId>
         ensures { option_copied result ≡ late_client moment (heard_of_all self.now) }
     {
-        self.live
-            .iter()
-            .find(|(_, live)| is_late(live.heard(), moment))
-            .map(|(client, _)| client)
+        for (client, live) in self.live.iter() {
+            if is_late(live.heard(), moment) {
+                return Some(client);
+            }
+        }
+        None
     }
 
     /// The client's open session.

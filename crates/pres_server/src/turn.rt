@@ -281,7 +281,7 @@ impl Index {
     }
 
     // What an operation makes that is left by the open session's next message.
-    fn left(
+    fn leaving(
         &self,
         alloc: Global,
         session: SessionId,
@@ -315,7 +315,7 @@ impl Index {
         if !self.is_next(&session, q)? {
             return Ok(Step::Quiet(Some(session)));
         }
-        Ok(Step::Makes(self.left(alloc, session, q, &op, now)?))
+        Ok(Step::Makes(self.leaving(alloc, session, q, &op, now)?))
     }
 
     // The entry of a cancel, or of its denial.
@@ -335,7 +335,7 @@ impl Index {
     }
 
     // What a cancel makes that is the open session's next message.
-    fn cancel(
+    fn cancelling(
         &self,
         alloc: Global,
         session: SessionId,
@@ -368,7 +368,7 @@ impl Index {
         if !self.is_next(&session, q)? {
             return Ok(Step::Quiet(Some(session)));
         }
-        Ok(Step::Makes(self.cancel(alloc, session, q, path, now)?))
+        Ok(Step::Makes(self.cancelling(alloc, session, q, path, now)?))
     }
 
     // What a Beat asks for: nothing, but its client was heard of.
