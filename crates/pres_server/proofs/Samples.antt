@@ -110,7 +110,7 @@ repeated_message = refl
 goodbye : turn (state opened_once) (input.Up (up.Bye (alice 1) 1)) 1001 ≡ makes (entry.Ended (alice 1) (Some 1) why.Bye [] ∷ [])
 goodbye = refl
 
-lost_twice : turn (next opened_once 1001 (input.Lost (alice 1))) (input.Slow (alice 1)) 1002 ≡ quiet
+lost_twice : turn (state (next opened_once 1001 (input.Lost (alice 1)))) (input.Slow (alice 1)) 1002 ≡ quiet
 lost_twice = refl
 
 started_again : turn (state opened_once) (input.Restart (codes "alice")) 5000 ≡ makes (entry.Ended (alice 1) None why.Restart [] ∷ [])

@@ -1,23 +1,24 @@
 use Rattle.std.proofs.Common.{◌≡◌, ◌∙◌, ap, inl, Some, [], ◌∷◌, true, cond, rules}
 use Rattle.pres_wire.specs.declared.id.Why.TheVariants as why
-use Rattle.pres_log.specs.declared.entry.Entry.TheVariants as entry
 use Rattle.pres_server.specs.Turns.{Decision, makes, quiet}
-use Rattle.pres_server.specs.Parts.{limited_by}
+use Rattle.pres_server.specs.Parts.{limited_by, end_by}
 use Rattle.pres_server.specs.Places.{open_count}
+use Rattle.pres_server.specs.Index.{live_at}
 use Rattle.pres_server.proofs.Checks.{refused_by, refused_as, live_if_said}
 use Rattle.pres_server.proofs.index.Index.bye_message.Goals as goal
 
 pub ending-requires-clause-open : goal.ending-requires-clause-open
-ending-requires-clause-open c = c.requires.counted c.args.session.client (live_if_said _ c.args.session c.args.q c.in_ok-is_next.field-0 c.in_ok-is_next.ensures)
+ending-requires-clause-open c = live_if_said _ c.args.session c.args.q c.in_ok-is_next.field-0 c.in_ok-is_next.ensures
 
 pub returns-in_err-is_next : goal.returns-in_err-is_next
 returns-in_err-is_next c =
+    let accepted : Decision = makes (end_by (live_at c.args.self.now c.args.session) c.args.self.now.tree c.args.now.moment (Some c.args.q) why.Bye c.args.session ∷ []) in
     refused_by _ _ c.from_residual.result c.in_err-is_next.field-0.0 c.from_residual.ensures
-    (inl (ap (limited_by c.args.now.number (open_count c.args.self.now.places)) (c.in_err-is_next.ensures (makes (entry.Ended c.args.session (Some c.args.q) why.Bye [] ∷ [])))))
+    (inl (ap (limited_by c.args.now.number (open_count c.args.self.now.places)) (c.in_err-is_next.ensures accepted)))
 
 pub returns-in_err-ending : goal.returns-in_err-ending
 returns-in_err-ending c =
-    let end : Decision = makes (entry.Ended c.args.session (Some c.args.q) why.Bye [] ∷ []) in
+    let accepted : Decision = makes (end_by (live_at c.args.self.now c.args.session) c.args.self.now.tree c.args.now.moment (Some c.args.q) why.Bye c.args.session ∷ []) in
     let next : c.in_ok-is_next.field-0 ≡ true = search rules in
     refused_by _ _ c.from_residual-in_err-ending.result c.in_err-ending.field-0.0 c.from_residual-in_err-ending.ensures
-    (refused_as _ _ _ end _ (c.in_ok-is_next.ensures end ∙ ap (λ b. cond b end quiet) next) c.in_err-ending.ensures)
+    (refused_as _ _ _ accepted _ (c.in_ok-is_next.ensures accepted ∙ ap (λ b. cond b accepted quiet) next) c.in_err-ending.ensures)

@@ -19,3 +19,9 @@ returns-in-Op c = subst (λ m. DecidesOn c.args.self.now c.args.now (input.Up m)
 
 pub returns-in-Bye : goal.returns-in-Bye
 returns-in-Bye c = subst (λ m. DecidesOn c.args.self.now c.args.now (input.Up m) c.bye_message.result) (sym c.in-Bye.is) c.bye_message.ensures
+
+pub returns-in-Left : goal.returns-in-Left
+returns-in-Left c = subst (λ m. DecidesOn c.args.self.now c.args.now (input.Up m) c.left_message.result) (sym c.in-Left.is) c.left_message.ensures
+
+pub returns-in-Cancel : goal.returns-in-Cancel
+returns-in-Cancel c = subst (λ m. DecidesOn c.args.self.now c.args.now (input.Up m) c.cancel_message.result) (sym c.in-Cancel.is) c.cancel_message.ensures

@@ -12,4 +12,4 @@ pub returns-in-Slow : goal.returns-in-Slow
 returns-in-Slow c = subst (λ i. DecidesOn c.args.self.now c.args.now i c.lost-in-Slow.result) (sym c.in-Slow.is) c.lost-in-Slow.ensures
 
 pub returns-in-Restart : goal.returns-in-Restart
-returns-in-Restart c = subst (λ i. DecidesOn c.args.self.now c.args.now i c.restarted.result) (sym c.in-Restart.is) c.restarted.ensures
+returns-in-Restart c = subst (λ i. DecidesOn c.args.self.now c.args.now i c.end_of.result) (sym c.in-Restart.is) c.end_of.ensures
