@@ -5,7 +5,7 @@
 ghost use Rattle.std.specs.Prelude.{◌≡◌, ◌<◌, false, map, All, IfOk, IsTrue};
 ghost use Rattle.pres_tree.specs.Paths.{overlap};
 
-use pres_plan::{Plan, PlanFault, PlanRow};
+use pres_plan::{Action, Plan, PlanFault};
 use pres_tree::{Path, Tree};
 use pres_wire::Number;
 use pres_write::{Basic, Draft, Items, Moment, Placement, apply};
@@ -105,16 +105,17 @@ fn left(alloc: Global, actions: &str) -> Result<Plan, Fail> {
     Ok(plan)
 }
 
-fn kind(row: &PlanRow) -> &'static str {
-    if row.action.is_put() { "put" } else { "keep" }
+fn kind(action: &Action) -> &'static str {
+    if action.is_put() { "put" } else { "keep" }
 }
 
 // The kinds of the rows.
 fn kinds(alloc: Global, plan: &Plan) -> Result<String, Fail> {
     let mut text = String::new(alloc);
     for row in plan.rows() {
-        text.push_str(kind(row))?;
-        text.push_str(" ")?;
+        let action = row.action.copy(alloc)?;
+        text.push_str(kind(&action))?;
+        text.push(' ')?;
     }
     Ok(text)
 }
@@ -230,6 +231,26 @@ fn a_plan_has_at_most_256_rows(rt: HostRuntime) -> Result<(), Fail> {
     assert_eq!(rt; refused(alloc, 256, "put / 1")?, (None, 1));
     assert_eq!(rt; refused(alloc, 256, "cancel /k1/a")?, (full, 256));
     assert_eq!(rt; refused(alloc, 256, "cancel /k1")?, (None, 255));
+    Ok(())
+}
+
+// Whether a plan of so many puts has room for the action.
+fn has_room(alloc: Global, rows: u64, action: &str) -> Result<bool, Fail> {
+    let plan = filled(alloc, rows)?;
+    match action.split_once(' ') {
+        Some(("update", text)) => Ok(plan.may_update(placements(alloc, text)?.as_slice())),
+        Some(("cancel", text)) => Ok(plan.may_cancel(&Path::parse(alloc, text)?)),
+        _ => Err("no action")?,
+    }
+}
+
+#[test]
+fn a_plan_says_whether_it_has_room(rt: HostRuntime) -> Result<(), Fail> {
+    let alloc = rt.alloc();
+    assert!(rt; !has_room(alloc, 255, "update /a 1, /b 2")?);
+    assert!(rt; has_room(alloc, 255, "update /a 1, /k1 2")?);
+    assert!(rt; !has_room(alloc, 256, "cancel /k1/a")?);
+    assert!(rt; has_room(alloc, 256, "cancel /k1")?);
     Ok(())
 }
 
