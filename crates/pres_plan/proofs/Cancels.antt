@@ -5,7 +5,7 @@ use Rattle.std.proofs.lemmas.Bool.{and_parts, and_from, or_parts, or_cases, or_l
 use Rattle.std.proofs.lemmas.List.{map-append}
 use Rattle.std.proofs.lemmas.List.Folds.{list_any-append}
 use Rattle.pres_tree.specs.Paths.{Path, is_prefix, meet}
-use Rattle.pres_tree.specs.Rows.{Rows, IsValue, InOrder, value_at, rows_in}
+use Rattle.pres_tree.specs.Rows.{Rows, IsValue, InOrder, value_at}
 use Rattle.pres_tree.specs.Writes.{Write, write, tree_after}
 use Rattle.pres_tree.specs.declared.scalar.Scalar.{Scalar}
 use Rattle.pres_tree.proofs.Nodes.{in_order-value_at}
@@ -14,8 +14,8 @@ use Rattle.pres_write.proofs.Held.{rows_of_option}
 use Rattle.pres_plan.specs.declared.row.Action.{Action}
 use Rattle.pres_plan.specs.declared.row.Action.TheVariants.{Put, Keep}
 use Rattle.pres_plan.specs.declared.row.PlanRow.{PlanRow}
-use Rattle.pres_plan.specs.Plans.{path_of, is_put, covers, is_left, lasting, puts_above, matters, plan_of, cancels, due, due_write, CancelKeeps}
-use Rattle.pres_plan.proofs.Left.{any_implies, any_filter, any_lasting, false_of, filter-append, lasting-append, prefix_trans, above_covers}
+use Rattle.pres_plan.specs.Plans.{path_of, is_put, covers, is_left, lasting, puts_above, matters, plan_of, due, due_write, CancelKeeps}
+use Rattle.pres_plan.proofs.Left.{any_implies, any_filter, any_lasting, false_of, filter-append, lasting-append, prefix_trans}
 use Rattle.pres_plan.proofs.Kept.{value_kept, value_put, value_alone}
 
 -- ---- the writes of rows

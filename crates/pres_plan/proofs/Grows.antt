@@ -1,12 +1,12 @@
 -- To add actions to a plan is to plan all actions.
-use Rattle.std.proofs.Common.{refl, sym, ◌∙◌, ap, ◌≡◌, List, [], ◌∷◌, ◌++◌, append-nil, Bool, true, false, not, cond, ◌||◌, ◌&&◌, true≢false, filter, ◌⊎◌, inl, inr}
+use Rattle.std.proofs.Common.{refl, sym, ◌∙◌, ap, ◌≡◌, List, [], ◌∷◌, ◌++◌, append-nil, Bool, true, false, cond, ◌||◌, true≢false, filter, ◌⊎◌, inl, inr}
 use Rattle.std.specs.List.{list_any}
 use Rattle.std.proofs.lemmas.Bool.{and_parts, or_cases, or_left, both_ways, not-true}
 use Rattle.std.proofs.lemmas.List.Folds.{list_any-append}
 use Rattle.pres_tree.specs.Paths.{Path}
 use Rattle.pres_plan.specs.declared.row.PlanRow.{PlanRow}
 use Rattle.pres_plan.specs.Plans.{path_of, is_put, covers, is_left, lasting, puts_above, matters, plan_of, PlanGrows}
-use Rattle.pres_plan.proofs.Left.{or_map, any_implies, any_same, any_filter, any_lasting, above_covers, filter-append, filter_same, lasting-append, lasting-plan, planned}
+use Rattle.pres_plan.proofs.Left.{or_map, any_implies, any_filter, any_lasting, above_covers, filter-append, filter_same, lasting-append, lasting-plan, planned}
 
 -- a filter that passes all that matter to the others may be left out
 filter_out : {A : Type 0} (m n k : A → Bool) (xs : List A) → ((a : A) → n a ≡ true → m a ≡ true → k a ≡ true) → filter m (filter n (filter k xs)) ≡ filter m (filter n xs)

@@ -3,7 +3,7 @@ use Rattle.std.proofs.Common.{refl, sym, ◌∙◌, ap, ◌≡◌, List, [], ◌
 use Rattle.std.specs.List.{list_any, last_or}
 use Rattle.std.specs.Option.{option_and_then}
 use Rattle.std.proofs.lemmas.Bool.{and_parts, or_cases, or_left}
-use Rattle.pres_tree.specs.Paths.{Path, below, is_prefix, meet}
+use Rattle.pres_tree.specs.Paths.{Path, is_prefix, meet}
 use Rattle.pres_tree.specs.Rows.{Rows, InOrder, is_null, leaf_at, value_at}
 use Rattle.pres_tree.specs.Writes.{Write, write, overwrites, written_at, tree_after, standing_rows}
 use Rattle.pres_tree.proofs.Found.{same_rows, leaf_at-value_at}

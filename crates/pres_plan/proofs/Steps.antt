@@ -56,10 +56,10 @@ room_for_puts rows ps n plan apart count q =
     let few = plan.few in
     let fewer = length-kept (λ row. not (list_any (λ p. is_prefix p.0 (path_of row.action)) ps)) rows in
     let all : length (plan_of (rows ++ puts q ps)) ≡ n + length ps =
-      ap length (plan-puts rows q ps plan.whole apart)
-      ∙ length-append (filter (is_left (puts q ps)) rows) (puts q ps)
-      ∙ (λ i. length (filter_same (is_left (puts q ps)) (λ row. not (list_any (λ p. is_prefix p.0 (path_of row.action)) ps)) rows (left_by_puts q ps) i) + length-puts q ps i)
-      ∙ ap (λ m. m + length ps) (sym count) in
+    ap length (plan-puts rows q ps plan.whole apart)
+    ∙ length-append (filter (is_left (puts q ps)) rows) (puts q ps)
+    ∙ (λ i. length (filter_same (is_left (puts q ps)) (λ row. not (list_any (λ p. is_prefix p.0 (path_of row.action)) ps)) rows (left_by_puts q ps) i) + length-puts q ps i)
+    ∙ ap (λ m. m + length ps) (sym count) in
     same_test (length ps) (256 - n) (length (plan_of (rows ++ puts q ps))) 256 (λ h. omega arith) (λ h. omega arith)
 
 -- the rows that an update leaves
@@ -114,13 +114,14 @@ keep_done old made new q p plan above made_is new_is =
 pub clear_done : (old new : List PlanRow) (q : ℕ) (p : Path) → IsPlan old → false ≡ list_any (puts_above p) old
     → new ≡ filter (λ row. not (is_prefix p (path_of row.action))) old → (new ≡ plan_of (old ++ cancels q p)) × (length new ≤ 256)
 clear_done old new q p plan none new_is =
-    let few = plan.few in
-    (new_is
-    ∙ sym (filter_same (is_left (cancels q p)) (λ row. not (is_prefix p (path_of row.action))) old (left_by_cancel q p))
-    ∙ sym (append-nil (filter (is_left (cancels q p)) old))
-    ∙ ap (λ b. filter (is_left (cancels q p)) old ++ cond b (cancels q p) []) none
-    ∙ sym (plan-cancel old q p plan.whole),
-    omega (arith, ap length new_is, length-kept (λ row. not (is_prefix p (path_of row.action))) old))
+    let few = plan.few in (
+      new_is
+          ∙ sym (filter_same (is_left (cancels q p)) (λ row. not (is_prefix p (path_of row.action))) old (left_by_cancel q p))
+          ∙ sym (append-nil (filter (is_left (cancels q p)) old))
+          ∙ ap (λ b. filter (is_left (cancels q p)) old ++ cond b (cancels q p) []) none
+          ∙ sym (plan-cancel old q p plan.whole),
+      omega (arith, ap length new_is, length-kept (λ row. not (is_prefix p (path_of row.action))) old),
+    )
 
 -- ---- refusals
 

@@ -91,12 +91,7 @@ impl Plan {
 
     /// Leaves a draft, in the place of all that was left at the path and below it. Full where the
     /// plan would have more than `MOST_ROWS` rows.
-    pub fn put(
-        &mut self,
-        alloc: Global,
-        q: Number,
-        placement: Placement,
-    ) -> Result<(), PlanFault>
+    pub fn put(&mut self, alloc: Global, q: Number, placement: Placement) -> Result<(), PlanFault>
         // a plan that is held as a map of its paths takes its order from the numbers
         requires later { All (λ row. row.q < q) self.old }
         ensures ok { OnOk result (self.new ≡ plan_of (self.old ++ puts q (placement ∷ []))) }
@@ -160,12 +155,7 @@ impl Plan {
 
     /// What is due where the session ends with this tree at the moment, in the order of the rows.
     /// Memory is the one refusal.
-    pub fn due(
-        &self,
-        alloc: Global,
-        tree: &Tree,
-        moment: Moment,
-    ) -> Result<Vec<DueRow>, PlanFault>
+    pub fn due(&self, alloc: Global, tree: &Tree, moment: Moment) -> Result<Vec<DueRow>, PlanFault>
         ensures rows { IfOk result (λ made. made.items ≡ due_rows tree.now moment self.now) }
         ensures err { IfErr result (λ e. e ≡ Memory) }
     {
@@ -206,7 +196,9 @@ fn count_left(rows: &[PlanRow], placements: &[Placement]) -> usize
     ensures { result ≡ length (filter
         (λ row. not (list_any (λ p. is_prefix p.0 (path_of row.action)) placements.now)) rows.now) }
 {
-    rows.iter().filter(|row| !is_replaced(row, placements)).count()
+    rows.iter()
+        .filter(|row| !is_replaced(row, placements))
+        .count()
 }
 
 // How many of the rows are not at the path or below it.
@@ -214,7 +206,9 @@ fn count_outside(rows: &[PlanRow], path: &Path) -> usize
     ensures { result ≡ length (filter
         (λ row. not (is_prefix path.now (path_of row.action))) rows.now) }
 {
-    rows.iter().filter(|row| !path.is_prefix_of(row.action.path())).count()
+    rows.iter()
+        .filter(|row| !path.is_prefix_of(row.action.path()))
+        .count()
 }
 
 // Takes the rows away that are at the path or below it.

@@ -1,4 +1,4 @@
-use Rattle.std.proofs.Common.{◌≡◌, ◌++◌, filter, rules, ap, ◌∙◌}
+use Rattle.std.proofs.Common.{◌++◌, filter, rules, ap, ◌∙◌}
 use Rattle.std.proofs.lemmas.Fn.{filter_same}
 use Rattle.pres_plan.specs.Plans.{is_left}
 use Rattle.pres_plan.proofs.plan.replace.Goals as goal

@@ -1,4 +1,4 @@
-use Rattle.std.proofs.Common.{◌≡◌, not, rules}
+use Rattle.std.proofs.Common.{not, rules}
 use Rattle.std.proofs.lemmas.Fn.{filter_same}
 use Rattle.pres_tree.specs.Paths.{is_prefix}
 use Rattle.pres_plan.specs.Plans.{path_of}

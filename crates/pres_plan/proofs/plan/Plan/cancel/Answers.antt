@@ -2,15 +2,15 @@ use Rattle.std.proofs.Common.{◌≡◌, ◌≤◌, ◌++◌, List, length, ap, 
 use Rattle.std.specs.List.{list_any}
 use Rattle.pres_plan.specs.declared.row.PlanRow.{PlanRow}
 use Rattle.pres_plan.specs.Plans.{puts_above, plan_of, cancels}
-use Rattle.pres_plan.proofs.Steps.{is_plan, keep_done, clear_done, is_full, few_rows, not_refused, out_of_memory}
+use Rattle.pres_plan.proofs.Steps.{is_plan, keep_done, clear_done, few_rows, not_refused, out_of_memory}
 use Rattle.pres_plan.proofs.plan.Plan.cancel.Goals as goal
 
 cleared : (c : goal.After-take_back) → (c.take_back.new.rows.items ≡ plan_of (c.args.self.now ++ cancels c.args.q c.args.path.now)) × (length c.take_back.new.rows.items ≤ 256)
 cleared c =
     let step =
-      clear_done c.self.inside.rows.items c.take_back.new.rows.items c.args.q c.args.path.now c.self.invariant
-      (sym c.if-not-has_put_above.true ∙ c.has_put_above.ensures ∙ ap (list_any (puts_above c.args.path.now)) (sym c.self.view_is))
-      c.take_back.ensures in
+    clear_done c.self.inside.rows.items c.take_back.new.rows.items c.args.q c.args.path.now c.self.invariant
+    (sym c.if-not-has_put_above.true ∙ c.has_put_above.ensures ∙ ap (list_any (puts_above c.args.path.now)) (sym c.self.view_is))
+    c.take_back.ensures in
     (step.0 ∙ ap (λ l. plan_of (l ++ cancels c.args.q c.args.path.now)) c.self.view_is, step.1)
 
 pub invariant_of-self : goal.invariant_of-self

@@ -1,4 +1,4 @@
-use Rattle.std.proofs.Common.{◌≡◌, length, not, filter, sym, ap, ◌∙◌}
+use Rattle.std.proofs.Common.{length, not, filter, ap, ◌∙◌}
 use Rattle.pres_tree.specs.Paths.{is_prefix}
 use Rattle.pres_plan.specs.Plans.{path_of}
 use Rattle.pres_plan.proofs.Steps.{is_same_plan, room_left, no_room_left}

@@ -1,4 +1,4 @@
-use Rattle.std.proofs.Common.{◌≡◌, ◌≤◌, length, not, filter, ap, ◌∙◌, arith}
+use Rattle.std.proofs.Common.{length, not, filter, ap, ◌∙◌, arith}
 use Rattle.std.specs.List.{list_any}
 use Rattle.pres_tree.specs.Paths.{is_prefix}
 use Rattle.pres_plan.specs.Plans.{path_of}

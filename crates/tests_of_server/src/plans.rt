@@ -1,0 +1,264 @@
+//! Tests of plans: what puts, updates and cancels leave, and what is written at the end. A line of a
+//! table is a tree and actions, numbered from 1, and behind `=>` the rows, what is due at the moment
+//! 5000, and the tree after it.
+
+ghost use Rattle.std.specs.Prelude.{◌≡◌, ◌<◌, false, map, All, IfOk, IsTrue};
+ghost use Rattle.pres_tree.specs.Paths.{overlap};
+
+use pres_plan::{Action, Plan, PlanFault};
+use pres_tree::{Path, Tree};
+use pres_wire::Number;
+use pres_write::{Basic, Draft, Items, Moment, Placement, apply};
+use serde_json::Value;
+use std::alloc::Global;
+use std::test::Fail;
+
+fn value_of(alloc: Global, text: &str) -> Result<Value, Fail> {
+    Ok(Value::from_str(alloc, text)?)
+}
+
+fn tree_of(alloc: Global, text: &str) -> Result<Tree, Fail> {
+    let value = value_of(alloc, text)?;
+    Ok(Tree::from_value(alloc, &value)?)
+}
+
+fn draft_of(alloc: Global, text: &str) -> Result<Draft, Fail> {
+    let value = value_of(alloc, text)?;
+    Ok(Draft::from_value(alloc, &value)?)
+}
+
+fn printed(alloc: Global, tree: &Tree) -> Result<String, Fail> {
+    let value = tree.to_value(alloc)?;
+    Ok(value.to_string(alloc)?)
+}
+
+// A path and a value behind it.
+fn placement(alloc: Global, text: &str) -> Result<Placement, Fail> {
+    let (path, value) = text.split_once(' ').ok_or("no value")?;
+    let draft = draft_of(alloc, value)?;
+    Ok(Placement::new(Path::parse(alloc, path)?, draft)?)
+}
+
+// Two placements that don't meet.
+fn pair(alloc: Global, first: Placement, second: Placement) -> Result<Items<Placement>, Fail>
+    ensures { IfOk result (λ places. overlap (map (λ p. p.0) places) ≡ false) }
+{
+    let (above, below) = (first.path(), second.path());
+    if above.is_prefix_of(below) || below.is_prefix_of(above) {
+        return Err("places that meet")?;
+    }
+    let mut places = Vec::new(alloc);
+    places.push(first)?;
+    places.push(second)?;
+    Ok(Items::of(places))
+}
+
+// Two placements behind one another.
+fn placements(alloc: Global, text: &str) -> Result<Items<Placement>, Fail>
+    ensures { IfOk result (λ places. overlap (map (λ p. p.0) places) ≡ false) }
+{
+    let (first, second) = text.split_once(", ").ok_or("one place")?;
+    let first = placement(alloc, first)?;
+    pair(alloc, first, placement(alloc, second)?)
+}
+
+// Whether the number is later than that of each row.
+fn is_later(plan: &Plan, q: Number) -> bool
+    ensures { IsTrue result → All (λ row. row.q < q) plan.now }
+{
+    plan.rows().iter().all(|row| row.q < q)
+}
+
+// Why the action is refused, where it is.
+fn refusal(
+    alloc: Global,
+    plan: &mut Plan,
+    q: Number,
+    action: &str,
+) -> Result<Option<PlanFault>, Fail> {
+    if !is_later(plan, q) {
+        return Err("an earlier number")?;
+    }
+    match action.split_once(' ') {
+        Some(("put", text)) => Ok(plan.put(alloc, q, placement(alloc, text)?).err()),
+        Some(("update", text)) => Ok(plan.update(alloc, q, placements(alloc, text)?).err()),
+        Some(("cancel", text)) => Ok(plan.cancel(alloc, q, &Path::parse(alloc, text)?).err()),
+        _ => Err("no action")?,
+    }
+}
+
+// The plan after the action.
+fn acted(alloc: Global, mut plan: Plan, q: u64, action: &str) -> Result<Plan, Fail> {
+    let q = Number::new(q).ok_or("no number")?;
+    match refusal(alloc, &mut plan, q, action)? {
+        Some(fault) => Err(fault)?,
+        None => Ok(plan),
+    }
+}
+
+// What the actions leave.
+fn left(alloc: Global, actions: &str) -> Result<Plan, Fail> {
+    let mut plan = Plan::new(alloc);
+    for (q, action) in (1..).zip(actions.split("; ")) {
+        plan = acted(alloc, plan, q, action)?;
+    }
+    Ok(plan)
+}
+
+fn kind(action: &Action) -> &'static str {
+    if action.is_put() { "put" } else { "keep" }
+}
+
+// The kinds of the rows.
+fn kinds(alloc: Global, plan: &Plan) -> Result<String, Fail> {
+    let mut text = String::new(alloc);
+    for row in plan.rows() {
+        let action = row.action.copy(alloc)?;
+        text.push_str(kind(&action))?;
+        text.push(' ')?;
+    }
+    Ok(text)
+}
+
+fn written(alloc: Global, write: &Basic) -> Result<String, Fail> {
+    let mut text = write.path().text(alloc)?;
+    text.push(' ')?;
+    match write.value() {
+        Some(value) => text.push_str(printed(alloc, value)?.as_str())?,
+        None => text.push_str("null")?,
+    }
+    Ok(text)
+}
+
+// What is due, each write behind the number of its message.
+fn due(alloc: Global, plan: &Plan, tree: &Tree) -> Result<String, Fail> {
+    let mut text = String::new(alloc);
+    for row in &plan.due(alloc, tree, Moment::at(5000))? {
+        let write = written(alloc, &row.basic)?;
+        text.push_str(format!(in alloc; "; {} {write}", row.q.get())?.as_str())?;
+    }
+    Ok(text)
+}
+
+// The tree after the due writes.
+fn after(alloc: Global, plan: &Plan, mut tree: Tree) -> Result<String, Fail> {
+    let writes = plan.due_writes(alloc, &tree, Moment::at(5000))?;
+    apply(alloc, &mut tree, writes.as_slice())?;
+    printed(alloc, &tree)
+}
+
+// The end of a session with the plan: its rows, what is due, and the tree after it.
+fn end(alloc: Global, plan: &Plan, text: &str) -> Result<String, Fail> {
+    let kinds = kinds(alloc, plan)?;
+    let tree = tree_of(alloc, text)?;
+    let due = due(alloc, plan, &tree)?;
+    let after = after(alloc, plan, tree)?;
+    Ok(format!(in alloc; "{kinds}{due}; {after}")?)
+}
+
+fn answer(alloc: Global, case: &str) -> Result<String, Fail> {
+    let (tree, actions) = case.split_once("; ").ok_or("no actions")?;
+    let plan = left(alloc, actions)?;
+    end(alloc, &plan, tree)
+}
+
+fn try_line(alloc: Global, line: &str, wrong: &mut String) -> Result<(), Fail> {
+    let (case, wanted) = line.split_once(" => ").ok_or("no answer")?;
+    let got = answer(alloc, case)?;
+    if got.as_str() != wanted {
+        wrong.push_str(case)?;
+        wrong.push_str(" => ")?;
+        wrong.push_str(got.as_str())?;
+        wrong.push_str("\n")?;
+    }
+    Ok(())
+}
+
+// The lines that answer something else, each with that.
+fn wrong_in(alloc: Global, lines: &str) -> Result<String, Fail> {
+    let mut wrong = String::new(alloc);
+    for line in lines.lines() {
+        try_line(alloc, line, &mut wrong)?;
+    }
+    Ok(wrong)
+}
+
+const ENDS: &str = r#"{"u":{"a":9,"c":3}}; put /u {"a":1,"b":2}; cancel /u/a => put keep ; 1 /u {"a":1,"b":2}; 2 /u/a 9; {"u":{"a":9,"b":2}}
+{"a":5}; put /a/b 1; cancel /a/b => ; {"a":5}
+{"a":5}; put /a {"b":1,"c":2}; cancel /a/b => put keep ; 1 /a {"b":1,"c":2}; 2 /a/b null; {"a":{"c":2}}
+null; put /x {"a":1}; cancel /x/a; put /x 2 => put ; 3 /x 2; {"x":2}
+{"t":1}; put /t {".sv":"timestamp"} => put ; 1 /t 5000; {"t":5000}
+{"a":1}; put /b 2; put /a null => put put ; 1 /b 2; 2 /a null; {"b":2}
+null; put /a/b 1; update /a 2, /b {"c":{".sv":"timestamp"}} => put put ; 2 /a 2; 2 /b {"c":5000}; {"a":2,"b":{"c":5000}}
+{"a":{"b":{"c":7}}}; put /a {}; cancel /a/b; cancel /a/b/c => put keep keep ; 1 /a null; 2 /a/b {"c":7}; 3 /a/b/c 7; {"a":{"b":{"c":7}}}
+{"a":{"b":7}}; put /a 1; cancel /a/b; cancel / => ; {"a":{"b":7}}"#;
+
+#[test]
+fn an_end_pays_what_is_left(rt: HostRuntime) -> Result<(), Fail> {
+    let wrong = wrong_in(rt.alloc(), ENDS)?;
+    assert_eq!(rt; wrong.as_str(), "");
+    Ok(())
+}
+
+// A plan of so many puts.
+fn filled(alloc: Global, rows: u64) -> Result<Plan, Fail> {
+    let mut plan = Plan::new(alloc);
+    for q in 1..=rows {
+        let action = format!(in alloc; "put /k{q} 1")?;
+        plan = acted(alloc, plan, q, action.as_str())?;
+    }
+    Ok(plan)
+}
+
+// Why the action of the message 300 is refused, and how many rows the plan has then.
+fn refused(alloc: Global, rows: u64, action: &str) -> Result<(Option<PlanFault>, usize), Fail> {
+    let q = Number::new(300).ok_or("no number")?;
+    let mut plan = filled(alloc, rows)?;
+    let fault = refusal(alloc, &mut plan, q, action)?;
+    Ok((fault, plan.rows().len()))
+}
+
+#[test]
+fn a_plan_has_at_most_256_rows(rt: HostRuntime) -> Result<(), Fail> {
+    let alloc = rt.alloc();
+    let full = Some(PlanFault::Full);
+    assert_eq!(rt; refused(alloc, 255, "put /a 1")?, (None, 256));
+    assert_eq!(rt; refused(alloc, 255, "update /a 1, /b 2")?, (full, 255));
+    assert_eq!(rt; refused(alloc, 255, "update /a 1, /k1 2")?, (None, 256));
+    assert_eq!(rt; refused(alloc, 256, "put /a 1")?, (full, 256));
+    assert_eq!(rt; refused(alloc, 256, "put /k1/a 1")?, (full, 256));
+    assert_eq!(rt; refused(alloc, 256, "put /k1 2")?, (None, 256));
+    assert_eq!(rt; refused(alloc, 256, "put / 1")?, (None, 1));
+    assert_eq!(rt; refused(alloc, 256, "cancel /k1/a")?, (full, 256));
+    assert_eq!(rt; refused(alloc, 256, "cancel /k1")?, (None, 255));
+    Ok(())
+}
+
+// Whether a plan of so many puts has room for the action.
+fn has_room(alloc: Global, rows: u64, action: &str) -> Result<bool, Fail> {
+    let plan = filled(alloc, rows)?;
+    match action.split_once(' ') {
+        Some(("update", text)) => Ok(plan.may_update(placements(alloc, text)?.as_slice())),
+        Some(("cancel", text)) => Ok(plan.may_cancel(&Path::parse(alloc, text)?)),
+        _ => Err("no action")?,
+    }
+}
+
+#[test]
+fn a_plan_says_whether_it_has_room(rt: HostRuntime) -> Result<(), Fail> {
+    let alloc = rt.alloc();
+    assert!(rt; !has_room(alloc, 255, "update /a 1, /b 2")?);
+    assert!(rt; has_room(alloc, 255, "update /a 1, /k1 2")?);
+    assert!(rt; !has_room(alloc, 256, "cancel /k1/a")?);
+    assert!(rt; has_room(alloc, 256, "cancel /k1")?);
+    Ok(())
+}
+
+#[test]
+fn faults_are_numbered_and_named(rt: HostRuntime) -> Result<(), Fail> {
+    assert_eq!(rt; (PlanFault::Memory.number(), PlanFault::Full.number()), (1, 2));
+    assert_eq!(rt; PlanFault::Full.name(), "Full");
+    let text = PlanFault::Full.to_string(rt.alloc())?;
+    assert_eq!(rt; text.as_str(), "a session leaves more than 256 rows");
+    Ok(())
+}
