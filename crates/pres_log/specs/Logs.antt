@@ -57,7 +57,8 @@ abbrev pub last_moment : Log → ℕ
 last_moment [] = 0
 last_moment (b ∷ log) = max b.moment (last_moment log)
 
--- the basic writes of an entry: those of an operation's outcome, and those due at an end
+-- the basic writes of an entry: those of an operation's outcome, and those due at an end; what is left for an end,
+-- taken back or denied writes nothing
 abbrev pub writes_of : Entry → List Basic
 writes_of (entry.Op s q n op outcome) = writes_in outcome
 writes_of (entry.Ended s q why rows) = rows

@@ -3,8 +3,9 @@
 ghost use Rattle.std.specs.Prelude.{◌≡◌, IsTrue, IfOk};
 ghost use Rattle.pres_log.specs.Batches.{may_hold};
 
-use pres_wire::{Number, SessionId, Why};
-use pres_write::{Basic, Items, Moment, Op, Outcome, copy_writes};
+use pres_tree::Path;
+use pres_wire::{Limit, Number, SessionId, Why};
+use pres_write::{Basic, Items, Moment, Op, Outcome, Puts, copy_writes};
 use std::alloc::{AllocError, Global};
 use std::marker::Model;
 
@@ -37,6 +38,24 @@ pub enum Entry {
         q: Option<Number>,
         why: Why,
         rows: Items<Basic>,
+    },
+    /// By its message `q` the session left the puts for its end.
+    Left {
+        session: SessionId,
+        q: Number,
+        puts: Puts,
+    },
+    /// By its message `q` the session took back what it had left at the path and below it.
+    Cancelled {
+        session: SessionId,
+        q: Number,
+        path: Path,
+    },
+    /// The session's message `q` met the limit, and did nothing.
+    Denied {
+        session: SessionId,
+        q: Number,
+        why: Limit,
     },
 }
 
@@ -77,6 +96,21 @@ impl Entry {
                 q: *q,
                 why: *why,
                 rows: copy_writes(alloc, rows.as_slice())?,
+            }),
+            Entry::Left { session, q, puts } => Ok(Entry::Left {
+                session: session.copy(alloc)?,
+                q: *q,
+                puts: puts.copy(alloc)?,
+            }),
+            Entry::Cancelled { session, q, path } => Ok(Entry::Cancelled {
+                session: session.copy(alloc)?,
+                q: *q,
+                path: path.copy(alloc)?,
+            }),
+            Entry::Denied { session, q, why } => Ok(Entry::Denied {
+                session: session.copy(alloc)?,
+                q: *q,
+                why: *why,
             }),
         }
     }
