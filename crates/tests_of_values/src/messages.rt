@@ -3,8 +3,8 @@
 
 use pres_tree::{Scalar, Tree};
 use pres_wire::{
-    ClientId, Code, Count, Down, Field, IdFault, MAX_TEXT_BYTES, Number, SessionId, Stamp, Up, Why,
-    WireFault,
+    ClientId, Code, Count, Down, Field, IdFault, Limit, MAX_TEXT_BYTES, Number, SessionId, Stamp,
+    Up, Why, WireFault,
 };
 use pres_write::{Kept, MAX_SAFE_INTEGER};
 use serde_json::Value;
@@ -125,6 +125,12 @@ fn write_text(alloc: Global, case: &str) -> Result<String, Fail> {
     Ok(format!(in alloc; r#"{{"m":"op","n":1,"op":{op},"q":{q},"s":["alice",1,1]}}"#)?)
 }
 
+// The text of a Left, of a case such as `2 OPERATION`.
+fn left_text(alloc: Global, case: &str) -> Result<String, Fail> {
+    let (q, op) = case.split_once(' ').ok_or("no operation")?;
+    Ok(format!(in alloc; r#"{{"m":"left","op":{op},"q":{q},"s":["alice",1,1]}}"#)?)
+}
+
 fn fault_of(alloc: Global, text: &str) -> Result<WireFault, Fail> {
     Ok(Up::decode(alloc, text).err().ok_or("accepted")?)
 }
@@ -163,8 +169,10 @@ enum Table {
     Sessions,
     Messages,
     Writes,
+    Left,
     Refusals,
     RefusedWrites,
+    RefusedLeft,
     Fields,
 }
 
@@ -174,8 +182,10 @@ fn answer(alloc: Global, table: Table, case: &str) -> Result<String, Fail> {
         Table::Sessions => session_answer(alloc, case),
         Table::Messages => message_answer(alloc, case),
         Table::Writes => message_answer(alloc, write_text(alloc, case)?.as_str()),
+        Table::Left => message_answer(alloc, left_text(alloc, case)?.as_str()),
         Table::Refusals => refusal(alloc, case),
         Table::RefusedWrites => refusal(alloc, write_text(alloc, case)?.as_str()),
+        Table::RefusedLeft => refusal(alloc, left_text(alloc, case)?.as_str()),
         Table::Fields => fields_answer(alloc, case),
     }
 }
@@ -212,7 +222,13 @@ const SESSIONS: &str = r#"[ "alice", 1, 2 ] => ["alice",1,2] [1,2]
 ["",1,1] => none
 {"client":"alice"} => none"#;
 
-const MESSAGES: &str = r#"{"m":"hello","s":["alice",1,1]} => same"#;
+const MESSAGES: &str = r#"{"m":"hello","s":["alice",1,1]} => same
+{"m":"beat","s":["alice",1,1]} => same
+{"m":"cancel","path":"/a/b","q":2,"s":["alice",1,1]} => same
+{"m":"cancel","path":"","q":2,"s":["a",1,1]} => {"m":"cancel","path":"/","q":2,"s":["a",1,1]}"#;
+
+const LEFT: &str = r#"1 {"op":"set","path":"/a","value":1} => same
+1 {"op":"update","path":"/","values":{"last":{".sv":"timestamp"},"online":null}} => same"#;
 
 const WRITES: &str = r#"1 {"op":"set","path":"/a","value":1} => same
 1 {"op":"update","path":"/","values":{"last":{".sv":"timestamp"},"online":null}} => same
@@ -234,7 +250,21 @@ const REFUSALS: &str = r#" => 2 NotJson NotJson
 {"m":"op","s":["a",1,1],"q":1,"n":1} => 5 Field Field(Op)
 {"m":"op","s":["a",1,1],"q":1,"n":1,"op":null} => 6 Write Write(Shape)
 {"m":"bye","q":1} => 5 Field Field(Session)
-{"m":"bye","s":["a",1,1]} => 5 Field Field(Q)"#;
+{"m":"bye","s":["a",1,1]} => 5 Field Field(Q)
+{"m":"beat"} => 5 Field Field(Session)
+{"m":"left","q":1,"op":null} => 5 Field Field(Session)
+{"m":"left","s":["a",1,1],"op":null} => 5 Field Field(Q)
+{"m":"left","s":["a",1,1],"q":1} => 5 Field Field(Op)
+{"m":"cancel","q":1,"path":"/a"} => 5 Field Field(Session)
+{"m":"cancel","s":["a",1,1],"path":"/a"} => 5 Field Field(Q)
+{"m":"cancel","s":["a",1,1],"q":1} => 5 Field Field(Path)
+{"m":"cancel","s":["a",1,1],"q":1,"path":["a"]} => 5 Field Field(Path)
+{"m":"cancel","s":["a",1,1],"q":1,"path":"/a.b"} => 5 Field Field(Path)"#;
+
+const REFUSED_LEFT: &str = r#"1 {"expect":0,"op":"tx","path":"/n","value":1} => 5 Field Field(Op)
+1 {"op":"tx","path":"/a.b"} => 5 Field Field(Op)
+1 {"op":"set","path":"/a.b","value":1} => 6 Write Write(Tree(BadKey))
+1 null => 6 Write Write(Shape)"#;
 
 const REFUSED_WRITES: &str =
     r#"1 {"op":"set","path":"/a.b","value":1} => 6 Write Write(Tree(BadKey))
@@ -285,6 +315,8 @@ fn messages_are_read_and_printed(rt: HostRuntime) -> Result<(), Fail> {
     assert_eq!(rt; wrong.as_str(), "");
     let wrong = wrong_in(rt.alloc(), Table::Writes, WRITES)?;
     assert_eq!(rt; wrong.as_str(), "");
+    let wrong = wrong_in(rt.alloc(), Table::Left, LEFT)?;
+    assert_eq!(rt; wrong.as_str(), "");
     let bye = message_answer(
         rt.alloc(),
         r#" {"s":["a",9007199254740991,2],"q":9007199254740991,"m":"bye","more":{"q":0}} "#,
@@ -302,6 +334,8 @@ fn texts_are_refused(rt: HostRuntime) -> Result<(), Fail> {
     assert_eq!(rt; wrong.as_str(), "");
     let wrong = wrong_in(rt.alloc(), Table::RefusedWrites, REFUSED_WRITES)?;
     assert_eq!(rt; wrong.as_str(), "");
+    let wrong = wrong_in(rt.alloc(), Table::RefusedLeft, REFUSED_LEFT)?;
+    assert_eq!(rt; wrong.as_str(), "");
     let told = WireFault::Field(Field::N).to_string(rt.alloc())?;
     assert_eq!(rt; told.as_str(), "the field n is missing or wrong");
     Ok(())
@@ -313,6 +347,22 @@ fn fields_are_checked(rt: HostRuntime) -> Result<(), Fail> {
         let wrong = wrong_in(rt.alloc(), Table::Fields, lines)?;
         assert_eq!(rt; wrong.as_str(), "");
     }
+    Ok(())
+}
+
+fn q_of(alloc: Global, text: &str) -> Result<Option<Number>, Fail> {
+    let message = Up::decode(alloc, text)?;
+    Ok(message.q())
+}
+
+#[test]
+fn messages_are_numbered(rt: HostRuntime) -> Result<(), Fail> {
+    let cancel = r#"{"m":"cancel","path":"/","q":2,"s":["a",1,1]}"#;
+    assert_eq!(rt; q_of(rt.alloc(), cancel)?, Some(number(2)));
+    assert_eq!(rt;
+        q_of(rt.alloc(), r#"{"m":"beat","q":2,"s":["a",1,1]}"#)?,
+        None
+    );
     Ok(())
 }
 
@@ -392,6 +442,27 @@ fn gone_text(alloc: Global) -> Result<String, Fail> {
     printed(alloc, &message)
 }
 
+fn armed_text(alloc: Global) -> Result<String, Fail> {
+    let message = Down::Armed {
+        session: session(alloc, "alice")?,
+        r: number(3),
+        z: number(6),
+        q: number(2),
+    };
+    printed(alloc, &message)
+}
+
+fn denied_text(alloc: Global, why: Limit) -> Result<String, Fail> {
+    let message = Down::Denied {
+        session: session(alloc, "alice")?,
+        r: number(3),
+        z: number(6),
+        q: number(2),
+        why,
+    };
+    printed(alloc, &message)
+}
+
 fn old_text(alloc: Global) -> Result<String, Fail> {
     let message = Down::Fault {
         session: Some(session(alloc, "a")?),
@@ -427,6 +498,26 @@ fn messages_to_clients_are_printed(rt: HostRuntime) -> Result<(), Fail> {
     );
     let bad = bad_text(rt.alloc())?;
     assert_eq!(rt; bad.as_str(), r#"{"code":1,"m":"fault","s":null}"#);
+    Ok(())
+}
+
+#[test]
+fn answers_to_plans_are_printed(rt: HostRuntime) -> Result<(), Fail> {
+    let armed = armed_text(rt.alloc())?;
+    assert_eq!(rt;
+        armed.as_str(),
+        r#"{"m":"armed","q":2,"r":3,"s":["alice",1,1],"z":6}"#
+    );
+    let denied = denied_text(rt.alloc(), Limit::Plan)?;
+    assert_eq!(rt;
+        denied.as_str(),
+        r#"{"m":"denied","q":2,"r":3,"s":["alice",1,1],"why":1,"z":6}"#
+    );
+    let denied = denied_text(rt.alloc(), Limit::Listens)?;
+    assert_eq!(rt;
+        denied.as_str(),
+        r#"{"m":"denied","q":2,"r":3,"s":["alice",1,1],"why":2,"z":6}"#
+    );
     Ok(())
 }
 

@@ -7,8 +7,8 @@ ghost use Rattle.pres_write.specs.Outcomes.{writes_in};
 
 use pres_tree::{Path, Tree, TreeFault};
 use pres_write::{
-    Basic, Draft, Items, Kept, Moment, Op, Outcome, Placement, Transaction, WriteFault, apply,
-    apply_all, apply_owned, copy_writes,
+    Basic, Draft, Items, Kept, Moment, Op, Outcome, Placement, Puts, Transaction, Unconditional,
+    WriteFault, apply, apply_all, apply_owned, copy_writes,
 };
 use serde_json::Value;
 use std::alloc::Global;
@@ -27,6 +27,7 @@ enum Table {
     Writes,
     Sets,
     Txs,
+    Puts,
 }
 
 fn printed(alloc: Global, tree: &Tree) -> Result<String, Fail> {
@@ -272,6 +273,46 @@ fn tx_form(alloc: Global, case: &str) -> Result<String, Fail> {
     form_of(alloc, &op)
 }
 
+fn unconditional_of(alloc: Global, text: &str) -> Result<Option<Unconditional>, Fail> {
+    let value = value_of(alloc, text)?;
+    Ok(Unconditional::from_value(alloc, &value)?)
+}
+
+fn copied_unconditional(alloc: Global, op: &Unconditional) -> Result<Unconditional, Fail> {
+    let value = op.to_value(alloc)?;
+    let again = Unconditional::from_value(alloc, &value)?.ok_or("a transaction")?;
+    Ok(again.copy(alloc)?)
+}
+
+fn puts_of(alloc: Global, op: &Unconditional) -> Result<Puts, Fail> {
+    let op = copied_unconditional(alloc, op)?;
+    let puts = op.puts(alloc)?;
+    Ok(puts.copy(alloc)?)
+}
+
+fn put_text(alloc: Global, put: &Placement) -> Result<String, Fail> {
+    let path = put.path().text(alloc)?;
+    let value = put.draft().to_value(alloc)?;
+    Ok(format!(in alloc; " {path} {value}")?)
+}
+
+fn puts_text(alloc: Global, op: &Unconditional) -> Result<String, Fail> {
+    let puts = puts_of(alloc, op)?.into_items();
+    let mut said = String::from_str(alloc, "puts")?;
+    for put in puts.as_slice() {
+        said.push_str(put_text(alloc, put)?.as_str())?;
+    }
+    Ok(said)
+}
+
+// What the operation puts where, which is left for a disconnection.
+fn put_by(alloc: Global, text: &str) -> Result<String, Fail> {
+    match unconditional_of(alloc, text)? {
+        Some(op) => puts_text(alloc, &op),
+        None => Ok(String::from_str(alloc, "transaction")?),
+    }
+}
+
 fn answer(alloc: Global, table: Table, case: &str) -> Result<String, Fail> {
     match table {
         Table::Trees => left_by(alloc, case),
@@ -284,6 +325,7 @@ fn answer(alloc: Global, table: Table, case: &str) -> Result<String, Fail> {
         Table::Writes => write_of(alloc, case),
         Table::Sets => set_form(alloc, case),
         Table::Txs => tx_form(alloc, case),
+        Table::Puts => put_by(alloc, case),
     }
 }
 
@@ -463,6 +505,21 @@ fn writes_and_operations_are_made(rt: HostRuntime) -> Result<(), Fail> {
         tx.as_str(),
         r#"{"expect":1,"op":"tx","path":"/a","value":2}"#
     );
+    Ok(())
+}
+
+const PUTS: &str = r#"{"op":"set","path":"/a","value":{"b":1}} => puts /a {"b":1}
+{"op":"remove","path":"/a"} => puts /a null
+{"op":"update","path":"/u","values":{"z":2,"a/b":1}} => puts /u/a/b 1 /u/z 2
+{"op":"set","path":"/t","value":{".sv":"timestamp"}} => puts /t {".sv":"timestamp"}
+{"op":"update","path":"/","values":{}} => puts
+{"expect":0,"op":"tx","path":"/n","value":1} => transaction
+{"op":"tx","path":"/a.b"} => transaction"#;
+
+#[test]
+fn operations_put_drafts(rt: HostRuntime) -> Result<(), Fail> {
+    let wrong = wrong_in(rt.alloc(), Table::Puts, PUTS)?;
+    assert_eq!(rt; wrong.as_str(), "");
     Ok(())
 }
 
