@@ -6,6 +6,8 @@
 #[cfg(test)]
 mod answers;
 #[cfg(test)]
+mod disconnections;
+#[cfg(test)]
 mod logs;
 #[cfg(test)]
 mod plans;

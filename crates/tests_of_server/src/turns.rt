@@ -1,12 +1,12 @@
 //! Runs of a server. A run is a text of steps, with a blank line between two: a step and, behind
 //! `=>`, what it must say. A step is a moment and an input, whose answers it says (`1000 {..}`, or in
-//! place of a message `lost`, `slow` and a session, or `restart` and a client); the same behind `see`,
+//! place of a message `lost`, `slow` and a session, `restart` and a client, or `tick`); the same behind `see`,
 //! which says what is seen of the server afterwards, or behind `abandon`, whose commit is refused;
 //! or a question about the server: `seen`, `log`, `moments`, `value` and a path, `history` and a client.
 
 use pres_server::{
-    Batch, Busy, ClientId, Count, Down, Entry, Fault, Input, Log, Moment, Number, Outcome, Path,
-    Row, Server, SessionId, Turn, Up, Why,
+    Batch, Busy, ClientId, Count, Down, Entry, Fault, Input, Limit, Log, Moment, Number, Outcome,
+    Path, Row, Server, SessionId, Turn, Up, Why,
 };
 use std::alloc::{AllocError, Global};
 use std::test::Fail;
@@ -18,8 +18,11 @@ fn session(alloc: Global, text: &str) -> Result<SessionId, Fail> {
     Ok(up.session().copy(alloc)?)
 }
 
-// The input of a line: `lost` or `slow` and a session, `restart` and a client, or a message.
+// The input of a line: `lost` or `slow` and a session, `restart` and a client, `tick`, or a message.
 fn input(alloc: Global, line: &str) -> Result<Input, Fail> {
+    if line == "tick" {
+        return Ok(Input::Tick);
+    }
     match line.split_once(' ') {
         Some(("lost", text)) => Ok(Input::Lost(session(alloc, text)?)),
         Some(("slow", text)) => Ok(Input::Slow(session(alloc, text)?)),
@@ -115,6 +118,14 @@ fn why_word(why: Why) -> &'static str {
     }
 }
 
+// The limit that a message met.
+fn limit_word(limit: Limit) -> &'static str {
+    match limit {
+        Limit::Plan => "Plan",
+        Limit::Listens => "Listens",
+    }
+}
+
 // An entry as plain data: its kind, its session, its q and n, and how it came out.
 fn entry_parts(
     entry: &Entry,
@@ -135,6 +146,11 @@ fn entry_parts(
             ..
         } => ("op", session, Some(*q), Some(*n), outcome_word(outcome)),
         Entry::Again { session, q, n } => ("again", session, Some(*q), Some(*n), "answered"),
+        Entry::Left { session, q, .. } => ("left", session, Some(*q), None, "armed"),
+        Entry::Cancelled { session, q, .. } => ("cancelled", session, Some(*q), None, "armed"),
+        Entry::Denied { session, q, why } => {
+            ("denied", session, Some(*q), None, limit_word(*why))
+        }
         Entry::Ended {
             session,
             q,
@@ -304,7 +320,7 @@ fn tried(
 }
 
 // The steps of the run that say something else than they must, each with that.
-fn wrong_in(alloc: Global, run: &str) -> Result<String, Fail> {
+pub(crate) fn wrong_in(alloc: Global, run: &str) -> Result<String, Fail> {
     let mut server = Server::new(alloc);
     let mut wrong = String::new(alloc);
     for text in run.split("\n\n") {
@@ -554,7 +570,7 @@ fn openings(alloc: Global, clients: u64) -> Result<String, Fail> {
 }
 
 // What is wrong in the runs.
-fn wrong_in_all(alloc: Global, runs: &[&str]) -> Result<String, Fail> {
+pub(crate) fn wrong_in_all(alloc: Global, runs: &[&str]) -> Result<String, Fail> {
     let mut wrong = String::new(alloc);
     for run in runs {
         wrong.push_str(wrong_in(alloc, run)?.as_str())?;
