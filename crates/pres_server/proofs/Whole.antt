@@ -19,9 +19,12 @@ use Rattle.pres_server.specs.declared.input.Input.{Input}
 use Rattle.pres_server.specs.Heard.{State}
 use Rattle.pres_server.specs.Sessions.{session_of, opened, opens, ends, since_open, is_open, count, open_sessions}
 use Rattle.pres_server.specs.Streams.{stream, sent_for, sent_from, own_answer, repeated_reply}
-use Rattle.pres_server.specs.LegalLog.{IsLegal, IsLegalAfter, MayFollow, MayComeTogether, Supersedes, LeavesRoom}
+use Rattle.pres_server.specs.LegalLog.{MayCome, IsLegal, IsLegalAfter, MayFollow, MayComeTogether, Supersedes, LeavesRoom}
 use Rattle.pres_server.specs.Turns.{Decision, makes, quiet, refused, moment_of, wanted, turn, batch_of, log_after}
-use Rattle.pres_server.specs.Laws.{TurnIsLegal, LegalIsSound}
+use Rattle.pres_server.specs.SessionPlans.{due_at}
+use Rattle.pres_server.specs.Laws.{TurnIsLegal, LegalIsSound, EndsAreDue}
+use Rattle.pres_wire.specs.declared.id.Why.{Why}
+use Rattle.pres_write.specs.declared.basic.Basic.{Basic}
 use Rattle.pres_server.specs.Invariants.{MayComeInTurn}
 use Rattle.pres_server.specs.Parts.{Sound}
 use Rattle.pres_server.proofs.StreamSteps.{length-numbered_from}
@@ -173,6 +176,22 @@ legal_in_range = of_legal (λ log. last_moment log ≤ moments.last_moment) (ome
 pub legal_leaves_room : (log : Log) → IsLegal log → LeavesRoom (entries log)
 legal_leaves_room = of_legal (λ log. LeavesRoom (entries log)) (let none : length (open_sessions []) ≡ 0 = refl in omega arith)
     (λ log b room f. subst LeavesRoom (sym (entries-push log b)) f.room)
+
+-- ---- ends
+
+-- a batch of a legal log may follow those before it
+followed : (before earlier : Log) (b : Batch) (later : Log) → IsLegalAfter before (earlier ++ b ∷ later) → MayFollow (before ++ earlier) b
+followed before [] b later h = subst (λ l. MayFollow l b) (sym (append-nil before)) h.0
+followed before (a ∷ earlier) b later h = subst (λ l. MayFollow l b) (append_assoc before (a ∷ []) earlier) (followed (before ++ a ∷ []) earlier b later h.1)
+
+due_there : (es : List Entry) (m : ℕ) (s : SessionId) (q : Option ℕ) (why : Why) (rows : List Basic) (more : List Entry) → MayComeTogether es m (entry.Ended s q why rows ∷ more) → rows ≡ due_at es m s
+due_there es m s q why rows [] t = let may : MayCome es m (entry.Ended s q why rows) = t.1 in may.2
+due_there es m s q why rows (f ∷ []) t = let may : MayCome es m (entry.Ended s q why rows) = t.1 in may.2
+due_there es m s q why rows (f ∷ g ∷ more) t = absurd t
+
+pub ends_are_due : (earlier later : Log) (b : Batch) → EndsAreDue earlier b later
+ends_are_due earlier later b legal s q why rows more k =
+    due_there (entries earlier) b.moment s q why rows more (subst (MayComeTogether (entries earlier) b.moment) k (followed [] earlier b later legal).allowed)
 
 -- ---- turns
 

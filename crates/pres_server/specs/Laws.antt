@@ -1,12 +1,17 @@
 -- What holds of every legal log and of every turn.
-use Rattle.std.specs.Prelude.{◌≡◌, ◌+◌, ℕ, List, [], ◌∷◌, ◌++◌, length, IsTrue}
+use Rattle.std.specs.Prelude.{◌≡◌, ◌+◌, ℕ, List, [], ◌∷◌, ◌++◌, length, IsTrue, Option}
 use Rattle.pres_wire.specs.declared.id.SessionId.{SessionId}
 use Rattle.pres_wire.specs.declared.down.Down.{Down}
+use Rattle.pres_wire.specs.declared.id.Why.{Why}
+use Rattle.pres_write.specs.declared.basic.Basic.{Basic}
+use Rattle.pres_log.specs.declared.entry.Batch.{Batch}
 use Rattle.pres_log.specs.declared.entry.Entry.{Entry}
+use Rattle.pres_log.specs.declared.entry.Entry.TheVariants as entry
 use Rattle.pres_log.specs.Logs.{Log, entries}
 use Rattle.pres_server.specs.declared.input.Input.{Input}
 use Rattle.pres_server.specs.Heard.{State}
 use Rattle.pres_server.specs.Sessions.{is_open}
+use Rattle.pres_server.specs.SessionPlans.{due_at}
 use Rattle.pres_server.specs.Streams.{stream, sent_for, numbered_from}
 use Rattle.pres_server.specs.LegalLog.{IsLegal}
 use Rattle.pres_server.specs.Turns.{moment_of, turn, log_after}
@@ -27,3 +32,9 @@ StreamSteps s es e = IsTrue (is_open s es) → stream s (es ++ e ∷ []) ≡ str
 -- Later entries take nothing from a stream and change nothing in it.
 abbrev pub StreamGrows : SessionId → List Entry → List Entry → Type 0
 StreamGrows s es later = (rest : List Down) × (stream s es ++ rest ≡ stream s (es ++ later))
+
+-- What an ended session wrote was due by its puts and cancels, on the tree before its end, at the moment of the end.
+abbrev pub EndsAreDue : Log → Batch → Log → Type 0
+EndsAreDue earlier batch later =
+    IsLegal (earlier ++ batch ∷ later) → (s : SessionId) (q : Option ℕ) (why : Why) (rows : List Basic) (more : List Entry) →
+    batch.entries ≡ entry.Ended s q why rows ∷ more → rows ≡ due_at (entries earlier) batch.moment s

@@ -3,10 +3,11 @@
 ghost use Rattle.std.specs.Prelude.{ℕ, List};
 ghost use Rattle.pres_wire.specs.declared.id.SessionId.{SessionId};
 ghost use Rattle.pres_log.specs.Logs.{Log};
+ghost use Rattle.pres_log.specs.declared.entry.Batch.{Batch};
 ghost use Rattle.pres_log.specs.declared.entry.Entry.{Entry};
 ghost use Rattle.pres_server.specs.declared.input.Input.{Input};
 ghost use Rattle.pres_server.specs.Heard.{State};
-ghost use Rattle.pres_server.specs.Laws.{TurnIsLegal, LegalIsSound, StreamSteps, StreamGrows};
+ghost use Rattle.pres_server.specs.Laws.{TurnIsLegal, LegalIsSound, StreamSteps, StreamGrows, EndsAreDue};
 
 /// A turn on a legal log leaves a legal log.
 pub fn turns_are_legal()
@@ -26,4 +27,10 @@ pub fn streams_step()
 /// Later entries take nothing from a stream and change nothing in it.
 pub fn streams_grow()
     ensures { (session : SessionId) (es later : List Entry) → StreamGrows session es later }
+{}
+
+/// What an ended session wrote was due by its puts and cancels, on the tree before its end, at the
+/// moment of the end.
+pub fn ends_are_due()
+    ensures { (earlier later : Log) (batch : Batch) → EndsAreDue earlier batch later }
 {}
