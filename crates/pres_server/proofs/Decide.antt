@@ -37,7 +37,7 @@ use Rattle.pres_server.specs.Turns.{Decision, refused, quiet, makes, op_by, in_o
 use Rattle.pres_server.specs.Invariants.{MayComeUncounted}
 use Rattle.pres_server.specs.Parts.{LivePart, part_of, live_in, open_step, Sound, listed, session_with, same_stamp, is_live, said_by, plan_in, plan_after, end_by, leaves_by, hello_by, message_by, ends_live, ends_of, ends_late_by, wanted_by, open_steps, limited_by}
 use Rattle.pres_server.proofs.Since.{client_itself, session_itself}
-use Rattle.pres_server.proofs.Steps.{In, or_false, open_listed, in_open}
+use Rattle.pres_server.proofs.Steps.{or_false, open_listed, in_open}
 use Rattle.pres_server.proofs.PlanSteps.{plan_own}
 use Rattle.pres_server.proofs.Parts.{only_open, ended_own, no_more}
 use Rattle.pres_server.proofs.AfterEntry.{sound_after, open_after}

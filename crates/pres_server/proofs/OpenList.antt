@@ -1,15 +1,15 @@
 -- The open sessions in byte order of their clients are those of the index.
-use Rattle.std.proofs.Common.{refl, sym, ◌∙◌, ap, ◌≡◌, List, [], ◌∷◌, length, Option, Some, None}
+use Rattle.std.proofs.Common.{refl, sym, ◌∙◌, ap, ◌≡◌, List, length, Option, Some, None}
 use Rattle.std.specs.Option.{option_map}
 use Rattle.std.specs.BTreeMap.{IsOrdered}
-use Rattle.std.specs.FinMap.Entries.{find, same_entries}
+use Rattle.std.specs.FinMap.Entries.{same_entries}
 use Rattle.std.proofs.lemmas.List.{length-map}
 use Rattle.pres_wire.specs.Ids.{ClientId, client_cmp}
 use Rattle.pres_wire.specs.declared.id.SessionId.{SessionId}
 use Rattle.pres_log.specs.declared.entry.Entry.{Entry}
 use Rattle.pres_server.specs.declared.index.Index.{Index}
-use Rattle.pres_server.specs.Sessions.{open_entries, open_sessions, open_sessions_of}
-use Rattle.pres_server.specs.Parts.{Part, LivePart, Sound, live_in, listed, session_with}
+use Rattle.pres_server.specs.Sessions.{open_entries, open_sessions}
+use Rattle.pres_server.specs.Parts.{Part, Sound, listed, session_with}
 use Rattle.pres_server.specs.Places.{Session, live_part, open_count}
 use Rattle.pres_server.specs.Index.{session_at, Indexed}
 use Rattle.pres_server.proofs.AfterEntry.{clients_total, clients_apart, first_of_list, find_open, open_is_sorted}

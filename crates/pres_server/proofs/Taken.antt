@@ -1,5 +1,5 @@
 -- What the index says after one entry more.
-use Rattle.std.proofs.Common.{refl, sym, ◌∙◌, ap, subst, ◌≡◌, ℕ, ◌+◌, ◌-◌, ◌^◌, ◌<◌, ◌≤◌, List, [], ◌∷◌, ◌++◌, length, Bool, true, false, cond, append-nil, arith, length-append, Option, Some, None, is_some, slice_get, ◌==◌, unwrap_or, All}
+use Rattle.std.proofs.Common.{refl, sym, ◌∙◌, ap, subst, ◌≡◌, ℕ, ◌+◌, ◌-◌, ◌^◌, ◌<◌, ◌≤◌, List, [], ◌∷◌, ◌++◌, length, Bool, true, false, cond, append-nil, arith, length-append, Option, Some, None, slice_get, ◌==◌, unwrap_or, All}
 use Rattle.std.specs.Option.{option_map}
 use Rattle.std.specs.BTreeMap.{get, Updates}
 use Rattle.std.proofs.lemmas.Bool.Decides.{nat_tests}
@@ -26,17 +26,17 @@ use Rattle.pres_log.specs.declared.entry.Entry.TheVariants as entry
 use Rattle.pres_log.specs.Logs.{tree}
 use Rattle.pres_log.proofs.Entries.{tree-append}
 use Rattle.pres_server.specs.declared.index.Index.{Index}
-use Rattle.pres_server.specs.Sessions.{session_of, opens, is_open, open_sessions, count}
+use Rattle.pres_server.specs.Sessions.{session_of, opens, is_open, count}
 use Rattle.pres_server.specs.Streams.{stream, answers_to}
 use Rattle.pres_server.specs.SessionPlans.{plan}
-use Rattle.pres_server.specs.Parts.{Part, LivePart, Sound, IsAsked, plan_after, rows_step, part_of, part_step, live_in, answer_by, open_step, comes_after}
+use Rattle.pres_server.specs.Parts.{Part, LivePart, Sound, IsAsked, plan_after, rows_step, part_of, part_step, live_in, answer_by, comes_after}
 use Rattle.pres_server.specs.Invariants.{MayComeUncounted, MayComeInTurn, MayTakeAll}
 use Rattle.pres_server.specs.Places.{Session, last_stamp, live_part, live_after, gone_after, HasRoom, MayLeaveAt, AreDueAt, MayOpen}
 use Rattle.pres_server.specs.Index.{session_at, gone_at, part_at, retry_after, tree_after_entry, GoneSteps, Steps, MayTake, Indexed}
 use Rattle.pres_server.proofs.Since.{client_same, client_itself, session_itself}
 use Rattle.pres_server.proofs.PlanSteps.{plan_own}
 use Rattle.pres_server.proofs.Parts.{part_after, only_open, row_there}
-use Rattle.pres_server.proofs.AfterEntry.{sound_after, open_after, answers_are, same_by_cmp}
+use Rattle.pres_server.proofs.AfterEntry.{sound_after, answers_are, same_by_cmp}
 use Rattle.pres_server.proofs.Whole.{count_small, stream_small}
 
 -- ---- what a client's part says of its place

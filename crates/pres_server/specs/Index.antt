@@ -1,5 +1,5 @@
 -- What the index of a log says, as plain data, and how an entry changes it.
-use Rattle.std.specs.Prelude.{◌≡◌, ◌<◌, ℕ, ◌+◌, ◌-◌, ◌^◌, Option, Some, None, List, [], map, length, slice_get, if◌then◌else◌, IsSome, Result}
+use Rattle.std.specs.Prelude.{◌≡◌, ◌<◌, ℕ, ◌+◌, ◌-◌, ◌^◌, Option, Some, None, List, length, slice_get, if◌then◌else◌, IsSome, Result}
 use Rattle.std.specs.Option.{option_map}
 use Rattle.std.specs.BTreeMap.{get, Updates}
 use Rattle.pres_tree.specs.declared.scalar.Scalar.{Scalar}

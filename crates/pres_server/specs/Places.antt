@@ -98,4 +98,3 @@ open_count places = length places.live.entries
 pub record MayOpen (places : Places) (s : SessionId) : Type 0 where
   pub nobody : get client_cmp places.live s.client ≡ None
   pub newer : comes_after (get client_cmp places.gone s.client) (stamp_of s) ≡ true
-
