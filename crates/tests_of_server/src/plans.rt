@@ -1,8 +1,8 @@
 //! Tests of plans: what puts, updates and cancels leave, and what is written at the end. A table is
 //! a text of lines, each a case and what it must answer. A case of an end is a tree and actions,
-//! numbered from 1; it answers the rows, what is due at the moment 5000, and the tree after it. A case
-//! of room is how many puts were left, and one action more; it answers whether there is room, why the
-//! action is refused, and how many rows there are then.
+//! numbered from 1; it answers the rows, what is due at the moment 5000, and the tree after it. A
+//! case of room is how many puts were left, and one action more; it answers whether there is room,
+//! why the action is refused, and how many rows there are then.
 
 ghost use Rattle.std.specs.Prelude.{◌≡◌, ◌<◌, false, map, All, IfOk, IsTrue};
 ghost use Rattle.pres_tree.specs.Paths.{overlap};
