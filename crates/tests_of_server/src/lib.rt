@@ -1,6 +1,6 @@
 //! Tests of sessions, plans, kept answers, logs and the server, over the public calls of
-//! `pres_session`, `pres_plan`, `pres_retry`, `pres_log` and `pres_server`. They stand in a crate of
-//! their own, since a crate with tests is proved twice.
+//! `pres_session`, `pres_plan`, `pres_retry`, `pres_log` and `pres_server`. They stand in a crate
+//! of their own, since a crate with tests is proved twice.
 #![tactic(auto)]
 
 #[cfg(test)]

@@ -1,6 +1,8 @@
-//! Tests of plans: what puts, updates and cancels leave, and what is written at the end. A line of a
-//! table is a tree and actions, numbered from 1, and behind `=>` the rows, what is due at the moment
-//! 5000, and the tree after it.
+//! Tests of plans: what puts, updates and cancels leave, and what is written at the end. A table is
+//! a text of lines, each a case and what it must answer. A case of an end is a tree and actions,
+//! numbered from 1; it answers the rows, what is due at the moment 5000, and the tree after it. A
+//! case of room is how many puts were left, and one action more; it answers whether there is room,
+//! why the action is refused, and how many rows there are then.
 
 ghost use Rattle.std.specs.Prelude.{◌≡◌, ◌<◌, false, map, All, IfOk, IsTrue};
 ghost use Rattle.pres_tree.specs.Paths.{overlap};
@@ -11,7 +13,15 @@ use pres_wire::Number;
 use pres_write::{Basic, Draft, Items, Moment, Placement, apply};
 use serde_json::Value;
 use std::alloc::Global;
+use std::slice::from_ref;
 use std::test::Fail;
+
+// What a line of a table is about.
+#[derive(Clone, Copy)]
+enum Table {
+    Ends,
+    Rooms,
+}
 
 fn value_of(alloc: Global, text: &str) -> Result<Value, Fail> {
     Ok(Value::from_str(alloc, text)?)
@@ -156,48 +166,10 @@ fn end(alloc: Global, plan: &Plan, text: &str) -> Result<String, Fail> {
     Ok(format!(in alloc; "{kinds}{due}; {after}")?)
 }
 
-fn answer(alloc: Global, case: &str) -> Result<String, Fail> {
+fn ended(alloc: Global, case: &str) -> Result<String, Fail> {
     let (tree, actions) = case.split_once("; ").ok_or("no actions")?;
     let plan = left(alloc, actions)?;
     end(alloc, &plan, tree)
-}
-
-fn try_line(alloc: Global, line: &str, wrong: &mut String) -> Result<(), Fail> {
-    let (case, wanted) = line.split_once(" => ").ok_or("no answer")?;
-    let got = answer(alloc, case)?;
-    if got.as_str() != wanted {
-        wrong.push_str(case)?;
-        wrong.push_str(" => ")?;
-        wrong.push_str(got.as_str())?;
-        wrong.push_str("\n")?;
-    }
-    Ok(())
-}
-
-// The lines that answer something else, each with that.
-fn wrong_in(alloc: Global, lines: &str) -> Result<String, Fail> {
-    let mut wrong = String::new(alloc);
-    for line in lines.lines() {
-        try_line(alloc, line, &mut wrong)?;
-    }
-    Ok(wrong)
-}
-
-const ENDS: &str = r#"{"u":{"a":9,"c":3}}; put /u {"a":1,"b":2}; cancel /u/a => put keep ; 1 /u {"a":1,"b":2}; 2 /u/a 9; {"u":{"a":9,"b":2}}
-{"a":5}; put /a/b 1; cancel /a/b => ; {"a":5}
-{"a":5}; put /a {"b":1,"c":2}; cancel /a/b => put keep ; 1 /a {"b":1,"c":2}; 2 /a/b null; {"a":{"c":2}}
-null; put /x {"a":1}; cancel /x/a; put /x 2 => put ; 3 /x 2; {"x":2}
-{"t":1}; put /t {".sv":"timestamp"} => put ; 1 /t 5000; {"t":5000}
-{"a":1}; put /b 2; put /a null => put put ; 1 /b 2; 2 /a null; {"b":2}
-null; put /a/b 1; update /a 2, /b {"c":{".sv":"timestamp"}} => put put ; 2 /a 2; 2 /b {"c":5000}; {"a":2,"b":{"c":5000}}
-{"a":{"b":{"c":7}}}; put /a {}; cancel /a/b; cancel /a/b/c => put keep keep ; 1 /a null; 2 /a/b {"c":7}; 3 /a/b/c 7; {"a":{"b":{"c":7}}}
-{"a":{"b":7}}; put /a 1; cancel /a/b; cancel / => ; {"a":{"b":7}}"#;
-
-#[test]
-fn an_end_pays_what_is_left(rt: HostRuntime) -> Result<(), Fail> {
-    let wrong = wrong_in(rt.alloc(), ENDS)?;
-    assert_eq!(rt; wrong.as_str(), "");
-    Ok(())
 }
 
 // A plan of so many puts.
@@ -210,53 +182,101 @@ fn filled(alloc: Global, rows: u64) -> Result<Plan, Fail> {
     Ok(plan)
 }
 
-// Why the action of the message 300 is refused, and how many rows the plan has then.
-fn refused(alloc: Global, rows: u64, action: &str) -> Result<(Option<PlanFault>, usize), Fail> {
-    let q = Number::new(300).ok_or("no number")?;
-    let mut plan = filled(alloc, rows)?;
-    let fault = refusal(alloc, &mut plan, q, action)?;
-    Ok((fault, plan.rows().len()))
-}
-
-#[test]
-fn a_plan_has_at_most_256_rows(rt: HostRuntime) -> Result<(), Fail> {
-    let alloc = rt.alloc();
-    let full = Some(PlanFault::Full);
-    assert_eq!(rt; refused(alloc, 255, "put /a 1")?, (None, 256));
-    assert_eq!(rt; refused(alloc, 255, "update /a 1, /b 2")?, (full, 255));
-    assert_eq!(rt; refused(alloc, 255, "update /a 1, /k1 2")?, (None, 256));
-    assert_eq!(rt; refused(alloc, 256, "put /a 1")?, (full, 256));
-    assert_eq!(rt; refused(alloc, 256, "put /k1/a 1")?, (full, 256));
-    assert_eq!(rt; refused(alloc, 256, "put /k1 2")?, (None, 256));
-    assert_eq!(rt; refused(alloc, 256, "put / 1")?, (None, 1));
-    assert_eq!(rt; refused(alloc, 256, "cancel /k1/a")?, (full, 256));
-    assert_eq!(rt; refused(alloc, 256, "cancel /k1")?, (None, 255));
-    Ok(())
-}
-
-// Whether a plan of so many puts has room for the action.
-fn has_room(alloc: Global, rows: u64, action: &str) -> Result<bool, Fail> {
-    let plan = filled(alloc, rows)?;
+// Whether the plan has room for the action.
+fn has_room(alloc: Global, plan: &Plan, action: &str) -> Result<bool, Fail> {
     match action.split_once(' ') {
+        Some(("put", text)) => Ok(plan.may_update(from_ref(&placement(alloc, text)?))),
         Some(("update", text)) => Ok(plan.may_update(placements(alloc, text)?.as_slice())),
         Some(("cancel", text)) => Ok(plan.may_cancel(&Path::parse(alloc, text)?)),
         _ => Err("no action")?,
     }
 }
 
+// Why the message 300 is refused, and how many rows there are then.
+fn refused(alloc: Global, mut plan: Plan, action: &str) -> Result<String, Fail> {
+    let q = Number::new(300).ok_or("no number")?;
+    let fault = refusal(alloc, &mut plan, q, action)?;
+    Ok(format!(in alloc; "{fault:?} {}", plan.rows().len())?)
+}
+
+// Whether a plan of so many puts has room for the action, and what the action comes to.
+fn tried(alloc: Global, case: &str) -> Result<String, Fail> {
+    let (rows, action) = case.split_once(' ').ok_or("no action")?;
+    let plan = filled(alloc, rows.parse()?)?;
+    let room = has_room(alloc, &plan, action)?;
+    let after = refused(alloc, plan, action)?;
+    Ok(format!(in alloc; "{room} {after}")?)
+}
+
+fn answer(alloc: Global, table: Table, case: &str) -> Result<String, Fail> {
+    match table {
+        Table::Ends => ended(alloc, case),
+        Table::Rooms => tried(alloc, case),
+    }
+}
+
+fn try_line(alloc: Global, table: Table, line: &str, wrong: &mut String) -> Result<(), Fail> {
+    let (case, wanted) = line.split_once(" => ").ok_or("no answer")?;
+    let got = answer(alloc, table, case)?;
+    if got.as_str() != wanted {
+        wrong.push_str(case)?;
+        wrong.push_str(" => ")?;
+        wrong.push_str(got.as_str())?;
+        wrong.push_str("\n")?;
+    }
+    Ok(())
+}
+
+// The lines that answer something else, each with that.
+fn wrong_in(alloc: Global, table: Table, lines: &str) -> Result<String, Fail> {
+    let mut wrong = String::new(alloc);
+    for line in lines.lines() {
+        try_line(alloc, table, line, &mut wrong)?;
+    }
+    Ok(wrong)
+}
+
+const ENDS: &str =
+    r#"{"u":{"a":9,"c":3}}; put /u {"a":1,"b":2}; cancel /u/a => put keep ; 1 /u {"a":1,"b":2}; 2 /u/a 9; {"u":{"a":9,"b":2}}
+{"a":5}; put /a/b 1; cancel /a/b => ; {"a":5}
+{"a":5}; put /a {"b":1,"c":2}; cancel /a/b => put keep ; 1 /a {"b":1,"c":2}; 2 /a/b null; {"a":{"c":2}}
+null; put /x {"a":1}; cancel /x/a; put /x 2 => put ; 3 /x 2; {"x":2}
+{"t":1}; put /t {".sv":"timestamp"} => put ; 1 /t 5000; {"t":5000}
+{"a":1}; put /b 2; put /a null => put put ; 1 /b 2; 2 /a null; {"b":2}
+null; put /a/b 1; update /a 2, /b {"c":{".sv":"timestamp"}} => put put ; 2 /a 2; 2 /b {"c":5000}; {"a":2,"b":{"c":5000}}
+{"a":{"b":{"c":7}}}; put /a {}; cancel /a/b; cancel /a/b/c => put keep keep ; 1 /a null; 2 /a/b {"c":7}; 3 /a/b/c 7; {"a":{"b":{"c":7}}}
+{"a":{"b":7}}; put /a 1; cancel /a/b; cancel / => ; {"a":{"b":7}}"#;
+
 #[test]
-fn a_plan_says_whether_it_has_room(rt: HostRuntime) -> Result<(), Fail> {
-    let alloc = rt.alloc();
-    assert!(rt; !has_room(alloc, 255, "update /a 1, /b 2")?);
-    assert!(rt; has_room(alloc, 255, "update /a 1, /k1 2")?);
-    assert!(rt; !has_room(alloc, 256, "cancel /k1/a")?);
-    assert!(rt; has_room(alloc, 256, "cancel /k1")?);
+fn an_end_pays_what_is_left(rt: HostRuntime) -> Result<(), Fail> {
+    let wrong = wrong_in(rt.alloc(), Table::Ends, ENDS)?;
+    assert_eq!(rt; wrong.as_str(), "");
+    Ok(())
+}
+
+const ROOMS: &str = "255 put /a 1 => true None 256
+255 update /a 1, /b 2 => false Some(Full) 255
+255 update /a 1, /k1 2 => true None 256
+256 put /a 1 => false Some(Full) 256
+256 put /k1/a 1 => false Some(Full) 256
+256 put /k1 2 => true None 256
+256 put / 1 => true None 1
+256 cancel /k1/a => false Some(Full) 256
+256 cancel /k1 => true None 255";
+
+#[test]
+fn a_plan_has_at_most_256_rows(rt: HostRuntime) -> Result<(), Fail> {
+    let wrong = wrong_in(rt.alloc(), Table::Rooms, ROOMS)?;
+    assert_eq!(rt; wrong.as_str(), "");
     Ok(())
 }
 
 #[test]
 fn faults_are_numbered_and_named(rt: HostRuntime) -> Result<(), Fail> {
-    assert_eq!(rt; (PlanFault::Memory.number(), PlanFault::Full.number()), (1, 2));
+    assert_eq!(rt;
+        (PlanFault::Memory.number(), PlanFault::Full.number()),
+        (1, 2)
+    );
     assert_eq!(rt; PlanFault::Full.name(), "Full");
     let text = PlanFault::Full.to_string(rt.alloc())?;
     assert_eq!(rt; text.as_str(), "a session leaves more than 256 rows");
