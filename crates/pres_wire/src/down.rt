@@ -1,12 +1,13 @@
 //! Messages to a client.
 
-ghost use Rattle.std.specs.Prelude.{◌≡◌, IfOk, Some, option_map, string_bytes};
+ghost use Rattle.std.specs.Prelude.{◌≡◌, ◌∷◌, [], IfOk, Some, option_map, string_bytes, codes};
 ghost use Rattle.serde_json.specs.View.{view};
 ghost use Rattle.serde_json.specs.Written.{compact_text};
 ghost use Rattle.pres_tree.specs.Rows.{rows_in};
 ghost use Rattle.pres_tree.specs.Printing.{json_of};
 ghost use Rattle.pres_tree.specs.Reading.{rows_of};
 ghost use Rattle.pres_tree.specs.Scalars.{scalar_reading, scalar_printing};
+ghost use Rattle.pres_wire.specs.Fields.{message, whole, stamp_json};
 ghost use Rattle.pres_wire.specs.Messages.{session_for, number_in};
 ghost use Rattle.pres_wire.specs.DownForms.{why_word, code_number, limit_number, out_json, session_or_null, down_json};
 ghost use Rattle.pres_wire.specs.DownReads.{session_or_none, why_of, one_null, out_of, HasForm};
@@ -355,19 +356,48 @@ fn session_or_null(alloc: Global, session: &Option<SessionId>) -> Result<Value, 
     }
 }
 
+// The JSON value of a Fault without a stamp.
+fn plain_fault(
+    alloc: Global,
+    session: &Option<SessionId>,
+    number: u8,
+) -> Result<Value, AllocError>
+    ensures json { IfOk result (λ made. view made ≡ message (codes "fault")
+        ((codes "s", session_or_null session.now) ∷ (codes "code", whole number) ∷ [])) }
+    ensures form { IfOk result (λ _.
+        session_or_none (session_or_null session.now) ≡ Some session.now) }
+{
+    let session = session_or_null(alloc, session)?;
+    json!(in alloc; {"code": number, "m": "fault", "s": session})
+}
+
+// The JSON value of a Fault with the client's last stamp.
+fn old_fault(
+    alloc: Global,
+    session: &Option<SessionId>,
+    number: u8,
+    last: Stamp,
+) -> Result<Value, AllocError>
+    ensures json { IfOk result (λ made. view made ≡ message (codes "fault")
+        ((codes "s", session_or_null session.now) ∷ (codes "code", whole number)
+        ∷ (codes "last", stamp_json last) ∷ [])) }
+    ensures form { IfOk result (λ _.
+        session_or_none (session_or_null session.now) ≡ Some session.now) }
+{
+    let session = session_or_null(alloc, session)?;
+    let last = last.to_value(alloc)?;
+    json!(in alloc; {"code": number, "last": last, "m": "fault", "s": session})
+}
+
 // The JSON value of a Fault.
 fn fault_value(alloc: Global, session: &Option<SessionId>, code: Code) -> Result<Value, AllocError>
     ensures json { IfOk result (λ made. view made ≡ down_json (Down.Fault session.now code)) }
     ensures form { IfOk result (λ _. HasForm (Down.Fault session.now code)) }
 {
-    let session = session_or_null(alloc, session)?;
     let number = code.number();
-    match code {
-        Code::Old(last) => {
-            let last = last.to_value(alloc)?;
-            json!(in alloc; {"code": number, "last": last, "m": "fault", "s": session})
-        }
-        _ => json!(in alloc; {"code": number, "m": "fault", "s": session}),
+    match &code {
+        Code::Old(last) => old_fault(alloc, session, number, *last),
+        _ => plain_fault(alloc, session, number),
     }
 }
 
