@@ -104,15 +104,24 @@ fn session_answer(alloc: Global, text: &str) -> Result<String, Fail> {
 
 // ---- messages to the server
 
+fn message_text(alloc: Global, message: &Up) -> Result<String, Fail> {
+    Ok(message.encode(alloc)?)
+}
+
 fn copied_text(alloc: Global, message: &Up) -> Result<String, Fail> {
     let copied = message.copy(alloc)?;
-    Ok(copied.encode(alloc)?)
+    message_text(alloc, &copied)
+}
+
+// The text that the message of a text is printed as.
+fn printed_again(alloc: Global, text: &str) -> Result<String, Fail> {
+    let message = Up::decode(alloc, text)?;
+    copied_text(alloc, &message)
 }
 
 // The text that the message of a text is printed as, or `same`.
 fn message_answer(alloc: Global, text: &str) -> Result<String, Fail> {
-    let message = Up::decode(alloc, text)?;
-    let printed = copied_text(alloc, &message)?;
+    let printed = printed_again(alloc, text)?;
     if printed.as_str() == text {
         return Ok(String::from_str(alloc, "same")?);
     }
