@@ -357,11 +357,7 @@ fn session_or_null(alloc: Global, session: &Option<SessionId>) -> Result<Value, 
 }
 
 // The JSON value of a Fault without a stamp.
-fn plain_fault(
-    alloc: Global,
-    session: &Option<SessionId>,
-    number: u8,
-) -> Result<Value, AllocError>
+fn plain_fault(alloc: Global, session: &Option<SessionId>, number: u8) -> Result<Value, AllocError>
     ensures json { IfOk result (λ made. view made ≡ message (codes "fault")
         ((codes "s", session_or_null session.now) ∷ (codes "code", whole number) ∷ [])) }
     ensures form { IfOk result (λ _.

@@ -189,7 +189,10 @@ const ENDS: [(&str, &str); 6] = [
         r#"slow ["alice",1,1]"#,
         r#"3 entries, false None, heard None, {"p":1}"#,
     ),
-    ("restart alice", r#"3 entries, false None, heard None, {"p":1}"#),
+    (
+        "restart alice",
+        r#"3 entries, false None, heard None, {"p":1}"#,
+    ),
     ("tick", r#"3 entries, false None, heard None, {"p":1}"#),
     (
         r#"{"m":"bye","q":2,"s":["alice",1,1]}"#,
@@ -237,7 +240,8 @@ const OPENING: &str = r#"1000 {"m":"hello","s":["alice",1,1]}
 
 "#;
 
-const ONE_TOO_MANY: &str = r#"1000 {"m":"left","op":{"op":"set","path":"/p/256","value":1},"q":257,"s":["alice",1,1]}
+const ONE_TOO_MANY: &str =
+    r#"1000 {"m":"left","op":{"op":"set","path":"/p/256","value":1},"q":257,"s":["alice",1,1]}
 => {"m":"denied","q":257,"r":257,"s":["alice",1,1],"why":1,"z":258}
 
 1000 {"m":"left","op":{"op":"set","path":"/p/0","value":2},"q":258,"s":["alice",1,1]}
