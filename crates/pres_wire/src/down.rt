@@ -1,17 +1,18 @@
 //! Messages to a client.
 
 ghost use Rattle.std.specs.Prelude.{◌≡◌, ◌∷◌, [], IfOk, Some, option_map, string_bytes, codes};
-ghost use Rattle.serde_json.specs.View.{view};
+ghost use Rattle.serde_json.specs.View.{view, members_view};
 ghost use Rattle.serde_json.specs.Written.{compact_text};
 ghost use Rattle.pres_tree.specs.Rows.{rows_in};
 ghost use Rattle.pres_tree.specs.Printing.{json_of};
 ghost use Rattle.pres_tree.specs.Reading.{rows_of};
 ghost use Rattle.pres_tree.specs.Scalars.{scalar_reading, scalar_printing};
-ghost use Rattle.pres_wire.specs.Fields.{message, whole, stamp_json};
+ghost use Rattle.pres_wire.specs.Fields.{message, members_of, whole, stamp_json, message_number};
 ghost use Rattle.pres_wire.specs.Messages.{session_for, number_in};
 ghost use Rattle.pres_wire.specs.DownForms.{why_word, code_number, limit_number, out_json, session_or_null, down_json};
 ghost use Rattle.pres_wire.specs.DownReads.{session_or_none, why_of, one_null, out_of, HasForm};
 
+use crate::form::Form;
 use crate::id::{SessionId, Stamp, Why};
 use crate::number::{Count, Number};
 use pres_tree::Tree;
@@ -241,12 +242,8 @@ impl Down {
                 done,
                 out,
             } => {
-                let session = session.to_value(alloc)?;
-                let out = out_value(alloc, out)?;
-                json!(in alloc; {
-                    "done": done.get(), "m": "reply", "n": n.get(), "out": out, "q": q.get(),
-                    "r": r.get(), "s": session, "z": z.get()
-                })
+                let form = write_form(alloc, *q, *n, *done, out)?;
+                form.sent(alloc, "reply", session, *r, *z)
             }
             Down::Gone { session, r, z, why } => gone_value(alloc, session, *r, *z, *why),
             Down::Fault { session, code } => fault_value(alloc, session, *code),
@@ -272,8 +269,9 @@ fn welcome_value(
     ensures json { IfOk result (λ made. view made ≡ down_json (Down.Welcome session.now z ops)) }
     ensures form { IfOk result (λ _. HasForm (Down.Welcome session.now z ops)) }
 {
-    let session = session.to_value(alloc)?;
-    json!(in alloc; {"m": "welcome", "ops": ops.get(), "s": session, "z": z.get()})
+    let form = Form::new(alloc).value(alloc, "ops", Value::from(ops.get()))?;
+    let form = form.number(alloc, "z", z)?;
+    form.message(alloc, "welcome", session)
 }
 
 // The JSON value of a Gone.
@@ -287,9 +285,9 @@ fn gone_value(
     ensures json { IfOk result (λ made. view made ≡ down_json (Down.Gone session.now r z why)) }
     ensures form { IfOk result (λ _. HasForm (Down.Gone session.now r z why)) }
 {
-    let session = session.to_value(alloc)?;
-    let word = word_of(why);
-    json!(in alloc; {"m": "gone", "r": r.get(), "s": session, "why": word, "z": z.get()})
+    let word = Value::try_from_str(alloc, word_of(why))?;
+    let form = Form::new(alloc).value(alloc, "why", word)?;
+    form.sent(alloc, "gone", session, r, z)
 }
 
 fn copied_session(
@@ -345,6 +343,29 @@ fn out_value(alloc: Global, out: &Kept) -> Result<Value, AllocError>
     }
 }
 
+// The fields of a Reply that say which write it answers, and how.
+fn write_form(
+    alloc: Global,
+    q: Number,
+    n: Number,
+    done: Number,
+    out: &Kept,
+) -> Result<Form, AllocError>
+    ensures fields { IfOk result (λ made. members_view made.members.entries
+        ≡ members_of ((codes "q", whole q) ∷ (codes "n", whole n) ∷ (codes "done", whole done)
+        ∷ (codes "out", out_json out.now) ∷ [])) }
+    ensures q { IfOk result (λ _. message_number (whole q) ≡ Some q) }
+    ensures n { IfOk result (λ _. message_number (whole n) ≡ Some n) }
+    ensures done { IfOk result (λ _. message_number (whole done) ≡ Some done) }
+    ensures out { IfOk result (λ _. out_of (out_json out.now) ≡ Some (one_null out.now)) }
+{
+    let out = out_value(alloc, out)?;
+    let form = Form::new(alloc).value(alloc, "out", out)?;
+    let form = form.number(alloc, "done", done)?;
+    let form = form.number(alloc, "n", n)?;
+    form.number(alloc, "q", q)
+}
+
 fn session_or_null(alloc: Global, session: &Option<SessionId>) -> Result<Value, AllocError>
     ensures json { IfOk result (λ made. view made ≡ session_or_null session.now) }
     ensures form { IfOk result (λ _.
@@ -364,7 +385,9 @@ fn plain_fault(alloc: Global, session: &Option<SessionId>, number: u8) -> Result
         session_or_none (session_or_null session.now) ≡ Some session.now) }
 {
     let session = session_or_null(alloc, session)?;
-    json!(in alloc; {"code": number, "m": "fault", "s": session})
+    let form = Form::new(alloc).value(alloc, "s", session)?;
+    let form = form.value(alloc, "code", Value::from(number))?;
+    form.done(alloc, "fault")
 }
 
 // The JSON value of a Fault with the client's last stamp.
@@ -380,9 +403,12 @@ fn old_fault(
     ensures form { IfOk result (λ _.
         session_or_none (session_or_null session.now) ≡ Some session.now) }
 {
-    let session = session_or_null(alloc, session)?;
     let last = last.to_value(alloc)?;
-    json!(in alloc; {"code": number, "last": last, "m": "fault", "s": session})
+    let form = Form::new(alloc).value(alloc, "last", last)?;
+    let form = form.value(alloc, "code", Value::from(number))?;
+    let session = session_or_null(alloc, session)?;
+    let form = form.value(alloc, "s", session)?;
+    form.done(alloc, "fault")
 }
 
 // The JSON value of a Fault.
@@ -408,8 +434,8 @@ fn armed_value(
     ensures json { IfOk result (λ made. view made ≡ down_json (Down.Armed session.now r z q)) }
     ensures form { IfOk result (λ _. HasForm (Down.Armed session.now r z q)) }
 {
-    let session = session.to_value(alloc)?;
-    json!(in alloc; {"m": "armed", "q": q.get(), "r": r.get(), "s": session, "z": z.get()})
+    let form = Form::new(alloc).number(alloc, "q", q)?;
+    form.sent(alloc, "armed", session, r, z)
 }
 
 // The JSON value of a Denied.
@@ -425,9 +451,7 @@ fn denied_value(
         view made ≡ down_json (Down.Denied session.now r z q why)) }
     ensures form { IfOk result (λ _. HasForm (Down.Denied session.now r z q why)) }
 {
-    let session = session.to_value(alloc)?;
-    let why = why.number();
-    json!(in alloc; {
-        "m": "denied", "q": q.get(), "r": r.get(), "s": session, "why": why, "z": z.get()
-    })
+    let form = Form::new(alloc).value(alloc, "why", Value::from(why.number()))?;
+    let form = form.number(alloc, "q", q)?;
+    form.sent(alloc, "denied", session, r, z)
 }

@@ -4,6 +4,7 @@
 mod down;
 mod fault;
 mod field;
+mod form;
 mod id;
 mod number;
 mod up;

@@ -1,22 +1,24 @@
 //! Messages to the server.
 
-ghost use Rattle.std.specs.Prelude.{◌≡◌, ◌≤◌, ◌⊎◌, IfOk, MatchResult, Ok, Err, Some, length, string_bytes};
+ghost use Rattle.std.specs.Prelude.{◌≡◌, ◌≤◌, ◌⊎◌, ◌∷◌, [], IfOk, MatchResult, Ok, Err, Some, codes, length, string_bytes};
 ghost use Rattle.serde_json.specs.Data.{depth};
 ghost use Rattle.serde_json.specs.View.{view};
 ghost use Rattle.serde_json.specs.Written.{compact_text};
 ghost use Rattle.pres_write.specs.OpForms.{op_json, op_read};
 ghost use Rattle.pres_write.specs.Unconditionals.{as_op, unconditional_read};
+ghost use Rattle.pres_wire.specs.Fields.{message, whole, path_json, session_json, message_number, path_of, session_of};
 ghost use Rattle.pres_wire.specs.Messages.{session_in, q_in};
 ghost use Rattle.pres_wire.specs.UpForms.{up_json, up_read, hello_read, op_message_read, bye_read, left_read, cancel_read, beat_read, decoded, longest_text};
 ghost use Rattle.pres_wire.specs.declared.fault.WireFault.TheVariants.{Memory};
 
 use crate::fault::{Field, WireFault};
 use crate::field::{left_field, number_field, op_field, path_field, session_field};
+use crate::form::Form;
 use crate::id::SessionId;
 use crate::number::Number;
 use pres_tree::Path;
 use pres_write::{Op, Unconditional};
-use serde_json::{Value, json};
+use serde_json::Value;
 use std::alloc::{AllocError, Global};
 
 /// The bytes of the longest text of a message that is read.
@@ -181,25 +183,12 @@ impl Up {
         ensures low { IfOk result (λ _. depth (up_json self.now) ≤ 127) }
     {
         match self {
-            Up::Hello { session } => {
-                let session = session.to_value(alloc)?;
-                json!(in alloc; {"m": "hello", "s": session})
-            }
-            Up::Op { session, q, n, op } => {
-                let session = session.to_value(alloc)?;
-                let op = op_value(alloc, op)?;
-                json!(in alloc; {"m": "op", "n": n.get(), "op": op, "q": q.get(), "s": session})
-            }
-            Up::Bye { session, q } => {
-                let session = session.to_value(alloc)?;
-                json!(in alloc; {"m": "bye", "q": q.get(), "s": session})
-            }
+            Up::Hello { session } => bare_value(alloc, "hello", session),
+            Up::Op { session, q, n, op } => operation_value(alloc, session, *q, *n, op),
+            Up::Bye { session, q } => bye_value(alloc, session, *q),
             Up::Left { session, q, op } => left_value(alloc, session, *q, op),
-            Up::Cancel { session, q, path } => cancel_value(alloc, session, *q, path),
-            Up::Beat { session } => {
-                let session = session.to_value(alloc)?;
-                json!(in alloc; {"m": "beat", "s": session})
-            }
+            Up::Cancel { session, q, path } => path_value(alloc, "cancel", session, *q, path),
+            Up::Beat { session } => bare_value(alloc, "beat", session),
         }
     }
 }
@@ -266,6 +255,45 @@ fn read_beat(alloc: Global, message: &Value) -> Result<Up, WireFault>
     Ok(Up::Beat { session })
 }
 
+// The JSON value of a message of this word that has no field but its session.
+fn bare_value(alloc: Global, word: &str, session: &SessionId) -> Result<Value, AllocError>
+    ensures json { IfOk result (λ made. view made
+        ≡ message word.now ((codes "s", session_json session.now) ∷ [])) }
+    ensures reads_back { IfOk result (λ _.
+        session_of (session_json session.now) ≡ Some session.now) }
+{
+    Form::new(alloc).message(alloc, word, session)
+}
+
+// The JSON value of a Bye.
+fn bye_value(alloc: Global, session: &SessionId, q: Number) -> Result<Value, AllocError>
+    ensures json { IfOk result (λ made. view made ≡ up_json (Up.Bye session.now q)) }
+    ensures reads_back { IfOk result (λ _.
+        up_read (up_json (Up.Bye session.now q)) ≡ Ok (Up.Bye session.now q)) }
+{
+    let form = Form::new(alloc).number(alloc, "q", q)?;
+    form.message(alloc, "bye", session)
+}
+
+// The JSON value of an Op.
+fn operation_value(
+    alloc: Global,
+    session: &SessionId,
+    q: Number,
+    n: Number,
+    op: &Op,
+) -> Result<Value, AllocError>
+    ensures json { IfOk result (λ made. view made ≡ up_json (Up.Op session.now q n op.now)) }
+    ensures reads_back { IfOk result (λ _.
+        up_read (up_json (Up.Op session.now q n op.now)) ≡ Ok (Up.Op session.now q n op.now)) }
+    ensures low { IfOk result (λ _. depth (up_json (Up.Op session.now q n op.now)) ≤ 127) }
+{
+    let op = op_value(alloc, op)?;
+    let form = Form::new(alloc).value(alloc, "op", op)?;
+    let form = form.number(alloc, "n", n)?.number(alloc, "q", q)?;
+    form.message(alloc, "op", session)
+}
+
 // The JSON value of a Left.
 fn left_value(
     alloc: Global,
@@ -278,27 +306,32 @@ fn left_value(
         up_read (up_json (Up.Left session.now q op.now)) ≡ Ok (Up.Left session.now q op.now)) }
     ensures low { IfOk result (λ _. depth (up_json (Up.Left session.now q op.now)) ≤ 127) }
 {
-    let session = session.to_value(alloc)?;
     let op = unconditional_value(alloc, op)?;
-    json!(in alloc; {"m": "left", "op": op, "q": q.get(), "s": session})
+    let form = Form::new(alloc).value(alloc, "op", op)?;
+    let form = form.number(alloc, "q", q)?;
+    form.message(alloc, "left", session)
 }
 
-// The JSON value of a Cancel.
-fn cancel_value(
+// The JSON value of a message of this word that has a path.
+fn path_value(
     alloc: Global,
+    word: &str,
     session: &SessionId,
     q: Number,
     path: &Path,
 ) -> Result<Value, AllocError>
-    ensures json { IfOk result (λ made. view made ≡ up_json (Up.Cancel session.now q path.now)) }
-    ensures reads_back { IfOk result (λ _.
-        up_read (up_json (Up.Cancel session.now q path.now))
-        ≡ Ok (Up.Cancel session.now q path.now)) }
-    ensures low { IfOk result (λ _. depth (up_json (Up.Cancel session.now q path.now)) ≤ 127) }
+    ensures json { IfOk result (λ made. view made ≡ message word.now
+        ((codes "s", session_json session.now) ∷ (codes "q", whole q)
+        ∷ (codes "path", path_json path.now) ∷ [])) }
+    ensures session { IfOk result (λ _.
+        session_of (session_json session.now) ≡ Some session.now) }
+    ensures q { IfOk result (λ _. message_number (whole q) ≡ Some q) }
+    ensures path { IfOk result (λ _. path_of (path_json path.now) ≡ Some path.now) }
 {
-    let session = session.to_value(alloc)?;
-    let path = path.text(alloc)?;
-    json!(in alloc; {"m": "cancel", "path": path, "q": q.get(), "s": session})
+    let text = Value::String(path.text(alloc)?);
+    let form = Form::new(alloc).value(alloc, "path", text)?;
+    let form = form.number(alloc, "q", q)?;
+    form.message(alloc, word, session)
 }
 
 // The JSON value of an operation of a Left, which is read as the operation, and nests few levels.
