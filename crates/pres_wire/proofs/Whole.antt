@@ -1,5 +1,5 @@
 -- The JSON of messages has no floats, so that its text is stated.
-use Rattle.std.proofs.Common.{◌≡◌, ℕ, pos, negsuc, Bool, true, false, List, drop, Option, Some, None, [], ◌∷◌, refl, ap, ◌∙◌, ◌||◌}
+use Rattle.std.proofs.Common.{◌≡◌, ℕ, pos, negsuc, Bool, true, false, List, drop, map, Option, Some, None, [], ◌∷◌, refl, ap, ◌∙◌, ◌||◌}
 use Rattle.std.specs.Ordering.{nat_cmp}
 use Rattle.std.specs.declared.cmp.Ordering.TheVariants.{Less, Equal, Greater}
 use Rattle.std.specs.Cmp.Lexicographic.{slice_cmp}
@@ -8,7 +8,7 @@ use Rattle.std.specs.Prelude.{IfOk, Result, Ok, Err, String, string_bytes}
 use Rattle.std.specs.declared.alloc.AllocError.{AllocError}
 use Rattle.std.specs.declared.alloc.Global.{Global}
 use Rattle.serde_json.specs.Data.{Data, null, boolean, number, string, array, object, Members, no_members, member}
-use Rattle.serde_json.specs.Written.{has_float, members_have_float, compact_text}
+use Rattle.serde_json.specs.Written.{has_float, items_have_float, members_have_float, compact_text}
 use Rattle.pres_tree.specs.declared.scalar.Scalar.{Scalar}
 use Rattle.pres_tree.specs.declared.scalar.Scalar.TheVariants.{Bool as BoolOf, Int, Text}
 use Rattle.pres_tree.specs.Keys.{Key, same_key}
@@ -35,7 +35,9 @@ use Rattle.pres_wire.specs.declared.down.Code.TheVariants as code
 use Rattle.pres_wire.specs.declared.down.Limit.TheVariants as limit
 use Rattle.pres_wire.specs.declared.down.Down.{Down}
 use Rattle.pres_wire.specs.declared.down.Down.TheVariants as down
-use Rattle.pres_wire.specs.DownForms.{out_json, session_or_null, down_json}
+use Rattle.pres_wire.specs.DownForms.{out_json, session_or_null, path_value_json, values_json as pushed_json, down_json}
+use Rattle.pres_wire.specs.declared.values.PathValue.{PathValue}
+use Rattle.serde_json.specs.View.{items_of}
 
 either_part : (a b : Bool) → (a || b) ≡ false → (a ≡ false) × (b ≡ false)
 either_part false b h = (refl, h)
@@ -118,6 +120,8 @@ whole_up (up.Bye s q) = refl
 whole_up (up.Left s q op) = neither (has_float (op_json (as_op op))) false (whole_op (as_op op)) refl
 whole_up (up.Cancel s q p) = refl
 whole_up (up.Beat s) = refl
+whole_up (up.On s q p) = refl
+whole_up (up.Off s q p) = refl
 
 -- the text of a value that has no float
 pub whole_text : (r : Result (String Global) AllocError) (made d : Data) → made ≡ d → has_float d ≡ false → IfOk r (λ t. has_float made ≡ false → string_bytes t ≡ compact_text made) → IfOk r (λ t. string_bytes t ≡ compact_text d)
@@ -142,11 +146,21 @@ whole_fault s code.Busy = neither (has_float (session_or_null s)) false (whole_s
 whole_fault s code.Spent = neither (has_float (session_or_null s)) false (whole_session s) refl
 whole_fault s code.Down = neither (has_float (session_or_null s)) false (whole_session s) refl
 
+whole_path_values : (vs : List PathValue) → items_have_float (items_of (map path_value_json vs)) ≡ false
+whole_path_values [] = refl
+whole_path_values (v ∷ vs) =
+    neither (has_float (path_value_json v)) (items_have_float (items_of (map path_value_json vs)))
+    (neither (has_float (json_of scalar_printing v.value)) false (whole_rows scalar_printing v.value whole_scalar) refl)
+    (whole_path_values vs)
+
 pub whole_down : (m : Down) → has_float (down_json m) ≡ false
 whole_down (down.Welcome s z ops) = refl
 whole_down (down.Reply s r z q n done out) = neither (has_float (out_json out)) false (whole_out out) refl
 whole_down (down.Gone s r z why) = refl
 whole_down (down.Fault s c) = whole_fault s c
 whole_down (down.Armed s r z q) = refl
+whole_down (down.Snap s r z q p v) = neither (has_float (json_of scalar_printing v)) false (whole_rows scalar_printing v whole_scalar) refl
+whole_down (down.Push s r z vs) = neither (has_float (pushed_json vs)) false (whole_path_values vs) refl
+whole_down (down.OffDone s r z q) = refl
 whole_down (down.Denied s r z q limit.Plan) = refl
 whole_down (down.Denied s r z q limit.Listens) = refl

@@ -1,6 +1,7 @@
 -- Messages to a client as JSON.
-use Rattle.std.specs.Prelude.{ℕ, List, [], ◌∷◌, codes, Option, Some, None}
-use Rattle.serde_json.specs.Data.{Data, null, string, object, no_members, member}
+use Rattle.std.specs.Prelude.{ℕ, List, [], ◌∷◌, codes, map, Option, Some, None}
+use Rattle.serde_json.specs.Data.{Data, null, string, array, object, no_items, item, no_members, member}
+use Rattle.serde_json.specs.View.{items_of}
 use Rattle.pres_tree.specs.Rows.{rows_in}
 use Rattle.pres_tree.specs.Printing.{json_of}
 use Rattle.pres_tree.specs.Scalars.{scalar_printing}
@@ -15,7 +16,8 @@ use Rattle.pres_wire.specs.declared.down.Limit.{Limit}
 use Rattle.pres_wire.specs.declared.down.Limit.TheVariants as limit
 use Rattle.pres_wire.specs.declared.down.Down.{Down}
 use Rattle.pres_wire.specs.declared.down.Down.TheVariants as down
-use Rattle.pres_wire.specs.Fields.{Named, message, whole, stamp_json, session_json}
+use Rattle.pres_wire.specs.declared.values.PathValue.{PathValue}
+use Rattle.pres_wire.specs.Fields.{Named, message, whole, stamp_json, session_json, path_json}
 
 abbrev pub why_word : Why → List ℕ
 why_word why.Bye = codes "bye"
@@ -59,6 +61,13 @@ abbrev pub session_or_null : Option SessionId → Data
 session_or_null None = null
 session_or_null (Some s) = session_json s
 
+-- a list of a path and the value there
+abbrev pub path_value_json : PathValue → Data
+path_value_json v = array (item (path_json v.path) (item (json_of scalar_printing v.value) no_items))
+
+abbrev pub values_json : List PathValue → Data
+values_json vs = array (items_of (map path_value_json vs))
+
 -- the JSON of a message: its word, and its fields
 abbrev pub down_json : Down → Data
 down_json (down.Welcome s z ops) = message (codes "welcome") ((codes "s", session_json s) ∷ (codes "z", whole z) ∷ (codes "ops", whole ops) ∷ [])
@@ -71,3 +80,8 @@ down_json (down.Fault s c) = message (codes "fault") ((codes "s", session_or_nul
 down_json (down.Armed s r z q) = message (codes "armed") ((codes "s", session_json s) ∷ (codes "r", whole r) ∷ (codes "z", whole z) ∷ (codes "q", whole q) ∷ [])
 down_json (down.Denied s r z q reached) =
     message (codes "denied") ((codes "s", session_json s) ∷ (codes "r", whole r) ∷ (codes "z", whole z) ∷ (codes "q", whole q) ∷ (codes "why", whole (limit_number reached)) ∷ [])
+down_json (down.Snap s r z q p v) =
+    message (codes "snap")
+    ((codes "s", session_json s) ∷ (codes "r", whole r) ∷ (codes "z", whole z) ∷ (codes "q", whole q) ∷ (codes "path", path_json p) ∷ (codes "value", json_of scalar_printing v) ∷ [])
+down_json (down.Push s r z vs) = message (codes "push") ((codes "s", session_json s) ∷ (codes "r", whole r) ∷ (codes "z", whole z) ∷ (codes "values", values_json vs) ∷ [])
+down_json (down.OffDone s r z q) = message (codes "offdone") ((codes "s", session_json s) ∷ (codes "r", whole r) ∷ (codes "z", whole z) ∷ (codes "q", whole q) ∷ [])

@@ -1,9 +1,10 @@
 -- The message to a client that a JSON value is the form of: so no JSON is two messages' form.
-use Rattle.std.specs.Prelude.{◌≡◌, ◌==◌, ℕ, List, if◌then◌else◌, codes, Option, Some, None, option_and_then, option_map, ⊤}
+use Rattle.std.specs.Prelude.{◌≡◌, ◌==◌, ℕ, List, [], ◌∷◌, if◌then◌else◌, codes, map, Option, Some, None, option_and_then, option_map, ⊤}
 use Rattle.serde_json.specs.Data.{Data, Items, no_items, item}
 use Rattle.serde_json.specs.Find.{get, as_null, as_str, as_array}
-use Rattle.pres_tree.specs.Rows.{rows_in, option_of}
+use Rattle.pres_tree.specs.Rows.{Rows, rows_in, option_of}
 use Rattle.pres_tree.specs.Reading.{rows_of}
+use Rattle.pres_tree.specs.declared.scalar.Scalar.{Scalar}
 use Rattle.pres_tree.specs.Scalars.{scalar_reading}
 use Rattle.pres_write.specs.declared.outcome.Kept.{Kept}
 use Rattle.pres_write.specs.declared.outcome.Kept.TheVariants.{Wrote, Stale}
@@ -17,8 +18,10 @@ use Rattle.pres_wire.specs.declared.down.Limit.{Limit}
 use Rattle.pres_wire.specs.declared.down.Limit.TheVariants as limit
 use Rattle.pres_wire.specs.declared.down.Down.{Down}
 use Rattle.pres_wire.specs.declared.down.Down.TheVariants as down
+use Rattle.pres_wire.specs.declared.values.PathValue.{PathValue}
 use Rattle.pres_wire.specs.DownForms.{down_json}
-use Rattle.pres_wire.specs.Fields.{is_word, field_of, message_number, message_count, session_of}
+use Rattle.pres_wire.specs.Fields.{is_word, field_of, message_number, message_count, path_of, session_of}
+use Rattle.pres_wire.specs.Values.{rise}
 
 -- what is read next, where this was there
 abbrev pub given : {A B : Type 0} → Option A → (A → Option B) → Option B
@@ -79,6 +82,30 @@ session_unless None s = option_map Some s
 abbrev pub session_or_none : Data → Option (Option SessionId)
 session_or_none d = session_unless (as_null d) (session_of d)
 
+-- two items: a path's text, a value
+abbrev pub path_value_of_items : Items → Option PathValue
+path_value_of_items no_items = None
+path_value_of_items (item p no_items) = None
+path_value_of_items (item p (item v no_items)) = option_map (λ path. record { path = path; value = rows_of scalar_reading v }) (path_of p)
+path_value_of_items (item p (item v (item d ds))) = None
+
+abbrev pub path_value_of : Data → Option PathValue
+path_value_of d = option_and_then path_value_of_items (as_array d)
+
+abbrev pub values_of_items : Items → Option (List PathValue)
+values_of_items no_items = Some []
+values_of_items (item d ds) = given (path_value_of d) (λ v. given (values_of_items ds) (λ vs. Some (v ∷ vs)))
+
+abbrev pub if_rising : List PathValue → Option (List PathValue)
+if_rising vs = if rise (map (λ v. v.path) vs) then Some vs else None
+
+-- values at paths that rise
+abbrev pub values_of : Data → Option (List PathValue)
+values_of d = option_and_then if_rising (option_and_then values_of_items (as_array d))
+
+abbrev pub value_of : Data → Option (Rows Scalar)
+value_of d = Some (rows_of scalar_reading d)
+
 abbrev pub welcome_of : Data → Option Down
 welcome_of d =
     given (field_of session_of (codes "s") d) (λ s.
@@ -123,6 +150,29 @@ denied_of d =
     given (field_of message_number (codes "q") d) (λ q.
     given (option_and_then limit_of (field_of message_number (codes "why") d)) (λ reached. Some (down.Denied s r z q reached))))))
 
+abbrev pub snap_of : Data → Option Down
+snap_of d =
+    given (field_of session_of (codes "s") d) (λ s.
+    given (field_of message_number (codes "r") d) (λ r.
+    given (field_of message_number (codes "z") d) (λ z.
+    given (field_of message_number (codes "q") d) (λ q.
+    given (field_of path_of (codes "path") d) (λ p.
+    given (field_of value_of (codes "value") d) (λ v. Some (down.Snap s r z q p v)))))))
+
+abbrev pub push_of : Data → Option Down
+push_of d =
+    given (field_of session_of (codes "s") d) (λ s.
+    given (field_of message_number (codes "r") d) (λ r.
+    given (field_of message_number (codes "z") d) (λ z.
+    given (field_of values_of (codes "values") d) (λ vs. Some (down.Push s r z vs)))))
+
+abbrev pub off_done_of : Data → Option Down
+off_done_of d =
+    given (field_of session_of (codes "s") d) (λ s.
+    given (field_of message_number (codes "r") d) (λ r.
+    given (field_of message_number (codes "z") d) (λ z.
+    given (field_of message_number (codes "q") d) (λ q. Some (down.OffDone s r z q)))))
+
 abbrev pub by_word : Data → List ℕ → Option Down
 by_word d word =
     if is_word word (codes "welcome") then welcome_of d
@@ -130,7 +180,10 @@ by_word d word =
     else (if is_word word (codes "gone") then gone_of d
     else (if is_word word (codes "fault") then fault_of d
     else (if is_word word (codes "armed") then armed_of d
-    else (if is_word word (codes "denied") then denied_of d else None)))))
+    else (if is_word word (codes "denied") then denied_of d
+    else (if is_word word (codes "snap") then snap_of d
+    else (if is_word word (codes "push") then push_of d
+    else (if is_word word (codes "offdone") then off_done_of d else None))))))))
 
 -- the message that the JSON value is the form of
 abbrev pub down_of : Data → Option Down
@@ -148,6 +201,9 @@ with_one_null (down.Gone s r z reason) = down.Gone s r z reason
 with_one_null (down.Fault s c) = down.Fault s c
 with_one_null (down.Armed s r z q) = down.Armed s r z q
 with_one_null (down.Denied s r z q reached) = down.Denied s r z q reached
+with_one_null (down.Snap s r z q p v) = down.Snap s r z q p v
+with_one_null (down.Push s r z vs) = down.Push s r z vs
+with_one_null (down.OffDone s r z q) = down.OffDone s r z q
 
 -- its JSON is the form of no other message
 abbrev pub HasForm : Down → Type 0

@@ -6,3 +6,4 @@ pub mod Ids
 pub mod Messages
 pub mod Numbers
 pub mod UpForms
+pub mod Values

@@ -14,6 +14,8 @@ session_in (up.Bye s q) = s
 session_in (up.Left s q op) = s
 session_in (up.Cancel s q p) = s
 session_in (up.Beat s) = s
+session_in (up.On s q p) = s
+session_in (up.Off s q p) = s
 
 -- the number of a message in its session; a Hello and a Beat have none
 abbrev pub q_in : Up → Option ℕ
@@ -23,6 +25,8 @@ q_in (up.Bye s q) = Some q
 q_in (up.Left s q op) = Some q
 q_in (up.Cancel s q p) = Some q
 q_in (up.Beat s) = None
+q_in (up.On s q p) = Some q
+q_in (up.Off s q p) = Some q
 
 -- the session that a message is for
 abbrev pub session_for : Down → Option SessionId
@@ -32,6 +36,9 @@ session_for (down.Gone s r z why) = Some s
 session_for (down.Fault session code) = session
 session_for (down.Armed s r z q) = Some s
 session_for (down.Denied s r z q limit) = Some s
+session_for (down.Snap s r z q p v) = Some s
+session_for (down.Push s r z vs) = Some s
+session_for (down.OffDone s r z q) = Some s
 
 -- the server's number in a message to a client, 0 in a Fault
 abbrev pub number_in : Down → ℕ
@@ -41,3 +48,6 @@ number_in (down.Gone s r z why) = z
 number_in (down.Fault session code) = 0
 number_in (down.Armed s r z q) = z
 number_in (down.Denied s r z q limit) = z
+number_in (down.Snap s r z q p v) = z
+number_in (down.Push s r z vs) = z
+number_in (down.OffDone s r z q) = z

@@ -27,6 +27,8 @@ up_json (up.Bye s q) = message (codes "bye") ((codes "s", session_json s) ∷ (c
 up_json (up.Left s q op) = message (codes "left") ((codes "s", session_json s) ∷ (codes "q", whole q) ∷ (codes "op", op_json (as_op op)) ∷ [])
 up_json (up.Cancel s q p) = message (codes "cancel") ((codes "s", session_json s) ∷ (codes "q", whole q) ∷ (codes "path", path_json p) ∷ [])
 up_json (up.Beat s) = message (codes "beat") ((codes "s", session_json s) ∷ [])
+up_json (up.On s q p) = message (codes "on") ((codes "s", session_json s) ∷ (codes "q", whole q) ∷ (codes "path", path_json p) ∷ [])
+up_json (up.Off s q p) = message (codes "off") ((codes "s", session_json s) ∷ (codes "q", whole q) ∷ (codes "path", path_json p) ∷ [])
 
 -- ---- reading
 
@@ -85,6 +87,12 @@ cancel_read d = and_then (session_field d) (λ s. and_then (number_field field.Q
 abbrev pub beat_read : Data → Result Up WireFault
 beat_read d = and_then (session_field d) (λ s. Ok (up.Beat s))
 
+abbrev pub on_read : Data → Result Up WireFault
+on_read d = and_then (session_field d) (λ s. and_then (number_field field.Q d) (λ q. and_then (path_field d) (λ p. Ok (up.On s q p))))
+
+abbrev pub off_read : Data → Result Up WireFault
+off_read d = and_then (session_field d) (λ s. and_then (number_field field.Q d) (λ q. and_then (path_field d) (λ p. Ok (up.Off s q p))))
+
 -- `m` is the word of a message
 abbrev pub by_word : Data → Option (List ℕ) → Result Up WireFault
 by_word d None = Err NoSuchMessage
@@ -94,7 +102,9 @@ by_word d (Some word) =
     else (if is_word word (codes "bye") then bye_read d
     else (if is_word word (codes "left") then left_read d
     else (if is_word word (codes "cancel") then cancel_read d
-    else (if is_word word (codes "beat") then beat_read d else Err NoSuchMessage)))))
+    else (if is_word word (codes "beat") then beat_read d
+    else (if is_word word (codes "on") then on_read d
+    else (if is_word word (codes "off") then off_read d else Err NoSuchMessage)))))))
 
 -- the message of a JSON value, or why it is refused
 abbrev pub up_read : Data → Result Up WireFault

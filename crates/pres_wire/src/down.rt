@@ -7,7 +7,7 @@ ghost use Rattle.pres_tree.specs.Rows.{rows_in};
 ghost use Rattle.pres_tree.specs.Printing.{json_of};
 ghost use Rattle.pres_tree.specs.Reading.{rows_of};
 ghost use Rattle.pres_tree.specs.Scalars.{scalar_reading, scalar_printing};
-ghost use Rattle.pres_wire.specs.Fields.{message, members_of, whole, stamp_json, message_number};
+ghost use Rattle.pres_wire.specs.Fields.{message, members_of, whole, stamp_json, session_json, path_json, message_number, session_of, path_of};
 ghost use Rattle.pres_wire.specs.Messages.{session_for, number_in};
 ghost use Rattle.pres_wire.specs.DownForms.{why_word, code_number, limit_number, out_json, session_or_null, down_json};
 ghost use Rattle.pres_wire.specs.DownReads.{session_or_none, why_of, one_null, out_of, HasForm};
@@ -15,7 +15,8 @@ ghost use Rattle.pres_wire.specs.DownReads.{session_or_none, why_of, one_null, o
 use crate::form::Form;
 use crate::id::{SessionId, Stamp, Why};
 use crate::number::{Count, Number};
-use pres_tree::Tree;
+use crate::values::Values;
+use pres_tree::{Path, Tree};
 use pres_write::Kept;
 use serde_json::{Value, json};
 use std::alloc::{AllocError, Global};
@@ -98,6 +99,31 @@ pub enum Down {
         q: Number,
         why: Limit,
     },
+    /// The session listens to the path, as its message `q` asked. The value stands there at the
+    /// server's number `z`: where nothing does, null.
+    Snap {
+        session: SessionId,
+        r: Number,
+        z: Number,
+        q: Number,
+        path: Path,
+        value: Tree,
+    },
+    /// The values that stand at places to which the session listens, after the server's number
+    /// `z` wrote there.
+    Push {
+        session: SessionId,
+        r: Number,
+        z: Number,
+        values: Values,
+    },
+    /// The session listens no more to the path of its message `q`, since the server's number `z`.
+    OffDone {
+        session: SessionId,
+        r: Number,
+        z: Number,
+        q: Number,
+    },
 }
 
 impl Code {
@@ -142,6 +168,9 @@ impl Down {
             Down::Fault { session, .. } => session.as_ref(),
             Down::Armed { session, .. } => Some(session),
             Down::Denied { session, .. } => Some(session),
+            Down::Snap { session, .. } => Some(session),
+            Down::Push { session, .. } => Some(session),
+            Down::OffDone { session, .. } => Some(session),
         }
     }
 
@@ -156,6 +185,9 @@ impl Down {
             Down::Fault { .. } => Count::zero(),
             Down::Armed { z, .. } => Count::up_to(*z),
             Down::Denied { z, .. } => Count::up_to(*z),
+            Down::Snap { z, .. } => Count::up_to(*z),
+            Down::Push { z, .. } => Count::up_to(*z),
+            Down::OffDone { z, .. } => Count::up_to(*z),
         }
     }
 
@@ -177,15 +209,18 @@ impl Down {
                 n,
                 done,
                 out,
-            } => Ok(Down::Reply {
-                session: session.copy(alloc)?,
-                r: *r,
-                z: *z,
-                q: *q,
-                n: *n,
-                done: *done,
-                out: out.copy(alloc)?,
-            }),
+            } => {
+                let (session, out) = copied_out(alloc, session, out)?;
+                Ok(Down::Reply {
+                    session,
+                    r: *r,
+                    z: *z,
+                    q: *q,
+                    n: *n,
+                    done: *done,
+                    out,
+                })
+            }
             Down::Gone { session, r, z, why } => Ok(Down::Gone {
                 session: session.copy(alloc)?,
                 r: *r,
@@ -214,6 +249,44 @@ impl Down {
                 z: *z,
                 q: *q,
                 why: *why,
+            }),
+            Down::Snap {
+                session,
+                r,
+                z,
+                q,
+                path,
+                value,
+            } => {
+                let (session, path, value) = copied_place(alloc, session, path, value)?;
+                Ok(Down::Snap {
+                    session,
+                    r: *r,
+                    z: *z,
+                    q: *q,
+                    path,
+                    value,
+                })
+            }
+            Down::Push {
+                session,
+                r,
+                z,
+                values,
+            } => {
+                let (session, values) = copied_values(alloc, session, values)?;
+                Ok(Down::Push {
+                    session,
+                    r: *r,
+                    z: *z,
+                    values,
+                })
+            }
+            Down::OffDone { session, r, z, q } => Ok(Down::OffDone {
+                session: session.copy(alloc)?,
+                r: *r,
+                z: *z,
+                q: *q,
             }),
         }
     }
@@ -247,7 +320,9 @@ impl Down {
             }
             Down::Gone { session, r, z, why } => gone_value(alloc, session, *r, *z, *why),
             Down::Fault { session, code } => fault_value(alloc, session, *code),
-            Down::Armed { session, r, z, q } => armed_value(alloc, session, *r, *z, *q),
+            Down::Armed { session, r, z, q } => {
+                answer_value(alloc, "armed", session, *r, *z, *q)
+            }
             Down::Denied {
                 session,
                 r,
@@ -255,6 +330,26 @@ impl Down {
                 q,
                 why,
             } => denied_value(alloc, session, *r, *z, *q, *why),
+            Down::Snap {
+                session,
+                r,
+                z,
+                q,
+                path,
+                value,
+            } => {
+                let form = place_form(alloc, *q, path, value)?;
+                form.sent(alloc, "snap", session, *r, *z)
+            }
+            Down::Push {
+                session,
+                r,
+                z,
+                values,
+            } => push_value(alloc, session, *r, *z, values),
+            Down::OffDone { session, r, z, q } => {
+                answer_value(alloc, "offdone", session, *r, *z, *q)
+            }
         }
     }
 }
@@ -300,6 +395,47 @@ fn copied_session(
         Some(session) => Ok(Some(session.copy(alloc)?)),
         None => Ok(None),
     }
+}
+
+// An equal session, and what an equal Reply says of the write.
+fn copied_out(
+    alloc: Global,
+    session: &SessionId,
+    out: &Kept,
+) -> Result<(SessionId, Kept), AllocError>
+    ensures { IfOk result (λ made. made ≡ (session.now, out.now)) }
+{
+    let session = session.copy(alloc)?;
+    let out = out.copy(alloc)?;
+    Ok((session, out))
+}
+
+// An equal session, and an equal place with what stands there.
+fn copied_place(
+    alloc: Global,
+    session: &SessionId,
+    path: &Path,
+    value: &Tree,
+) -> Result<(SessionId, Path, Tree), AllocError>
+    ensures { IfOk result (λ made. made ≡ (session.now, path.now, value.now)) }
+{
+    let session = session.copy(alloc)?;
+    let path = path.copy(alloc)?;
+    let value = value.copy(alloc)?;
+    Ok((session, path, value))
+}
+
+// An equal session, and equal values.
+fn copied_values(
+    alloc: Global,
+    session: &SessionId,
+    values: &Values,
+) -> Result<(SessionId, Values), AllocError>
+    ensures { IfOk result (λ made. made ≡ (session.now, values.now)) }
+{
+    let session = session.copy(alloc)?;
+    let values = values.copy(alloc)?;
+    Ok((session, values))
 }
 
 // The word for why a session ended.
@@ -423,19 +559,26 @@ fn fault_value(alloc: Global, session: &Option<SessionId>, code: Code) -> Result
     }
 }
 
-// The JSON value of an Armed.
-fn armed_value(
+// The JSON value of a message of this word that answers the message `q`, and tells no more.
+fn answer_value(
     alloc: Global,
+    word: &str,
     session: &SessionId,
     r: Number,
     z: Number,
     q: Number,
 ) -> Result<Value, AllocError>
-    ensures json { IfOk result (λ made. view made ≡ down_json (Down.Armed session.now r z q)) }
-    ensures form { IfOk result (λ _. HasForm (Down.Armed session.now r z q)) }
+    ensures json { IfOk result (λ made. view made ≡ message word.now
+        ((codes "s", session_json session.now) ∷ (codes "r", whole r) ∷ (codes "z", whole z)
+        ∷ (codes "q", whole q) ∷ [])) }
+    ensures session { IfOk result (λ _.
+        session_of (session_json session.now) ≡ Some session.now) }
+    ensures r { IfOk result (λ _. message_number (whole r) ≡ Some r) }
+    ensures z { IfOk result (λ _. message_number (whole z) ≡ Some z) }
+    ensures q { IfOk result (λ _. message_number (whole q) ≡ Some q) }
 {
     let form = Form::new(alloc).number(alloc, "q", q)?;
-    form.sent(alloc, "armed", session, r, z)
+    form.sent(alloc, word, session, r, z)
 }
 
 // The JSON value of a Denied.
@@ -454,4 +597,38 @@ fn denied_value(
     let form = Form::new(alloc).value(alloc, "why", Value::from(why.number()))?;
     let form = form.number(alloc, "q", q)?;
     form.sent(alloc, "denied", session, r, z)
+}
+
+// The fields of a Snap that say which On it answers, and what stands there.
+fn place_form(alloc: Global, q: Number, path: &Path, value: &Tree) -> Result<Form, AllocError>
+    ensures fields { IfOk result (λ made. members_view made.members.entries
+        ≡ members_of ((codes "q", whole q) ∷ (codes "path", path_json path.now)
+        ∷ (codes "value", json_of scalar_printing value.now) ∷ [])) }
+    ensures q { IfOk result (λ _. message_number (whole q) ≡ Some q) }
+    ensures path { IfOk result (λ _. path_of (path_json path.now) ≡ Some path.now) }
+    ensures value { IfOk result (λ _.
+        rows_of scalar_reading (json_of scalar_printing value.now) ≡ value.now) }
+{
+    let value = value.to_value(alloc)?;
+    let form = Form::new(alloc).value(alloc, "value", value)?;
+    let text = Value::String(path.text(alloc)?);
+    let form = form.value(alloc, "path", text)?;
+    form.number(alloc, "q", q)
+}
+
+// The JSON value of a Push.
+fn push_value(
+    alloc: Global,
+    session: &SessionId,
+    r: Number,
+    z: Number,
+    values: &Values,
+) -> Result<Value, AllocError>
+    ensures json { IfOk result (λ made.
+        view made ≡ down_json (Down.Push session.now r z values.now)) }
+    ensures form { IfOk result (λ _. HasForm (Down.Push session.now r z values.now)) }
+{
+    let values = values.to_value(alloc)?;
+    let form = Form::new(alloc).value(alloc, "values", values)?;
+    form.sent(alloc, "push", session, r, z)
 }

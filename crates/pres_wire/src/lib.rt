@@ -8,9 +8,11 @@ mod form;
 mod id;
 mod number;
 mod up;
+mod values;
 
 pub use down::{Code, Down, Limit};
 pub use fault::{Field, WireFault};
 pub use id::{ClientId, IdFault, SessionId, Stamp, Why};
 pub use number::{Count, Number};
 pub use up::{MAX_TEXT_BYTES, Up};
+pub use values::{PathValue, Values};

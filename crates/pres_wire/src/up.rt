@@ -8,7 +8,7 @@ ghost use Rattle.pres_write.specs.OpForms.{op_json, op_read};
 ghost use Rattle.pres_write.specs.Unconditionals.{as_op, unconditional_read};
 ghost use Rattle.pres_wire.specs.Fields.{message, whole, path_json, session_json, message_number, path_of, session_of};
 ghost use Rattle.pres_wire.specs.Messages.{session_in, q_in};
-ghost use Rattle.pres_wire.specs.UpForms.{up_json, up_read, hello_read, op_message_read, bye_read, left_read, cancel_read, beat_read, decoded, longest_text};
+ghost use Rattle.pres_wire.specs.UpForms.{up_json, up_read, hello_read, op_message_read, bye_read, left_read, cancel_read, beat_read, on_read, off_read, decoded, longest_text};
 ghost use Rattle.pres_wire.specs.declared.fault.WireFault.TheVariants.{Memory};
 
 use crate::fault::{Field, WireFault};
@@ -59,6 +59,18 @@ pub enum Up {
     Beat {
         session: SessionId,
     },
+    /// Listens to the path, as message `q` of the session.
+    On {
+        session: SessionId,
+        q: Number,
+        path: Path,
+    },
+    /// Listens no more to the path, as message `q` of the session.
+    Off {
+        session: SessionId,
+        q: Number,
+        path: Path,
+    },
 }
 
 impl Up {
@@ -73,6 +85,8 @@ impl Up {
             Up::Left { session, .. } => session,
             Up::Cancel { session, .. } => session,
             Up::Beat { session } => session,
+            Up::On { session, .. } => session,
+            Up::Off { session, .. } => session,
         }
     }
 
@@ -86,6 +100,8 @@ impl Up {
             Up::Bye { q, .. } => Some(*q),
             Up::Left { q, .. } => Some(*q),
             Up::Cancel { q, .. } => Some(*q),
+            Up::On { q, .. } => Some(*q),
+            Up::Off { q, .. } => Some(*q),
         }
     }
 
@@ -93,32 +109,36 @@ impl Up {
     pub fn copy(&self, alloc: Global) -> Result<Up, AllocError>
         ensures { IfOk result (λ made. made ≡ self.now) }
     {
+        let session = self.session().copy(alloc)?;
         match self {
-            Up::Hello { session } => Ok(Up::Hello {
-                session: session.copy(alloc)?,
-            }),
-            Up::Op { session, q, n, op } => Ok(Up::Op {
-                session: session.copy(alloc)?,
+            Up::Hello { .. } => Ok(Up::Hello { session }),
+            Up::Op { q, n, op, .. } => Ok(Up::Op {
+                session,
                 q: *q,
                 n: *n,
                 op: op.copy(alloc)?,
             }),
-            Up::Bye { session, q } => Ok(Up::Bye {
-                session: session.copy(alloc)?,
-                q: *q,
-            }),
-            Up::Left { session, q, op } => Ok(Up::Left {
-                session: session.copy(alloc)?,
+            Up::Bye { q, .. } => Ok(Up::Bye { session, q: *q }),
+            Up::Left { q, op, .. } => Ok(Up::Left {
+                session,
                 q: *q,
                 op: op.copy(alloc)?,
             }),
-            Up::Cancel { session, q, path } => Ok(Up::Cancel {
-                session: session.copy(alloc)?,
+            Up::Cancel { q, path, .. } => Ok(Up::Cancel {
+                session,
                 q: *q,
                 path: path.copy(alloc)?,
             }),
-            Up::Beat { session } => Ok(Up::Beat {
-                session: session.copy(alloc)?,
+            Up::Beat { .. } => Ok(Up::Beat { session }),
+            Up::On { q, path, .. } => Ok(Up::On {
+                session,
+                q: *q,
+                path: path.copy(alloc)?,
+            }),
+            Up::Off { q, path, .. } => Ok(Up::Off {
+                session,
+                q: *q,
+                path: path.copy(alloc)?,
             }),
         }
     }
@@ -161,6 +181,8 @@ impl Up {
             "left" => read_left(alloc, value),
             "cancel" => read_cancel(alloc, value),
             "beat" => read_beat(alloc, value),
+            "on" => read_on(alloc, value),
+            "off" => read_off(alloc, value),
             _ => Err(WireFault::NoSuchMessage),
         }
     }
@@ -189,6 +211,8 @@ impl Up {
             Up::Left { session, q, op } => left_value(alloc, session, *q, op),
             Up::Cancel { session, q, path } => path_value(alloc, "cancel", session, *q, path),
             Up::Beat { session } => bare_value(alloc, "beat", session),
+            Up::On { session, q, path } => path_value(alloc, "on", session, *q, path),
+            Up::Off { session, q, path } => path_value(alloc, "off", session, *q, path),
         }
     }
 }
@@ -253,6 +277,28 @@ fn read_beat(alloc: Global, message: &Value) -> Result<Up, WireFault>
 {
     let session = session_field(alloc, message)?;
     Ok(Up::Beat { session })
+}
+
+fn read_on(alloc: Global, message: &Value) -> Result<Up, WireFault>
+    ensures { MatchResult result
+        (λ m. on_read (view message.now) ≡ Ok m)
+        (λ e. (e ≡ Memory) ⊎ (on_read (view message.now) ≡ Err e)) }
+{
+    let session = session_field(alloc, message)?;
+    let q = number_field(message, Field::Q)?;
+    let path = path_field(alloc, message)?;
+    Ok(Up::On { session, q, path })
+}
+
+fn read_off(alloc: Global, message: &Value) -> Result<Up, WireFault>
+    ensures { MatchResult result
+        (λ m. off_read (view message.now) ≡ Ok m)
+        (λ e. (e ≡ Memory) ⊎ (off_read (view message.now) ≡ Err e)) }
+{
+    let session = session_field(alloc, message)?;
+    let q = number_field(message, Field::Q)?;
+    let path = path_field(alloc, message)?;
+    Ok(Up::Off { session, q, path })
 }
 
 // The JSON value of a message of this word that has no field but its session.

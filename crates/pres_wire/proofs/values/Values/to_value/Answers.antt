@@ -1,0 +1,9 @@
+use Rattle.std.proofs.Common.{◌≡◌, ◌≤◌, length, subst, ap, ◌∙◌, arith}
+use Rattle.pres_wire.specs.Values.{Rising}
+use Rattle.pres_wire.proofs.Rising.{values_read}
+use Rattle.pres_wire.proofs.values.Values.to_value.Goals as goal
+
+pub returns-clause-reads_back : goal.returns-clause-reads_back
+returns-clause-reads_back c =
+    let same : length c.deref-item-items.result.now ≡ length c.args.self.now = ap length (c.deref-item-items.ensures.value ∙ c.self.view_is) in
+    values_read c.args.self.now (subst Rising c.self.view_is c.self.invariant) (λ k d l. c.loop-item.invariant.read k d (omega arith))

@@ -1,0 +1,115 @@
+//! Values at paths, as a listener is told them.
+
+ghost use Rattle.std.specs.Prelude.{◌≡◌, IfOk, Some};
+ghost use Rattle.std.specs.Option.{SomeIff};
+ghost use Rattle.std.specs.Ordering.{is_lt};
+ghost use Rattle.serde_json.specs.View.{view};
+ghost use Rattle.pres_tree.specs.Paths.{path_cmp};
+ghost use Rattle.pres_wire.specs.Values.{Rising};
+ghost use Rattle.pres_wire.specs.DownForms.{path_value_json, values_json};
+ghost use Rattle.pres_wire.specs.DownReads.{path_value_of, values_of};
+
+use pres_tree::{Path, Tree};
+use serde_json::Value;
+use std::alloc::{AllocError, Global};
+use std::marker::Model;
+
+/// A path, and the value that stands there.
+#[derive(Drop)]
+pub struct PathValue {
+    pub path: Path,
+    pub value: Tree,
+}
+
+impl PathValue {
+    /// An equal one.
+    pub fn copy(&self, alloc: Global) -> Result<PathValue, AllocError>
+        ensures { IfOk result (λ made. made ≡ self.now) }
+    {
+        let path = self.path.copy(alloc)?;
+        let value = self.value.copy(alloc)?;
+        Ok(PathValue { path, value })
+    }
+
+    // Its JSON value: `[path,value]`. It is read again as this one.
+    fn to_value(&self, alloc: Global) -> Result<Value, AllocError>
+        ensures json { IfOk result (λ made. view made ≡ path_value_json self.now) }
+        ensures reads_back { IfOk result (λ _.
+            path_value_of (path_value_json self.now) ≡ Some self.now) }
+    {
+        let path = Value::String(self.path.text(alloc)?);
+        let value = self.value.to_value(alloc)?;
+        let mut pair = Vec::new(alloc);
+        pair.push(path)?;
+        pair.push(value)?;
+        Ok(Value::Array(pair))
+    }
+}
+
+// Whether the first path is before the second.
+fn is_before(first: &PathValue, second: &PathValue) -> bool
+    ensures { result ≡ is_lt (path_cmp first.now.path second.now.path) }
+{
+    first.path < second.path
+}
+
+/// Values at paths that rise strictly, in path order. Contracts see the list of them.
+#[derive(Drop)]
+pub struct Values {
+    items: Vec<PathValue>,
+}
+
+impl Model for Values {
+    ghost use Rattle.std.specs.Prelude.{List};
+    ghost use Rattle.pres_wire.specs.declared.values.PathValue.{PathValue};
+    ghost use Rattle.pres_wire.specs.Values.{Rising};
+
+    ghost Value = { List PathValue };
+
+    ghost view = { λ v. v.items.items };
+
+    ghost invariant = { λ v. Rising v.items.items };
+}
+
+impl Values {
+    /// Those of the list, which is moved, none where its paths don't rise.
+    pub fn new(items: Vec<PathValue>) -> Option<Values>
+        ensures { SomeIff result (Rising items.items) items.items }
+    {
+        if !items.is_sorted_by(is_before) {
+            return None;
+        }
+        Some(Values { items })
+    }
+
+    /// The list of them.
+    pub fn as_slice(&self) -> &[PathValue]
+        ensures values { result.now ≡ self.now }
+        ensures rising { Rising self.now }
+    {
+        self.items.as_slice()
+    }
+
+    /// Equal values.
+    pub fn copy(&self, alloc: Global) -> Result<Values, AllocError>
+        ensures { IfOk result (λ made. made ≡ self.now) }
+    {
+        let mut items = Vec::new(alloc);
+        for item in &self.items {
+            items.push(item.copy(alloc)?)?;
+        }
+        Ok(Values { items })
+    }
+
+    // Their JSON value: a list of `[path,value]`. It is read again as these.
+    pub(crate) fn to_value(&self, alloc: Global) -> Result<Value, AllocError>
+        ensures json { IfOk result (λ made. view made ≡ values_json self.now) }
+        ensures reads_back { IfOk result (λ _. values_of (values_json self.now) ≡ Some self.now) }
+    {
+        let mut items = Vec::new(alloc);
+        for item in &self.items {
+            items.push(item.to_value(alloc)?)?;
+        }
+        Ok(Value::Array(items))
+    }
+}
