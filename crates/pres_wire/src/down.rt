@@ -196,69 +196,84 @@ impl Down {
         ensures { IfOk result (λ made. made ≡ self.now) }
     {
         match self {
-            Down::Welcome { session, z, ops } => Ok(Down::Welcome {
-                session: session.copy(alloc)?,
+            Down::Fault { session, code } => Ok(Down::Fault {
+                session: copied_session(alloc, session)?,
+                code: *code,
+            }),
+            Down::Welcome { session, .. }
+            | Down::Reply { session, .. }
+            | Down::Gone { session, .. }
+            | Down::Armed { session, .. }
+            | Down::Denied { session, .. }
+            | Down::Snap { session, .. }
+            | Down::Push { session, .. }
+            | Down::OffDone { session, .. } => {
+                let session = session.copy(alloc)?;
+                self.copy_for(alloc, session)
+            }
+        }
+    }
+
+    // An equal message, for this session, which equals its own.
+    fn copy_for(&self, alloc: Global, session: SessionId) -> Result<Down, AllocError>
+        requires { session_for self.now ≡ Some session }
+        ensures { IfOk result (λ made. made ≡ self.now) }
+    {
+        match self {
+            Down::Welcome { z, ops, .. } => Ok(Down::Welcome {
+                session,
                 z: *z,
                 ops: *ops,
             }),
             Down::Reply {
-                session,
                 r,
                 z,
                 q,
                 n,
                 done,
                 out,
-            } => {
-                let (session, out) = copied_out(alloc, session, out)?;
-                Ok(Down::Reply {
-                    session,
-                    r: *r,
-                    z: *z,
-                    q: *q,
-                    n: *n,
-                    done: *done,
-                    out,
-                })
-            }
-            Down::Gone { session, r, z, why } => Ok(Down::Gone {
-                session: session.copy(alloc)?,
+                ..
+            } => Ok(Down::Reply {
+                session,
+                r: *r,
+                z: *z,
+                q: *q,
+                n: *n,
+                done: *done,
+                out: out.copy(alloc)?,
+            }),
+            Down::Gone { r, z, why, .. } => Ok(Down::Gone {
+                session,
                 r: *r,
                 z: *z,
                 why: *why,
             }),
-            Down::Fault { session, code } => Ok(Down::Fault {
-                session: copied_session(alloc, session)?,
+            Down::Fault { code, .. } => Ok(Down::Fault {
+                session: Some(session),
                 code: *code,
             }),
-            Down::Armed { session, r, z, q } => Ok(Down::Armed {
-                session: session.copy(alloc)?,
+            Down::Armed { r, z, q, .. } => Ok(Down::Armed {
+                session,
                 r: *r,
                 z: *z,
                 q: *q,
             }),
-            Down::Denied {
+            Down::Denied { r, z, q, why, .. } => Ok(Down::Denied {
                 session,
-                r,
-                z,
-                q,
-                why,
-            } => Ok(Down::Denied {
-                session: session.copy(alloc)?,
                 r: *r,
                 z: *z,
                 q: *q,
                 why: *why,
             }),
             Down::Snap {
-                session,
                 r,
                 z,
                 q,
                 path,
                 value,
+                ..
             } => {
-                let (session, path, value) = copied_place(alloc, session, path, value)?;
+                let (path, value) = copied_place(alloc, path, value)?;
                 Ok(Down::Snap {
                     session,
                     r: *r,
@@ -268,22 +283,14 @@ impl Down {
                     value,
                 })
             }
-            Down::Push {
+            Down::Push { r, z, values, .. } => Ok(Down::Push {
                 session,
-                r,
-                z,
-                values,
-            } => {
-                let (session, values) = copied_values(alloc, session, values)?;
-                Ok(Down::Push {
-                    session,
-                    r: *r,
-                    z: *z,
-                    values,
-                })
-            }
-            Down::OffDone { session, r, z, q } => Ok(Down::OffDone {
-                session: session.copy(alloc)?,
+                r: *r,
+                z: *z,
+                values: values.copy(alloc)?,
+            }),
+            Down::OffDone { r, z, q, .. } => Ok(Down::OffDone {
+                session,
                 r: *r,
                 z: *z,
                 q: *q,
@@ -397,45 +404,13 @@ fn copied_session(
     }
 }
 
-// An equal session, and what an equal Reply says of the write.
-fn copied_out(
-    alloc: Global,
-    session: &SessionId,
-    out: &Kept,
-) -> Result<(SessionId, Kept), AllocError>
-    ensures { IfOk result (λ made. made ≡ (session.now, out.now)) }
+// An equal path, and an equal value.
+fn copied_place(alloc: Global, path: &Path, value: &Tree) -> Result<(Path, Tree), AllocError>
+    ensures { IfOk result (λ made. made ≡ (path.now, value.now)) }
 {
-    let session = session.copy(alloc)?;
-    let out = out.copy(alloc)?;
-    Ok((session, out))
-}
-
-// An equal session, and an equal place with what stands there.
-fn copied_place(
-    alloc: Global,
-    session: &SessionId,
-    path: &Path,
-    value: &Tree,
-) -> Result<(SessionId, Path, Tree), AllocError>
-    ensures { IfOk result (λ made. made ≡ (session.now, path.now, value.now)) }
-{
-    let session = session.copy(alloc)?;
     let path = path.copy(alloc)?;
     let value = value.copy(alloc)?;
-    Ok((session, path, value))
-}
-
-// An equal session, and equal values.
-fn copied_values(
-    alloc: Global,
-    session: &SessionId,
-    values: &Values,
-) -> Result<(SessionId, Values), AllocError>
-    ensures { IfOk result (λ made. made ≡ (session.now, values.now)) }
-{
-    let session = session.copy(alloc)?;
-    let values = values.copy(alloc)?;
-    Ok((session, values))
+    Ok((path, value))
 }
 
 // The word for why a session ended.

@@ -1,10 +1,10 @@
 //! Tests of messages: what is read and printed, and why texts are refused. A table is a text of
 //! lines, each a case and what it must answer. Each helper holds one message at most.
 
-use pres_tree::{Scalar, Tree};
+use pres_tree::{Path, Scalar, Tree};
 use pres_wire::{
-    ClientId, Code, Count, Down, Field, IdFault, Limit, MAX_TEXT_BYTES, Number, SessionId, Stamp,
-    Up, Why, WireFault,
+    ClientId, Code, Count, Down, Field, IdFault, Limit, MAX_TEXT_BYTES, Number, PathValue,
+    SessionId, Stamp, Up, Values, Why, WireFault,
 };
 use pres_write::{Kept, MAX_SAFE_INTEGER};
 use serde_json::Value;
@@ -183,6 +183,7 @@ enum Table {
     RefusedWrites,
     RefusedLeft,
     Fields,
+    Pushes,
 }
 
 fn answer(alloc: Global, table: Table, case: &str) -> Result<String, Fail> {
@@ -196,6 +197,7 @@ fn answer(alloc: Global, table: Table, case: &str) -> Result<String, Fail> {
         Table::RefusedWrites => refusal(alloc, write_text(alloc, case)?.as_str()),
         Table::RefusedLeft => refusal(alloc, left_text(alloc, case)?.as_str()),
         Table::Fields => fields_answer(alloc, case),
+        Table::Pushes => push_answer(alloc, case),
     }
 }
 
@@ -234,6 +236,8 @@ const SESSIONS: &str = r#"[ "alice", 1, 2 ] => ["alice",1,2] [1,2]
 const MESSAGES: &str = r#"{"m":"hello","s":["alice",1,1]} => same
 {"m":"beat","s":["alice",1,1]} => same
 {"m":"cancel","path":"/a/b","q":2,"s":["alice",1,1]} => same
+{"m":"on","path":"/a","q":1,"s":["bob",1,1]} => same
+{"m":"off","path":"/a","q":2,"s":["bob",1,1]} => same
 {"m":"cancel","path":"","q":2,"s":["a",1,1]} => {"m":"cancel","path":"/","q":2,"s":["a",1,1]}"#;
 
 const LEFT: &str = r#"1 {"op":"set","path":"/a","value":1} => same
@@ -268,7 +272,14 @@ const REFUSALS: &str = r#" => 2 NotJson NotJson
 {"m":"cancel","s":["a",1,1],"path":"/a"} => 5 Field Field(Q)
 {"m":"cancel","s":["a",1,1],"q":1} => 5 Field Field(Path)
 {"m":"cancel","s":["a",1,1],"q":1,"path":["a"]} => 5 Field Field(Path)
-{"m":"cancel","s":["a",1,1],"q":1,"path":"/a.b"} => 5 Field Field(Path)"#;
+{"m":"cancel","s":["a",1,1],"q":1,"path":"/a.b"} => 5 Field Field(Path)
+{"m":"on","q":1,"path":"/a"} => 5 Field Field(Session)
+{"m":"on","s":["a",1,1],"q":0,"path":"/a"} => 5 Field Field(Q)
+{"m":"on","s":["a",1,1],"q":1} => 5 Field Field(Path)
+{"m":"on","s":["a",1,1],"q":1,"path":"/a.b"} => 5 Field Field(Path)
+{"m":"off","q":1,"path":"/a"} => 5 Field Field(Session)
+{"m":"off","s":["a",1,1],"path":"/a"} => 5 Field Field(Q)
+{"m":"off","s":["a",1,1],"q":1,"path":null} => 5 Field Field(Path)"#;
 
 const REFUSED_LEFT: &str = r#"1 {"expect":0,"op":"tx","path":"/n","value":1} => 5 Field Field(Op)
 1 {"op":"tx","path":"/a.b"} => 5 Field Field(Op)
@@ -472,6 +483,74 @@ fn denied_text(alloc: Global, why: Limit) -> Result<String, Fail> {
     printed(alloc, &message)
 }
 
+// A value at `/a`: the number, or null.
+fn snap_text(alloc: Global, held: Option<i64>) -> Result<String, Fail> {
+    let path = Path::parse(alloc, "/a")?;
+    let session = session(alloc, "bob")?;
+    let message = Down::Snap {
+        session,
+        r: number(1),
+        z: number(3),
+        q: number(1),
+        path,
+        value: value(held),
+    };
+    printed(alloc, &message)
+}
+
+// The number, or null.
+fn value(held: Option<i64>) -> Tree {
+    match held {
+        Some(number) => Tree::scalar(Scalar::Int(number)),
+        None => Tree::empty(),
+    }
+}
+
+// Null at the path.
+fn nothing_at(alloc: Global, path: &str) -> Result<PathValue, Fail> {
+    Ok(PathValue {
+        path: Path::parse(alloc, path)?,
+        value: Tree::empty(),
+    })
+}
+
+// Null at each of the paths, which stand between spaces, if they rise.
+fn nothing_at_each(alloc: Global, paths: &str) -> Result<Option<Values>, Fail> {
+    let mut items = Vec::new(alloc);
+    for path in paths.split_whitespace() {
+        items.push(nothing_at(alloc, path)?)?;
+    }
+    Ok(Values::new(items))
+}
+
+// The text of a Push of null at each of the paths, or `none` where they don't rise.
+fn push_answer(alloc: Global, paths: &str) -> Result<String, Fail> {
+    match nothing_at_each(alloc, paths)? {
+        Some(values) => push_text(alloc, values),
+        None => Ok(String::from_str(alloc, "none")?),
+    }
+}
+
+fn push_text(alloc: Global, values: Values) -> Result<String, Fail> {
+    let message = Down::Push {
+        session: session(alloc, "bob")?,
+        r: number(2),
+        z: number(3),
+        values,
+    };
+    printed(alloc, &message)
+}
+
+fn off_done_text(alloc: Global) -> Result<String, Fail> {
+    let message = Down::OffDone {
+        session: session(alloc, "bob")?,
+        r: number(3),
+        z: number(4),
+        q: number(2),
+    };
+    printed(alloc, &message)
+}
+
 fn old_text(alloc: Global) -> Result<String, Fail> {
     let message = Down::Fault {
         session: Some(session(alloc, "a")?),
@@ -526,6 +605,38 @@ fn answers_to_plans_are_printed(rt: HostRuntime) -> Result<(), Fail> {
     assert_eq!(rt;
         denied.as_str(),
         r#"{"m":"denied","q":2,"r":3,"s":["alice",1,1],"why":2,"z":6}"#
+    );
+    Ok(())
+}
+
+const PUSHES: &str = r#"/a/b => {"m":"push","r":2,"s":["bob",1,1],"values":[["/a/b",null]],"z":3}
+/a /a/b => {"m":"push","r":2,"s":["bob",1,1],"values":[["/a",null],["/a/b",null]],"z":3}
+/a /a => none
+/a/b /a => none"#;
+
+#[test]
+fn what_listeners_are_told_is_printed(rt: HostRuntime) -> Result<(), Fail> {
+    let none = snap_text(rt.alloc(), None)?;
+    assert_eq!(rt;
+        none.as_str(),
+        r#"{"m":"snap","path":"/a","q":1,"r":1,"s":["bob",1,1],"value":null,"z":3}"#
+    );
+    let one = snap_text(rt.alloc(), Some(1))?;
+    assert_eq!(rt;
+        one.as_str(),
+        r#"{"m":"snap","path":"/a","q":1,"r":1,"s":["bob",1,1],"value":1,"z":3}"#
+    );
+    let off = off_done_text(rt.alloc())?;
+    assert_eq!(rt;
+        off.as_str(),
+        r#"{"m":"offdone","q":2,"r":3,"s":["bob",1,1],"z":4}"#
+    );
+    let wrong = wrong_in(rt.alloc(), Table::Pushes, PUSHES)?;
+    assert_eq!(rt; wrong.as_str(), "");
+    let empty = push_answer(rt.alloc(), "")?;
+    assert_eq!(rt;
+        empty.as_str(),
+        r#"{"m":"push","r":2,"s":["bob",1,1],"values":[],"z":3}"#
     );
     Ok(())
 }
