@@ -1,4 +1,4 @@
-use Rattle.std.proofs.Common.{◌≡◌, ◌≤◌, length, subst, ap, ◌∙◌, arith}
+use Rattle.std.proofs.Common.{◌≡◌, length, subst, ap, ◌∙◌, arith}
 use Rattle.pres_wire.specs.Values.{Rising}
 use Rattle.pres_wire.proofs.Rising.{values_read}
 use Rattle.pres_wire.proofs.values.Values.to_value.Goals as goal
