@@ -109,8 +109,8 @@ pub enum Down {
         path: Path,
         value: Tree,
     },
-    /// The values that stand at places to which the session listens, after the server's number
-    /// `z` wrote there.
+    /// The server's number `z` wrote at, above or below a place that the session listens to:
+    /// values at paths.
     Push {
         session: SessionId,
         r: Number,
