@@ -1,0 +1,14 @@
+use Rattle.std.proofs.Common.{sym, ◌∙◌, ap}
+use Rattle.std.specs.Prelude.{nat_lt}
+use Rattle.pres_fan.proofs.Places.{again_fits, new_fits}
+use Rattle.pres_fan.proofs.listeners.Listeners.may_listen.Goals as goal
+
+pub returns-then-has : goal.returns-then-has
+returns-then-has c =
+    c.if-has.true
+    ∙ sym (again_fits c.args.session.now c.args.path.now c.args.self.now c.has.ensures.listeners (sym c.has.ensures.has ∙ c.if-has.true))
+
+pub returns-else-has : goal.returns-else-has
+returns-else-has c =
+    ap (λ n. nat_lt n 256) c.count.ensures
+    ∙ new_fits c.args.session.now c.args.path.now c.args.self.now (sym c.has.ensures.has ∙ c.if-has.false)

@@ -1,0 +1,9 @@
+//! Which sessions listen to which places, and whom a write touches.
+#![tactic(auto)]
+
+mod fault;
+pub mod laws;
+mod listeners;
+
+pub use fault::FanFault;
+pub use listeners::{Listener, Listeners, MOST_PATHS, Touched};

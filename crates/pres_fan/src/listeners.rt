@@ -1,0 +1,229 @@
+//! Listeners, and whom writes touch.
+
+ghost use Rattle.std.specs.Prelude.{◌≡◌, ◌↔◌, ◌<◌, ◌++◌, ◌∷◌, [], length, nat_le, IfOk, IfErr, IsErrOf, OnOk, OnErr};
+ghost use Rattle.std.specs.List.{list_any};
+ghost use Rattle.pres_tree.specs.Paths.{meet};
+ghost use Rattle.pres_fan.specs.Listeners.{most_paths, IsListeners, paths_of, listener_of, same_listener, with_listener, without, without_session, is_touched, touched, row_added};
+ghost use Rattle.pres_fan.specs.declared.fault.FanFault.TheVariants.{Full, Memory};
+
+use crate::fault::FanFault;
+use pres_tree::Path;
+use pres_wire::SessionId;
+use pres_write::{Basic, Items};
+use std::alloc::{AllocError, Global};
+use std::collections::BTreeSet;
+use std::marker::Model;
+
+/// The most places that a session listens to.
+pub const MOST_PATHS: usize = 256;
+
+/// A session and a place that it listens to. Ordered by session, then by path.
+#[derive(Drop, PartialEq, Eq, PartialOrd, Ord)]
+pub struct Listener {
+    pub session: SessionId,
+    pub path: Path,
+}
+
+/// A session that writes touch, with the places that it listens to and that they touch. Contracts
+/// see it as the pair.
+#[derive(Drop)]
+pub struct Touched {
+    session: SessionId,
+    paths: Vec<Path>,
+}
+
+impl Model for Touched {
+    ghost use Rattle.std.specs.Prelude.{List};
+    ghost use Rattle.pres_tree.specs.Paths.{Path};
+    ghost use Rattle.pres_wire.specs.declared.id.SessionId.{SessionId};
+
+    ghost Value = { SessionId × List Path };
+
+    ghost view = { λ t. (t.session, t.paths.items) };
+}
+
+impl Touched {
+    // A session with one place.
+    fn one(alloc: Global, session: SessionId, path: Path) -> Result<Touched, AllocError>
+        ensures { IfOk result (λ made. made ≡ (session, path ∷ [])) }
+    {
+        let mut paths = Vec::new(alloc);
+        paths.push(path)?;
+        Ok(Touched { session, paths })
+    }
+
+    // One place more.
+    fn push(&mut self, path: Path) -> Result<(), AllocError>
+        ensures { OnOk result (self.new ≡ (self.old.0, self.old.1 ++ path ∷ [])) }
+    {
+        self.paths.push(path)?;
+        Ok(())
+    }
+
+    /// The session.
+    pub fn session(&self) -> &SessionId
+        ensures { result.now ≡ self.now.0 }
+    {
+        &self.session
+    }
+
+    /// The places, in path order.
+    pub fn paths(&self) -> &[Path]
+        ensures { result.now ≡ self.now.1 }
+    {
+        self.paths.as_slice()
+    }
+
+    /// The session and the places, which are moved.
+    pub fn into_parts(self) -> (SessionId, Items<Path>)
+        ensures { result ≡ self }
+    {
+        (self.session, Items::of(self.paths))
+    }
+}
+
+/// Which sessions listen to which places, at most `MOST_PATHS` each. Contracts see the list of the
+/// listeners, in order.
+#[derive(Drop)]
+pub struct Listeners {
+    listeners: BTreeSet<Listener>,
+}
+
+impl Model for Listeners {
+    ghost use Rattle.std.specs.Prelude.{List};
+    ghost use Rattle.pres_fan.specs.Listeners.{IsListeners};
+    ghost use Rattle.pres_fan.specs.declared.listeners.Listener.{Listener};
+
+    ghost Value = { List Listener };
+
+    ghost view = { λ l. l.listeners.keys };
+
+    ghost invariant = { λ l. IsListeners l.listeners.keys };
+}
+
+impl Listeners {
+    /// Nobody listens. It takes no memory.
+    pub fn new(alloc: Global) -> Listeners
+        ensures { result ≡ [] }
+    {
+        Listeners {
+            listeners: BTreeSet::new(alloc),
+        }
+    }
+
+    /// How many places the session listens to.
+    pub fn count(&self, session: &SessionId) -> usize
+        ensures { result ≡ length (paths_of session.now self.now) }
+    {
+        self.listeners
+            .iter()
+            .filter(|listener| session == &listener.session)
+            .count()
+    }
+
+    // Whether the session listens to the place.
+    fn has(&self, session: &SessionId, path: &Path) -> bool
+        ensures has { result
+            ≡ list_any (same_listener (listener_of session.now path.now)) self.now }
+        ensures listeners { IsListeners self.now }
+    {
+        self.listeners
+            .iter()
+            .any(|listener| is_of(listener, session, path))
+    }
+
+    /// Whether the session listens to at most `MOST_PATHS` places with this one.
+    pub fn may_listen(&self, session: &SessionId, path: &Path) -> bool
+        ensures { result ≡ nat_le
+            (length (paths_of session.now (with_listener session.now path.now self.now)))
+            most_paths }
+    {
+        self.has(session, path) || self.count(session) < MOST_PATHS
+    }
+
+    /// The session listens to the place; twice is as once. Full where it would listen to more than
+    /// `MOST_PATHS` places.
+    pub fn on(&mut self, alloc: Global, session: &SessionId, path: Path) -> Result<(), FanFault>
+        ensures ok { OnOk result (self.new ≡ with_listener session.now path self.old) }
+        ensures full { IsErrOf result Full ↔ (most_paths
+            < length (paths_of session.now (with_listener session.now path self.old))) }
+        ensures unchanged { OnErr result (self.new ≡ self.old) }
+    {
+        if !self.may_listen(session, &path) {
+            return Err(FanFault::Full);
+        }
+        let session = session.copy(alloc)?;
+        let listener = Listener { session, path };
+        self.listeners.insert(listener)?;
+        Ok(())
+    }
+
+    /// The session listens to the place no more. It takes no memory.
+    pub fn off(&mut self, session: &SessionId, path: &Path)
+        ensures { self.new ≡ without session.now path.now self.old }
+    {
+        self.listeners
+            .retain(|listener| !is_of(listener, session, path));
+    }
+
+    /// The session listens to nothing more. It takes no memory.
+    pub fn drop_session(&mut self, session: &SessionId)
+        ensures { self.new ≡ without_session session.now self.old }
+    {
+        self.listeners
+            .retain(|listener| session != &listener.session);
+    }
+
+    /// The sessions that listen to a place that the writes touch, each once, with those places, in
+    /// order. Memory is the one refusal.
+    pub fn touched(&self, alloc: Global, writes: &[Basic]) -> Result<Vec<Touched>, FanFault>
+        ensures rows { IfOk result (λ rows. rows.items ≡ touched writes.now self.now) }
+        ensures err { IfErr result (λ e. e ≡ Memory) }
+    {
+        let mut rows = Vec::new(alloc);
+        for listener in &self.listeners {
+            if is_touched(writes, &listener.path) {
+                add(&mut rows, alloc, listener)?;
+            }
+        }
+        Ok(rows)
+    }
+}
+
+// Whether the listener is the session's at the place.
+fn is_of(listener: &Listener, session: &SessionId, path: &Path) -> bool
+    ensures { result ≡ same_listener (listener_of session.now path.now) listener.now }
+{
+    session == &listener.session && path == &listener.path
+}
+
+// Whether one of the paths is at the other or above it.
+fn meet(path: &Path, other: &Path) -> bool
+    ensures { result ≡ meet path.now other.now }
+{
+    path.is_prefix_of(other) || other.is_prefix_of(path)
+}
+
+// Whether the writes touch the place.
+fn is_touched(writes: &[Basic], path: &Path) -> bool
+    ensures { result ≡ is_touched writes.now path.now }
+{
+    writes.iter().any(|write| meet(write.path(), path))
+}
+
+// Adds the listener's place to the last row, or to a row of its own where that is of another
+// session.
+fn add(rows: &mut Vec<Touched>, alloc: Global, listener: &Listener) -> Result<(), AllocError>
+    ensures { OnOk result (rows.new.items ≡ row_added listener.now rows.old.items) }
+{
+    let path = listener.path.copy(alloc)?;
+    if let Some(last) = rows.last_mut() {
+        if last.session == listener.session {
+            last.push(path)?;
+            return Ok(());
+        }
+    }
+    let session = listener.session.copy(alloc)?;
+    rows.push(Touched::one(alloc, session, path)?)?;
+    Ok(())
+}
