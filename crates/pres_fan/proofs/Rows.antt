@@ -8,7 +8,7 @@ use Rattle.std.proofs.lemmas.Bool.{not-true, and_from}
 use Rattle.std.proofs.lemmas.List.{length_push, get_or_push, set_at, set-get_or}
 use Rattle.std.proofs.lemmas.List.Kept.{IsStrictlySortedBy-filter}
 use Rattle.std.proofs.lemmas.Map.Keys.{sorted_tail}
-use Rattle.pres_tree.specs.Paths.{Path}
+use Rattle.pres_tree.specs.Paths.{Path, path_cmp}
 use Rattle.pres_write.specs.Basics.{BasicWrite}
 use Rattle.pres_wire.specs.Ids.{same_session}
 use Rattle.pres_wire.specs.declared.id.SessionId.{SessionId}
@@ -17,7 +17,7 @@ use Rattle.pres_fan.specs.Listeners.{session_cmp, listener_cmp, paths_of, IsList
 use Rattle.pres_fan.specs.Laws.{some_paths}
 use Rattle.pres_fan.proofs.Orders.{session_same, session_itself, same_by_cmp}
 use Rattle.pres_fan.proofs.Lists.{filter_map_later, all_filtered, passes, all_then, filter_all}
-use Rattle.pres_fan.proofs.Places.{From, less_apart, flip, all_from, from_apart, all_later, none_later, without_session_step}
+use Rattle.pres_fan.proofs.Places.{From, less_apart, flip, all_from, from_apart, all_later, none_later, without_session_step, paths_rise}
 
 abbrev pub Row : Type 0
 Row = SessionId × List Path
@@ -238,6 +238,9 @@ pub touched_rise : (writes : List BasicWrite) (ls : List Listener) → IsListene
 touched_rise writes ls held =
     let hits = filter (λ l. is_touched writes l.path) ls in
     sorted_rows (λ t. paths_of t hits) (sessions hits) (sessions_rise hits (IsStrictlySortedBy-filter listener_cmp (λ l. is_touched writes l.path) ls held.ordered))
+
+pub touched_paths_rise : (writes : List BasicWrite) (s : SessionId) (ls : List Listener) → IsListeners ls → IsStrictlySortedBy path_cmp (touched_of writes s ls)
+touched_paths_rise writes s ls held = IsStrictlySortedBy-filter path_cmp (is_touched writes) (paths_of s ls) (paths_rise s ls held)
 
 pub touched_sorted : (writes : List BasicWrite) (ls : List Listener) → IsListeners ls → T (is_sorted session_cmp (touched writes ls))
 touched_sorted writes ls held = subst T (sym (touched_rise writes ls held)) tt

@@ -31,9 +31,11 @@ DropSteps session listeners =
 abbrev pub PathsRise : SessionId → List Listener → Type 0
 PathsRise session listeners = IsListeners listeners → IsStrictlySortedBy path_cmp (paths_of session listeners)
 
--- The sessions that the writes touch stand once each, in order.
+-- The sessions that the writes touch stand once each, in order, and so do the places of each.
 abbrev pub TouchedRises : List BasicWrite → List Listener → Type 0
-TouchedRises writes listeners = IsListeners listeners → IsTrue (is_sorted session_cmp (touched writes listeners))
+TouchedRises writes listeners =
+    IsListeners listeners →
+    IsTrue (is_sorted session_cmp (touched writes listeners)) × ((session : SessionId) → IsStrictlySortedBy path_cmp (touched_of writes session listeners))
 
 -- none where there is no path
 abbrev pub some_paths : List Path → Option (List Path)

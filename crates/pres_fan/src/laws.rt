@@ -29,7 +29,7 @@ pub fn paths_rise()
     ensures { (session : SessionId) (listeners : List Listener) → PathsRise session listeners }
 {}
 
-/// The sessions that writes touch stand once each, in order.
+/// The sessions that writes touch stand once each, in order, and so do the places of each.
 pub fn touched_rises()
     ensures { (writes : List BasicWrite) (listeners : List Listener)
         → TouchedRises writes listeners }

@@ -111,9 +111,10 @@ impl Listeners {
         }
     }
 
-    /// How many places the session listens to.
+    /// How many places the session listens to. It takes no memory.
     pub fn count(&self, session: &SessionId) -> usize
-        ensures { result ≡ length (paths_of session.now self.now) }
+        ensures count { result ≡ length (paths_of session.now self.now) }
+        ensures listeners { IsListeners self.now }
     {
         self.listeners
             .iter()
@@ -132,11 +133,13 @@ impl Listeners {
             .any(|listener| is_of(listener, session, path))
     }
 
-    /// Whether the session listens to at most `MOST_PATHS` places with this one.
+    /// Whether the session listens to at most `MOST_PATHS` places with this one. It takes no
+    /// memory.
     pub fn may_listen(&self, session: &SessionId, path: &Path) -> bool
-        ensures { result ≡ nat_le
+        ensures room { result ≡ nat_le
             (length (paths_of session.now (with_listener session.now path.now self.now)))
             most_paths }
+        ensures listeners { IsListeners self.now }
     {
         self.has(session, path) || self.count(session) < MOST_PATHS
     }
@@ -148,6 +151,7 @@ impl Listeners {
         ensures full { IsErrOf result Full ↔ (most_paths
             < length (paths_of session.now (with_listener session.now path self.old))) }
         ensures unchanged { OnErr result (self.new ≡ self.old) }
+        ensures listeners { IsListeners self.old }
     {
         if !self.may_listen(session, &path) {
             return Err(FanFault::Full);
@@ -179,6 +183,7 @@ impl Listeners {
     pub fn touched(&self, alloc: Global, writes: &[Basic]) -> Result<Vec<Touched>, FanFault>
         ensures rows { IfOk result (λ rows. rows.items ≡ touched writes.now self.now) }
         ensures err { IfErr result (λ e. e ≡ Memory) }
+        ensures listeners { IsListeners self.now }
     {
         let mut rows = Vec::new(alloc);
         for listener in &self.listeners {

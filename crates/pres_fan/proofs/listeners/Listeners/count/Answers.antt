@@ -5,8 +5,8 @@ use Rattle.pres_fan.specs.Listeners.{paths_of}
 use Rattle.pres_fan.proofs.Places.{count_is}
 use Rattle.pres_fan.proofs.listeners.Listeners.count.Goals as goal
 
-pub returns : goal.returns
-returns c =
+pub returns-clause-count : goal.returns-clause-count
+returns-clause-count c =
     count_from_yields_List c.filter.result _ c.count.ensures.ran
     (YieldsList-from_filter _ (λ l. same_session c.args.session.now l.session) (YieldsList-at c.filter.ensures.source (YieldsList-from_rest c.self.inside.listeners.keys c.iter.ensures.rest)) c.filter.ensures.closure (λ x r q k. search (rules, tests)))
     ∙ sym (count_is c.args.session.now c.self.inside.listeners.keys)
