@@ -6,6 +6,7 @@ use Rattle.std.specs.List.Sorted.{IsStrictlySortedBy}
 use Rattle.std.specs.FinMap.Entries.{find, is_sorted, below_all}
 use Rattle.std.proofs.lemmas.Bool.{not-true, and_from}
 use Rattle.std.proofs.lemmas.List.{length_push, get_or_push, set_at, set-get_or}
+use Rattle.std.proofs.lemmas.List.Elements.{filter-append}
 use Rattle.std.proofs.lemmas.List.Kept.{IsStrictlySortedBy-filter}
 use Rattle.std.proofs.lemmas.Map.Keys.{sorted_tail}
 use Rattle.pres_tree.specs.Paths.{Path, path_cmp}
@@ -13,7 +14,7 @@ use Rattle.pres_write.specs.Basics.{BasicWrite}
 use Rattle.pres_wire.specs.Ids.{same_session}
 use Rattle.pres_wire.specs.declared.id.SessionId.{SessionId}
 use Rattle.pres_fan.specs.declared.listeners.Listener.{Listener}
-use Rattle.pres_fan.specs.Listeners.{session_cmp, listener_cmp, paths_of, IsListeners, without_session, is_touched, touched_of, sessions, by_session, touched, row_added}
+use Rattle.pres_fan.specs.Listeners.{session_cmp, listener_cmp, paths_of, IsListeners, without_session, is_touched, touched_of, sessions, by_session, touched}
 use Rattle.pres_fan.specs.Laws.{some_paths}
 use Rattle.pres_fan.proofs.Orders.{session_same, session_itself, same_by_cmp}
 use Rattle.pres_fan.proofs.Lists.{filter_map_later, all_filtered, passes, all_then, filter_all}
@@ -23,6 +24,12 @@ abbrev pub Row : Type 0
 Row = SessionId × List Path
 
 -- ---- a row at the end
+
+-- one listener more: in the last row where that is its session's, and else in a row of its own
+abbrev row_added : Listener → List Row → List Row
+row_added l [] = (l.session, l.path ∷ []) ∷ []
+row_added l (row ∷ []) = cond (same_session row.0 l.session) ((row.0, row.1 ++ l.path ∷ []) ∷ []) (row ∷ (l.session, l.path ∷ []) ∷ [])
+row_added l (row ∷ next ∷ rows) = row ∷ row_added l (next ∷ rows)
 
 pub added_last : (l : Listener) (rows : List Row) (row : Row) → row_added l (rows ++ row ∷ []) ≡ rows ++ row_added l (row ∷ [])
 added_last l [] row = refl
@@ -85,18 +92,9 @@ abbrev added : List Row → List Listener → List Row
 added rows [] = rows
 added rows (l ∷ ls) = added (row_added l rows) ls
 
--- those of them that the writes touch
-abbrev pub added_touched : List BasicWrite → List Row → List Listener → List Row
-added_touched writes rows [] = rows
-added_touched writes rows (l ∷ ls) = added_touched writes (cond (is_touched writes l.path) (row_added l rows) rows) ls
-
-added_hits : (writes : List BasicWrite) (rows : List Row) (ls : List Listener) → added_touched writes rows ls ≡ added rows (filter (λ l. is_touched writes l.path) ls)
-added_hits writes rows [] = refl
-added_hits writes rows (l ∷ ls) = by (is_touched writes l.path) (λ rs. added_hits writes rs ls) where
-  by : (b : Bool) → ((rs : List Row) → added_touched writes rs ls ≡ added rs (filter (λ m. is_touched writes m.path) ls)) →
-      added_touched writes (cond b (row_added l rows) rows) ls ≡ added rows (cond b (l ∷ filter (λ m. is_touched writes m.path) ls) (filter (λ m. is_touched writes m.path) ls))
-  by true h = h (row_added l rows)
-  by false h = h rows
+added_later : (rows : List Row) (ls : List Listener) (l : Listener) → added rows (ls ++ l ∷ []) ≡ row_added l (added rows ls)
+added_later rows [] l = refl
+added_later rows (m ∷ ls) l = added_later (row_added m rows) ls l
 
 -- ---- by session, the first one first
 
@@ -197,10 +195,58 @@ rows_of : (ls : List Listener) → IsStrictlySortedBy listener_cmp ls → added 
 rows_of [] sorted = refl
 rows_of (l ∷ ls) sorted = added_behind [] l.session (l.path ∷ []) ls (sorted_tail listener_cmp l ls sorted) (all_from l ls sorted) ∙ sym (by_first l ls)
 
-pub touched_rows : (writes : List BasicWrite) (ls : List Listener) → IsListeners ls → added_touched writes [] ls ≡ touched writes ls
-touched_rows writes ls held =
-    added_hits writes [] ls
-    ∙ rows_of (filter (λ l. is_touched writes l.path) ls) (IsStrictlySortedBy-filter listener_cmp (λ l. is_touched writes l.path) ls held.ordered)
+all_before : {A : Type 0} (P : A → Type 0) (xs ys : List A) → AllByRecursion P (xs ++ ys) → AllByRecursion P xs
+all_before P [] ys a = tt
+all_before P (x ∷ xs) ys a = (a.0, all_before P xs ys a.1)
+
+pub sorted_before : (xs ys : List Listener) → IsStrictlySortedBy listener_cmp (xs ++ ys) → IsStrictlySortedBy listener_cmp xs
+unfolding IsStrictlySortedBy
+sorted_before [] ys sorted = tt
+sorted_before (x ∷ xs) ys sorted = (all_before (λ y. listener_cmp x y ≡ Less) xs ys sorted.0, sorted_before xs ys sorted.1)
+
+-- the rows with one listener more are those of one listener more
+pub one_more_row : (l : Listener) (rows new : List Row) → new ≡ row_added l rows → (before : List Listener) → IsStrictlySortedBy listener_cmp (before ++ l ∷ []) → rows ≡ by_session before → new ≡ by_session (before ++ l ∷ [])
+one_more_row l rows new is before sorted e =
+    is
+    ∙ ap (row_added l) (e ∙ sym (rows_of before (sorted_before before (l ∷ []) sorted)))
+    ∙ sym (added_later [] before l)
+    ∙ rows_of (before ++ l ∷ []) sorted
+
+-- ---- the rows of some first listeners of the whole list
+
+pub record Made (writes : List BasicWrite) (whole : List Listener) (rows : List Row) (rest : List Listener) : Type 0 where
+  pub done : List Listener
+  pub whole_is : whole ≡ done ++ rest
+  pub rows_are : rows ≡ touched writes done
+
+-- the listeners that the writes touch, where one listener comes behind
+hits_later : (writes : List BasicWrite) (ls : List Listener) (l : Listener) (b : Bool) → is_touched writes l.path ≡ b →
+    filter (λ m. is_touched writes m.path) (ls ++ l ∷ []) ≡ filter (λ m. is_touched writes m.path) ls ++ cond b (l ∷ []) []
+hits_later writes ls l b e = filter-append (λ m. is_touched writes m.path) ls (l ∷ []) ∙ ap (λ c. filter (λ m. is_touched writes m.path) ls ++ cond c (l ∷ []) []) e
+
+pub made_past : (writes : List BasicWrite) (whole : List Listener) (rows : List Row) (l : Listener) (rest : List Listener) → is_touched writes l.path ≡ false → Made writes whole rows (l ∷ rest) → Made writes whole rows rest
+made_past writes whole rows l rest e made = record {
+  done = made.done ++ l ∷ [];
+  whole_is = made.whole_is ∙ sym (append_assoc made.done (l ∷ []) rest);
+  rows_are = made.rows_are ∙ sym (ap by_session (hits_later writes made.done l false e ∙ append-nil (filter (λ m. is_touched writes m.path) made.done)));
+}
+
+pub made_more : (writes : List BasicWrite) (whole : List Listener) (rows new : List Row) (l : Listener) (rest : List Listener) → IsListeners whole → is_touched writes l.path ≡ true →
+    ((before : List Listener) → IsStrictlySortedBy listener_cmp (before ++ l ∷ []) → rows ≡ by_session before → new ≡ by_session (before ++ l ∷ [])) →
+    Made writes whole rows (l ∷ rest) → Made writes whole new rest
+made_more writes whole rows new l rest held e more made =
+    let whole_is : whole ≡ (made.done ++ l ∷ []) ++ rest = made.whole_is ∙ sym (append_assoc made.done (l ∷ []) rest) in
+    let hits = hits_later writes made.done l true e in
+    let sorted : IsStrictlySortedBy listener_cmp (made.done ++ l ∷ []) = sorted_before (made.done ++ l ∷ []) rest (subst (IsStrictlySortedBy listener_cmp) whole_is held.ordered) in
+    record {
+      done = made.done ++ l ∷ [];
+      whole_is = whole_is;
+      rows_are =
+          more (filter (λ m. is_touched writes m.path) made.done)
+          (subst (IsStrictlySortedBy listener_cmp) hits (IsStrictlySortedBy-filter listener_cmp (λ m. is_touched writes m.path) (made.done ++ l ∷ []) sorted))
+          made.rows_are
+          ∙ sym (ap by_session hits);
+    }
 
 -- ---- what the rows tell
 

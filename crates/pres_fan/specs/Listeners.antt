@@ -1,5 +1,5 @@
 -- Listeners: which sessions listen to which places, and whom writes touch.
-use Rattle.std.specs.Prelude.{◌≤◌, ◌&&◌, ◌==◌, ℕ, Bool, not, List, [], ◌∷◌, ◌++◌, map, length, filter, if◌then◌else◌}
+use Rattle.std.specs.Prelude.{◌≤◌, ◌&&◌, ◌==◌, ℕ, Bool, not, List, [], ◌∷◌, map, length, filter}
 use Rattle.std.specs.List.{list_any}
 use Rattle.std.specs.List.Sorted.{IsStrictlySortedBy}
 use Rattle.std.specs.Ordering.{nat_cmp, ordering_then}
@@ -87,11 +87,3 @@ by_session listeners = map (λ s. (s, paths_of s listeners)) (sessions listeners
 -- each session that listens to a place that the writes touch, with those places
 abbrev pub touched : List BasicWrite → List Listener → List (SessionId × List Path)
 touched writes listeners = by_session (filter (λ l. is_touched writes l.path) listeners)
-
--- ---- rows as they are made
-
--- one listener more, behind the others: in the last row where that is its session's, and else in a row of its own
-abbrev pub row_added : Listener → List (SessionId × List Path) → List (SessionId × List Path)
-row_added l [] = (l.session, l.path ∷ []) ∷ []
-row_added l (row ∷ []) = if same_session row.0 l.session then (row.0, row.1 ++ l.path ∷ []) ∷ [] else row ∷ (l.session, l.path ∷ []) ∷ []
-row_added l (row ∷ next ∷ rows) = row ∷ row_added l (next ∷ rows)

@@ -1,10 +1,12 @@
 //! Listeners, and whom writes touch.
 
-ghost use Rattle.std.specs.Prelude.{◌≡◌, ◌↔◌, ◌<◌, ◌++◌, ◌∷◌, [], length, nat_le, IfOk, IfErr, IsErrOf, OnOk, OnErr};
+ghost use Rattle.std.specs.Prelude.{List, ◌≡◌, ◌↔◌, ◌<◌, ◌++◌, ◌∷◌, [], length, nat_le, IfOk, IfErr, IsErrOf, OnOk, OnErr};
 ghost use Rattle.std.specs.List.{list_any};
+ghost use Rattle.std.specs.List.Sorted.{IsStrictlySortedBy};
 ghost use Rattle.pres_tree.specs.Paths.{meet};
-ghost use Rattle.pres_fan.specs.Listeners.{most_paths, IsListeners, paths_of, listener_of, same_listener, with_listener, without, without_session, is_touched, touched, row_added};
+ghost use Rattle.pres_fan.specs.Listeners.{most_paths, IsListeners, paths_of, listener_of, same_listener, with_listener, without, without_session, is_touched, touched, by_session, listener_cmp};
 ghost use Rattle.pres_fan.specs.declared.fault.FanFault.TheVariants.{Full, Memory};
+ghost use Rattle.pres_fan.specs.declared.listeners.Listener.{Listener};
 
 use crate::fault::FanFault;
 use pres_tree::Path;
@@ -145,7 +147,7 @@ impl Listeners {
     }
 
     /// The session listens to the place; twice is as once. Full where it would listen to more than
-    /// `MOST_PATHS` places.
+    /// `MOST_PATHS` places; at a refusal nothing has changed.
     pub fn on(&mut self, alloc: Global, session: &SessionId, path: Path) -> Result<(), FanFault>
         ensures ok { OnOk result (self.new ≡ with_listener session.now path self.old) }
         ensures full { IsErrOf result Full ↔ (most_paths
@@ -216,10 +218,13 @@ fn is_touched(writes: &[Basic], path: &Path) -> bool
     writes.iter().any(|write| meet(write.path(), path))
 }
 
-// Adds the listener's place to the last row, or to a row of its own where that is of another
-// session.
+// Adds a listener that comes behind those of the rows: its place to the last row, or to a row of
+// its own where that is of another session.
 fn add(rows: &mut Vec<Touched>, alloc: Global, listener: &Listener) -> Result<(), AllocError>
-    ensures { OnOk result (rows.new.items ≡ row_added listener.now rows.old.items) }
+    ensures { (before : List Listener)
+        → IsStrictlySortedBy listener_cmp (before ++ listener.now ∷ [])
+        → rows.old.items ≡ by_session before
+        → OnOk result (rows.new.items ≡ by_session (before ++ listener.now ∷ [])) }
 {
     let path = listener.path.copy(alloc)?;
     if let Some(last) = rows.last_mut() {

@@ -1,7 +1,6 @@
-use Rattle.std.proofs.Common.{◌≡◌, []}
-use Rattle.pres_fan.proofs.Rows.{added_touched}
+use Rattle.pres_fan.proofs.Rows.{Made}
 use Rattle.pres_fan.proofs.listeners.Listeners.touched.Given as goal
 
--- the rows so far, with those of the rest
+-- the rows are those of the listeners so far
 abbrev pub invariant-loop-listener : goal.invariant-loop-listener
-invariant-loop-listener l = added_touched l.writes l.rows.items l.listener-iterator ≡ added_touched l.writes [] l.self
+invariant-loop-listener l = Made l.writes l.self l.rows.items l.listener-iterator
