@@ -2,11 +2,11 @@
 
 ghost use Rattle.std.specs.Prelude.{◌≡◌, IfOk};
 ghost use Rattle.serde_json.specs.View.{view};
-ghost use Rattle.pres_write.specs.Drafts.{is_timestamp, settled};
+ghost use Rattle.pres_write.specs.Drafts.{is_timestamp, settled, slot_printing};
 
 use crate::moment::Moment;
 use pres_tree::{Change, Form, Leaf, Nested, Scalar, Tree, TreeFault};
-use serde_json::{Map, Value};
+use serde_json::{Value, json};
 use std::alloc::{AllocError, Global};
 
 // The name that only placeholders have, as in Firebase Realtime Database's server values.
@@ -34,6 +34,13 @@ fn is_timestamp(value: &Value) -> bool
         Value::String(text) => text.as_str() == "timestamp",
         _ => false,
     }
+}
+
+// The JSON value that stands for the moment.
+fn timestamp(alloc: Global) -> Result<Value, AllocError>
+    ensures { IfOk result (λ made. view made ≡ slot_printing Slot.Timestamp) }
+{
+    json!(in alloc; {".sv": "timestamp"})
 }
 
 impl Form<Slot> for Slot {
@@ -88,13 +95,7 @@ impl Leaf for Slot {
     fn print(&self, alloc: Global) -> Result<Value, AllocError> {
         match self {
             Slot::Fixed(scalar) => scalar.print(alloc),
-            Slot::Timestamp => {
-                let mut members = Map::new(alloc);
-                let name = String::from_str(alloc, PLACEHOLDER)?;
-                let word = Value::String(String::from_str(alloc, "timestamp")?);
-                drop(members.insert(name, word)?);
-                Ok(Value::Object(members))
-            }
+            Slot::Timestamp => timestamp(alloc),
         }
     }
 

@@ -1,9 +1,11 @@
 //! Operations, in code and in JSON, and what they come to.
 
-ghost use Rattle.std.specs.Prelude.{◌≡◌, [], IfOk, IfErr, Ok, Err, MatchResult, string_bytes};
+ghost use Rattle.std.specs.Prelude.{◌≡◌, [], IfOk, IfErr, Ok, Err, MatchResult, codes, string_bytes};
+ghost use Rattle.std.specs.Option.{option_and_then};
+ghost use Rattle.serde_json.specs.Data.{null};
 ghost use Rattle.serde_json.specs.View.{view};
 ghost use Rattle.pres_tree.specs.declared.fault.TreeFault.TheVariants.{Memory};
-ghost use Rattle.serde_json.specs.Find.{as_object};
+ghost use Rattle.serde_json.specs.Find.{as_object, get};
 ghost use Rattle.pres_tree.specs.Rows.{Fits};
 ghost use Rattle.pres_write.specs.Basics.{Apart};
 ghost use Rattle.pres_write.specs.Outcomes.{resolved, writes_in};
@@ -103,17 +105,17 @@ fn one_write(
     Ok(Outcome::Wrote(Items::one(alloc, write)?))
 }
 
-// The update of a path's text and the JSON value of its places.
-fn read_update(alloc: Global, text: &str, values: &Value) -> Result<Op, WriteFault>
-    ensures { MatchResult result
-        (λ op. with_part (as_object (view values.now)) (update_read text.now) ≡ Ok op)
-        (λ e. IsRefusal (with_part (as_object (view values.now)) (update_read text.now)) e) }
+// The same of a placement that isn't needed any more.
+fn owned_write(
+    alloc: Global,
+    placement: Placement,
+    moment: Moment,
+) -> Result<Outcome, AllocError>
+    ensures outcome { IfOk result (λ outcome. outcome ≡ resolved [] moment (Op.Set placement)) }
+    ensures apart { IfOk result (λ outcome. Apart (writes_in outcome)) }
 {
-    let Some(members) = values.as_object() else {
-        return Err(WriteFault::Shape);
-    };
-    let path = Path::parse(alloc, text)?;
-    Ok(Op::Update(Update::from_members(alloc, path, members)?))
+    let (path, draft) = placement.into_parts();
+    one_write(alloc, path, &draft, moment)
 }
 
 // The set of a path's text and a JSON value.
@@ -127,8 +129,49 @@ fn read_set(alloc: Global, text: &str, value: &Value) -> Result<Op, WriteFault>
     Ok(Op::Set(Placement::fitting(path, draft)))
 }
 
+// The set of null at a path's text.
+fn read_remove(alloc: Global, text: &str) -> Result<Op, WriteFault>
+    ensures { MatchResult result
+        (λ op. set_read text.now null ≡ Ok op)
+        (λ e. IsRefusal (set_read text.now null) e) }
+{
+    read_set(alloc, text, &Value::Null)
+}
+
+// The set of the JSON value of its form, at a path's text.
+fn read_put(alloc: Global, value: &Value, text: &str) -> Result<Op, WriteFault>
+    ensures { MatchResult result
+        (λ op. with_part (get (codes "value") (view value.now)) (set_read text.now) ≡ Ok op)
+        (λ e. IsRefusal (with_part (get (codes "value") (view value.now)) (set_read text.now)) e) }
+{
+    let Some(new) = value.get("value") else {
+        return Err(WriteFault::Shape);
+    };
+    read_set(alloc, text, new)
+}
+
+// The update of the JSON value of its form, at a path's text.
+fn read_update(alloc: Global, value: &Value, text: &str) -> Result<Op, WriteFault>
+    ensures { MatchResult result
+        (λ op. with_part (option_and_then as_object (get (codes "values") (view value.now)))
+            (update_read text.now) ≡ Ok op)
+        (λ e. IsRefusal (with_part (option_and_then as_object (get (codes "values") (view value.now)))
+            (update_read text.now)) e) }
+{
+    let Some(members) = value.get("values").and_then(Value::as_object) else {
+        return Err(WriteFault::Shape);
+    };
+    let path = Path::parse(alloc, text)?;
+    Ok(Op::Update(Update::from_members(alloc, path, members)?))
+}
+
 // The transaction of a path's text and two JSON values.
-fn read_tx(alloc: Global, text: &str, expect: &Value, value: &Value) -> Result<Op, WriteFault>
+fn read_comparison(
+    alloc: Global,
+    text: &str,
+    expect: &Value,
+    value: &Value,
+) -> Result<Op, WriteFault>
     ensures { MatchResult result
         (λ op. tx_read text.now (view expect.now) (view value.now) ≡ Ok op)
         (λ e. IsRefusal (tx_read text.now (view expect.now) (view value.now)) e) }
@@ -139,34 +182,35 @@ fn read_tx(alloc: Global, text: &str, expect: &Value, value: &Value) -> Result<O
     Ok(Op::Tx(Transaction::fitting(path, expect, new)))
 }
 
+// The transaction of the JSON value of its form, at a path's text.
+fn read_tx(alloc: Global, value: &Value, text: &str) -> Result<Op, WriteFault>
+    ensures { MatchResult result
+        (λ op. with_part (get (codes "expect") (view value.now)) (λ expect.
+            with_part (get (codes "value") (view value.now)) (tx_read text.now expect)) ≡ Ok op)
+        (λ e. IsRefusal (with_part (get (codes "expect") (view value.now)) (λ expect.
+            with_part (get (codes "value") (view value.now)) (tx_read text.now expect))) e) }
+{
+    let Some(expect) = value.get("expect") else {
+        return Err(WriteFault::Shape);
+    };
+    let Some(new) = value.get("value") else {
+        return Err(WriteFault::Shape);
+    };
+    read_comparison(alloc, text, expect, new)
+}
+
 // The operation of the form that the word names, at a path's text.
 fn read_form(alloc: Global, value: &Value, word: &str, text: &str) -> Result<Op, WriteFault>
     ensures { MatchResult result
         (λ op. form_read (view value.now) word.now text.now ≡ Ok op)
         (λ e. IsRefusal (form_read (view value.now) word.now text.now) e) }
 {
-    if word == "remove" {
-        return read_set(alloc, text, &Value::Null);
-    }
-    if word == "update" {
-        let Some(values) = value.get("values") else {
-            return Err(WriteFault::Shape);
-        };
-        return read_update(alloc, text, values);
-    }
-    let Some(new) = value.get("value") else {
-        return Err(WriteFault::Shape);
-    };
-    if word == "set" {
-        return read_set(alloc, text, new);
-    }
-    let Some(expect) = value.get("expect") else {
-        return Err(WriteFault::Shape);
-    };
-    if word == "tx" {
-        read_tx(alloc, text, expect, new)
-    } else {
-        Err(WriteFault::Shape)
+    match word {
+        "remove" => read_remove(alloc, text),
+        "set" => read_put(alloc, value, text),
+        "update" => read_update(alloc, value, text),
+        "tx" => read_tx(alloc, value, text),
+        _ => Err(WriteFault::Shape),
     }
 }
 
@@ -230,12 +274,8 @@ impl Op {
         ensures err { IfErr result (λ e. e ≡ TreeRefused Memory) }
     {
         match self {
-            Op::Set(placement) => {
-                let (path, draft) = placement.into_parts();
-                Ok(one_write(alloc, path, &draft, moment)?)
-            }
-            Op::Update(update) => Ok(Outcome::Wrote(update.writes(alloc, moment)?)),
-            Op::Tx(tx) => Ok(tx.compare(alloc, tree, moment)?),
+            Op::Set(placement) => Ok(owned_write(alloc, placement, moment)?),
+            op => op.resolve(alloc, tree, moment),
         }
     }
 
