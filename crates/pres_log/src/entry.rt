@@ -2,6 +2,7 @@
 
 ghost use Rattle.std.specs.Prelude.{◌≡◌, IsTrue, IfOk};
 ghost use Rattle.pres_log.specs.Batches.{may_hold};
+ghost use Rattle.pres_log.specs.Logs.{writes_of};
 
 use pres_tree::Path;
 use pres_wire::{Limit, Number, SessionId, Why};
@@ -56,6 +57,18 @@ pub enum Entry {
         session: SessionId,
         q: Number,
         why: Limit,
+    },
+    /// By its message `q` the session listens to the path.
+    On {
+        session: SessionId,
+        q: Number,
+        path: Path,
+    },
+    /// By its message `q` the session listens to the path no more.
+    Off {
+        session: SessionId,
+        q: Number,
+        path: Path,
     },
 }
 
@@ -112,6 +125,30 @@ impl Entry {
                 q: *q,
                 why: *why,
             }),
+            Entry::On { session, q, path } => Ok(Entry::On {
+                session: session.copy(alloc)?,
+                q: *q,
+                path: path.copy(alloc)?,
+            }),
+            Entry::Off { session, q, path } => Ok(Entry::Off {
+                session: session.copy(alloc)?,
+                q: *q,
+                path: path.copy(alloc)?,
+            }),
+        }
+    }
+
+    /// The writes that it makes: those of an operation's outcome, or those due at an end.
+    pub fn writes(&self) -> &[Basic]
+        ensures { result.now ≡ writes_of self.now }
+    {
+        match self {
+            Entry::Op { outcome, .. } => match outcome {
+                Outcome::Wrote(writes) => writes.as_slice(),
+                Outcome::Stale(_) => &[],
+            },
+            Entry::Ended { rows, .. } => rows.as_slice(),
+            _ => &[],
         }
     }
 }

@@ -11,24 +11,20 @@ use Rattle.std.proofs.lemmas.Bool.{and_parts}
 use Rattle.std.proofs.lemmas.List.Folds.{list_all-append}
 use Rattle.std.proofs.lemmas.List.Elements.{filter_map-append}
 use Rattle.pres_write.specs.declared.basic.Basic.{Basic}
-use Rattle.pres_write.specs.Outcomes.{kept_of}
 use Rattle.pres_wire.specs.declared.id.SessionId.{SessionId}
 use Rattle.pres_wire.specs.declared.id.Why.{Why}
-use Rattle.pres_wire.specs.declared.down.Down.TheVariants.{Welcome, Reply, Armed, Denied, Gone}
 use Rattle.pres_log.specs.declared.entry.Entry.{Entry}
 use Rattle.pres_log.specs.declared.entry.Entry.TheVariants as entry
 use Rattle.pres_tree.specs.Paths.{sorted_by}
 use Rattle.pres_wire.specs.Ids.{ClientId, client_cmp, same_client, is_earlier, stamp_of}
 use Rattle.pres_server.specs.Sessions.{session_of, count, opened_by, opened, opens, ends, is_open, sessions_of, open_entries, open_sessions_of, open_sessions, is_newest, last_of}
-use Rattle.pres_server.specs.Streams.{Unnumbered, stream, sent_for, own_answer, numbered_from, added, answers_to}
 use Rattle.pres_server.specs.Invariants.{MayComeUncounted}
 use Rattle.pres_server.specs.SessionPlans.{plan}
-use Rattle.pres_server.specs.Parts.{LivePart, Part, IsAsked, session_with, part_of, part_step, live_step, one_more, live_in, open_step, message_next, reply_next, answer_by, Sound, listed, comes_after}
+use Rattle.pres_server.specs.Parts.{LivePart, Part, IsAsked, session_with, part_of, part_step, live_step, one_more, live_in, open_step, Sound, listed, comes_after}
 use Rattle.pres_server.proofs.PlanSteps.{number_in, asked_by}
 use Rattle.pres_server.proofs.Since.{client_same, client_itself, session_same, session_itself, any-append}
-use Rattle.pres_server.proofs.StreamSteps.{stream_step}
 use Rattle.pres_server.proofs.Steps.{is_open-same, filter_alike, filter-filter}
-use Rattle.pres_server.proofs.Parts.{later_still, not_ended, open_of_same, open_of_opened, only_open, ended_own, ended_other, opened_own, opened_other, no_more, no_row, row_there, sent_again, part_after}
+use Rattle.pres_server.proofs.Parts.{later_still, not_ended, open_of_same, open_of_opened, only_open, ended_own, ended_other, opened_own, opened_other, no_more, part_after}
 
 -- ---- the order of clients
 
@@ -70,7 +66,7 @@ one_open_after es m (entry.Open s) sound f c =
     let opened_now = open_of_opened c es s (not_ended s es sound f.0) in
     elim (same_client c s.client) as (λ b. same_client c s.client ≡ b → open_sessions_of c (es ++ e ∷ []) ≡ listed c (live_in (open_sessions_of c (es ++ e ∷ [])) (es ++ e ∷ []))) [
       | true ↦ λ k.
-          let l : LivePart = record { stamp = (stamp_of s); count = 0; sent = 0; plan = [] } in
+          let l : LivePart = record { stamp = (stamp_of s); count = 0; plan = [] } in
           let c_is = client_same c s.client k in
           one_open_from c _ (es ++ e ∷ []) (Some l)
           (opened_now ∙ (λ i. (ap (λ x. open_sessions_of x es) c_is ∙ f.1) i ++ cond (k i) (s ∷ []) []) ∙ λ i. (session_with (sym c_is i) (stamp_of s)) ∷ [])
@@ -81,6 +77,8 @@ one_open_after es m (entry.Again s q n) sound f c = one_open_same c es (es ++ en
 one_open_after es m (entry.Left s q puts) sound f c = one_open_same c es (es ++ entry.Left s q puts ∷ []) sound (open_of_same c es (entry.Left s q puts) refl (λ _. refl) (λ _. refl))
 one_open_after es m (entry.Cancelled s q path) sound f c = one_open_same c es (es ++ entry.Cancelled s q path ∷ []) sound (open_of_same c es (entry.Cancelled s q path) refl (λ _. refl) (λ _. refl))
 one_open_after es m (entry.Denied s q why) sound f c = one_open_same c es (es ++ entry.Denied s q why ∷ []) sound (open_of_same c es (entry.Denied s q why) refl (λ _. refl) (λ _. refl))
+one_open_after es m (entry.On s q path) sound f c = one_open_same c es (es ++ entry.On s q path ∷ []) sound (open_of_same c es (entry.On s q path) refl (λ _. refl) (λ _. refl))
+one_open_after es m (entry.Off s q path) sound f c = one_open_same c es (es ++ entry.Off s q path ∷ []) sound (open_of_same c es (entry.Off s q path) refl (λ _. refl) (λ _. refl))
 one_open_after es m (entry.Ended s q why rows) sound f c =
     let e = entry.Ended s q why rows in
     elim (same_client s.client c) as (λ b. same_client s.client c ≡ b → open_sessions_of c (es ++ e ∷ []) ≡ listed c (live_in (open_sessions_of c (es ++ e ∷ [])) (es ++ e ∷ []))) [
@@ -118,6 +116,8 @@ newest_after es m (entry.Again t q n) sound f s = newest_same s es (es ++ entry.
 newest_after es m (entry.Left t q puts) sound f s = newest_same s es (es ++ entry.Left t q puts ∷ []) sound (no_more s.client es (entry.Left t q puts) refl)
 newest_after es m (entry.Cancelled t q path) sound f s = newest_same s es (es ++ entry.Cancelled t q path ∷ []) sound (no_more s.client es (entry.Cancelled t q path) refl)
 newest_after es m (entry.Denied t q why) sound f s = newest_same s es (es ++ entry.Denied t q why ∷ []) sound (no_more s.client es (entry.Denied t q why) refl)
+newest_after es m (entry.On t q path) sound f s = newest_same s es (es ++ entry.On t q path ∷ []) sound (no_more s.client es (entry.On t q path) refl)
+newest_after es m (entry.Off t q path) sound f s = newest_same s es (es ++ entry.Off t q path ∷ []) sound (no_more s.client es (entry.Off t q path) refl)
 newest_after es m (entry.Ended t q why rows) sound f s = newest_same s es (es ++ entry.Ended t q why rows ∷ []) sound (no_more s.client es (entry.Ended t q why rows) refl)
 
 any_then : (a b c d : Bool) → (a ≡ true → c ≡ true) → (b ≡ true → c ≡ true) → (a || (b || false)) ≡ true → (c || (d || false)) ≡ true
@@ -135,6 +135,8 @@ ended_after es m e sound f s h =
       by (entry.Left t q puts) g k = absurd (true≢false (sym k))
       by (entry.Cancelled t q path) g k = absurd (true≢false (sym k))
       by (entry.Denied t q why) g k = absurd (true≢false (sym k))
+      by (entry.On t q path) g k = absurd (true≢false (sym k))
+      by (entry.Off t q path) g k = absurd (true≢false (sym k))
       by (entry.Ended t q why rows) g k = ap (λ x. list_any (opens x) es) (session_same s t k) ∙ (and_parts (list_any (opens t) es) _ g.0).0
 
 some_same : (a b : ℕ) → Some b ≡ Some a → a ≡ b
@@ -148,6 +150,8 @@ next_number es m (entry.Open s) f q k = absurd (cc)
 next_number es m (entry.Op s n i op outcome) f q k = absurd (cc)
 next_number es m (entry.Again s n i) f q k = absurd (cc)
 next_number es m (entry.Denied s n why) f q k = absurd (cc)
+next_number es m (entry.On s n path) f q k = absurd (cc)
+next_number es m (entry.Off s n path) f q k = absurd (cc)
 next_number es m (entry.Ended s n why rows) f q k = absurd (cc)
 
 asked_said : (es : List Entry) (m : ℕ) (e : Entry) → Sound es → MayComeUncounted es m e → is_open (session_of e) es ≡ true → IsAsked (option_map (one_more e) (part_of (session_of e).client es).live)
@@ -166,6 +170,8 @@ asked_own es m (entry.Again s q n) sound f = asked_said es m (entry.Again s q n)
 asked_own es m (entry.Left s q puts) sound f = asked_said es m (entry.Left s q puts) sound f f.0.0
 asked_own es m (entry.Cancelled s q path) sound f = asked_said es m (entry.Cancelled s q path) sound f f.0.0
 asked_own es m (entry.Denied s q why) sound f = asked_said es m (entry.Denied s q why) sound f f.0
+asked_own es m (entry.On s q path) sound f = asked_said es m (entry.On s q path) sound f f.0.0
+asked_own es m (entry.Off s q path) sound f = asked_said es m (entry.Off s q path) sound f f.0
 
 pub sound_start : Sound []
 sound_start = record { one_open = λ c. refl; newest = λ s. refl; ended = λ s h. absurd (true≢false (sym h)); asked = λ c. tt }
@@ -284,6 +290,8 @@ open_after es m (entry.Again s q n) sound f = ap (λ l. length (map (λ (x : Cli
 open_after es m (entry.Left s q puts) sound f = ap (λ l. length (map (λ (x : ClientId × SessionId). x.1) l)) (open_entries_same es (entry.Left s q puts) refl (λ _. refl) (λ _. refl))
 open_after es m (entry.Cancelled s q path) sound f = ap (λ l. length (map (λ (x : ClientId × SessionId). x.1) l)) (open_entries_same es (entry.Cancelled s q path) refl (λ _. refl) (λ _. refl))
 open_after es m (entry.Denied s q why) sound f = ap (λ l. length (map (λ (x : ClientId × SessionId). x.1) l)) (open_entries_same es (entry.Denied s q why) refl (λ _. refl) (λ _. refl))
+open_after es m (entry.On s q path) sound f = ap (λ l. length (map (λ (x : ClientId × SessionId). x.1) l)) (open_entries_same es (entry.On s q path) refl (λ _. refl) (λ _. refl))
+open_after es m (entry.Off s q path) sound f = ap (λ l. length (map (λ (x : ClientId × SessionId). x.1) l)) (open_entries_same es (entry.Off s q path) refl (λ _. refl) (λ _. refl))
 open_after es m (entry.Ended s q why rows) sound f =
     let found : find client_cmp s.client (open_entries es) ≡ Some s = find_open s.client es ∙ ap first_of_list (only_open s es sound f.0) in
     let rest : 1 + length (where_key client_cmp (λ x. not (same_client s.client x)) (open_entries es)) ≡ length (open_entries es) =
@@ -292,44 +300,3 @@ open_after es m (entry.Ended s q why rows) sound f =
     ∙ length_without client_cmp clients_total s.client (open_entries es) (open_is_sorted es) in
     let less : length (where_key client_cmp (λ x. not (same_client s.client x)) (open_entries es)) ≡ length (open_entries es) - 1 = omega arith in
     length_open (es ++ entry.Ended s q why rows ∷ []) ∙ ap length (open_entries_ended es s q why rows sound f.0) ∙ less ∙ ap (λ n. n - 1) (sym (length_open es))
-
--- the answers
-drop_first : {A : Type 0} (xs ys : List A) → drop (length xs) (xs ++ ys) ≡ ys
-drop_first [] ys = refl
-drop_first (x ∷ xs) ys = drop_first xs ys
-
-added_one : (s : SessionId) (es : List Entry) (e : Entry) (msg : Unnumbered) → Sound es → is_open s es ≡ true → sent_for s (es ++ e ∷ []) e ≡ msg ∷ [] → added s es e ≡ message_next (live_in (open_sessions_of s.client es) es) msg
-added_one s es e msg sound o one =
-    ap (drop (length (stream s es))) (stream_step s es e o)
-    ∙ drop_first (stream s es) (numbered_from (length (stream s es) + 1) (sent_for s (es ++ e ∷ []) e))
-    ∙ ap (numbered_from (length (stream s es) + 1)) one
-    ∙ ap (λ l. message_next (live_in l es) msg) (sym (only_open s es sound o))
-
--- the answers of an entry are those that the part of its client gives
-pub answers_are : (es : List Entry) (m : ℕ) (e : Entry) → Sound es → MayComeUncounted es m e → answers_to es e ≡ answer_by (length es + 1) e (part_of (session_of e).client es)
-answers_are es m (entry.Open s) sound f = λ i. Welcome s (length-append es (entry.Open s ∷ []) i) (length (no_row s.client es (entry.Open s) refl i)) ∷ []
-answers_are es m (entry.Op s q n op outcome) sound f =
-    let e = entry.Op s q n op outcome in
-    added_one s es e (λ r. Reply s r (length es + 1) q n (length es + 1) (kept_of outcome)) sound f.0.0
-    (ap (λ b. cond b (own_answer (es ++ e ∷ []) e) []) (session_itself s) ∙ λ i. (λ r. Reply s r (length-append es (e ∷ []) i) q n (length-append es (e ∷ []) i) (kept_of outcome)) ∷ [])
-answers_are es m (entry.Again s q n) sound f =
-    let e = entry.Again s q n in
-    let row = row_there es s.client n f.1 f.2 in
-    added_one s es e (λ r. Reply s r (length es + 1) q n row.0.done row.0.kept) sound f.0.0 (sent_again es s q n row.0 row.1)
-    ∙ ap (reply_next s (length es + 1) q n (live_in (open_sessions_of s.client es) es)) (sym row.1)
-answers_are es m (entry.Left s q puts) sound f =
-    let e = entry.Left s q puts in
-    added_one s es e (λ r. Armed s r (length es + 1) q) sound f.0.0
-    (ap (λ b. cond b (own_answer (es ++ e ∷ []) e) []) (session_itself s) ∙ λ i. (λ r. Armed s r (length-append es (e ∷ []) i) q) ∷ [])
-answers_are es m (entry.Cancelled s q path) sound f =
-    let e = entry.Cancelled s q path in
-    added_one s es e (λ r. Armed s r (length es + 1) q) sound f.0.0
-    (ap (λ b. cond b (own_answer (es ++ e ∷ []) e) []) (session_itself s) ∙ λ i. (λ r. Armed s r (length-append es (e ∷ []) i) q) ∷ [])
-answers_are es m (entry.Denied s q why) sound f =
-    let e = entry.Denied s q why in
-    added_one s es e (λ r. Denied s r (length es + 1) q why) sound f.0
-    (ap (λ b. cond b (own_answer (es ++ e ∷ []) e) []) (session_itself s) ∙ λ i. (λ r. Denied s r (length-append es (e ∷ []) i) q why) ∷ [])
-answers_are es m (entry.Ended s q why rows) sound f =
-    let e = entry.Ended s q why rows in
-    added_one s es e (λ r. Gone s r (length es + 1) why) sound f.0
-    (ap (λ b. cond b (own_answer (es ++ e ∷ []) e) []) (session_itself s) ∙ λ i. (λ r. Gone s r (length-append es (e ∷ []) i) why) ∷ [])

@@ -5,6 +5,8 @@ use Rattle.std.proofs.lemmas.Bool.{and_parts, and_from, eqb-true, eq-eqb}
 use Rattle.std.proofs.lemmas.Bool.Decides.{nat_tests}
 use Rattle.std.proofs.lemmas.Option.{slice_get_past, slice_get_cases}
 use Rattle.pres_tree.specs.declared.scalar.Scalar.{Scalar}
+use Rattle.pres_tree.specs.Paths.{Path}
+use Rattle.pres_fan.specs.Listeners.{most_paths, add_path}
 use Rattle.pres_tree.specs.Rows.{Rows}
 use Rattle.pres_write.specs.declared.op.Op.{Op}
 use Rattle.pres_write.specs.Outcomes.{resolved}
@@ -29,16 +31,17 @@ use Rattle.pres_server.specs.declared.input.Input.{Input}
 use Rattle.pres_server.specs.declared.input.Input.TheVariants as input
 use Rattle.pres_server.specs.Sessions.{session_of, opens, is_open, is_newest, count, open_sessions_of, open_sessions, last_of}
 use Rattle.pres_server.specs.Outcomes.{rows_for, ops}
-use Rattle.pres_server.specs.Streams.{stream}
+use Rattle.pres_server.specs.Listening.{listened}
 use Rattle.pres_server.specs.LegalLog.{MayCome, MayComeTogether, IsPlain, Supersedes, LeavesRoom, IsEndNumber}
 use Rattle.pres_server.specs.SessionPlans.{plan, due_at}
 use Rattle.pres_server.specs.Heard.{State, late_client}
-use Rattle.pres_server.specs.Turns.{Decision, refused, quiet, makes, op_by, in_order, if_open, end_of, opening, ends_if_open, ends_first, ends_late, within_rows, leaves, hello, message, limited, wanted}
+use Rattle.pres_server.specs.Turns.{Decision, refused, quiet, makes, op_by, in_order, if_open, end_of, opening, ends_if_open, ends_first, ends_late, within_rows, within_paths, leaves, listens, hello, message, limited, wanted}
 use Rattle.pres_server.specs.Invariants.{MayComeUncounted}
-use Rattle.pres_server.specs.Parts.{LivePart, part_of, live_in, open_step, Sound, listed, session_with, same_stamp, is_live, said_by, plan_in, plan_after, end_by, leaves_by, hello_by, message_by, ends_live, ends_of, ends_late_by, wanted_by, open_steps, limited_by}
+use Rattle.pres_server.specs.Parts.{LivePart, part_of, live_in, open_step, Sound, listed, session_with, same_stamp, is_live, said_by, plan_in, plan_after, end_by, leaves_by, listens_by, hello_by, message_by, ends_live, ends_of, ends_late_by, wanted_by, open_steps, limited_by}
 use Rattle.pres_server.proofs.Since.{client_itself, session_itself}
 use Rattle.pres_server.proofs.Steps.{or_false, open_listed, in_open}
 use Rattle.pres_server.proofs.PlanSteps.{plan_own}
+use Rattle.pres_server.proofs.ListenSteps.{listened_own}
 use Rattle.pres_server.proofs.Parts.{only_open, ended_own, no_more}
 use Rattle.pres_server.proofs.AfterEntry.{sound_after, open_after}
 
@@ -62,7 +65,7 @@ live_is s es sound =
 said_is : (s : SessionId) (q : ℕ) (d : Decision) (es : List Entry) → Sound es → if_open es s (in_order es s q d) ≡ said_by (part_of s.client es).live s q d
 said_is s q d es sound = elim (is_open s es) as (λ b. is_open s es ≡ b → cond b (in_order es s q d) (refused fault.Session) ≡ said_by (part_of s.client es).live s q d) [
   | true ↦ λ o.
-      let l : LivePart = record { stamp = (stamp_of s); count = count s es; sent = length (stream s es); plan = plan s es } in
+      let l : LivePart = record { stamp = (stamp_of s); count = count s es; plan = plan s es } in
       let same : same_stamp (stamp_of s) (stamp_of s) ≡ true = stamp_itself (stamp_of s) in
       ap (λ b. cond b (in_order es s q d) (refused fault.Session)) (sym same) ∙ ap (λ xs. said_by (live_in xs es) s q d) (sym (only_open s es sound o))
   | false ↦ λ o. by (part_of s.client es).live (sym (live_is s es sound) ∙ o)
@@ -157,15 +160,26 @@ late_is : (es : List Entry) (m : ℕ) (o : Option ClientId) → Sound es → end
 late_is es m None sound = refl
 late_is es m (Some c) sound = first_is es m why.Lease c sound
 
-message_is : (es : List Entry) (m : ℕ) (u : Up) → Sound es → message es m u ≡ message_by (part_of (session_in u).client es) (tree es) m u
+-- what an open session listens to, and nothing for another
+abbrev pub listens_in : List Entry → SessionId → List Path
+listens_in es s = cond (is_open s es) (listened s es) []
+
+listens_is : (es : List Entry) (s : SessionId) (q : ℕ) (path : Path) → is_open s es ≡ true → listens es s q path ≡ listens_by (listens_in es s) s q path
+listens_is es s q path o =
+    ap (λ paths. within_paths (length paths) s q path)
+    (listened_own s es (entry.On s q path) (and_parts (list_any (opens s) es) _ o).0 (session_itself s) ∙ ap (λ b. add_path path (cond b (listened s es) [])) (sym o))
+
+message_is : (es : List Entry) (m : ℕ) (u : Up) → Sound es → message es m u ≡ message_by (part_of (session_in u).client es) (listens_in es (session_in u)) (tree es) m u
 message_is es m (up.Hello s) sound = hello_is s m es sound
 message_is es m (up.Op s q n op) sound = said_is s q _ es sound
 message_is es m (up.Left s q op) sound = said_same s q _ _ es sound (λ o. leaves_is es (entry.Left s q (puts_of op)) q sound o)
 message_is es m (up.Cancel s q path) sound = said_same s q _ _ es sound (λ o. leaves_is es (entry.Cancelled s q path) q sound o)
+message_is es m (up.On s q path) sound = said_same s q _ _ es sound (λ o. listens_is es s q path o)
+message_is es m (up.Off s q path) sound = said_is s q _ es sound
 message_is es m (up.Bye s q) sound = said_same s q _ _ es sound (λ o. ap (λ e. makes (e ∷ [])) (end_is es m (Some q) why.Bye s sound o))
 message_is es m (up.Beat s) sound = ap (λ b. cond b quiet (refused fault.Session)) (live_is s es sound)
 
-pub wanted_is : (state : State) (m : ℕ) (i : Input) → Sound (entries state.log) → wanted state m i ≡ wanted_by (λ c. part_of c (entries state.log)) state.heard (tree (entries state.log)) m i
+pub wanted_is : (state : State) (m : ℕ) (i : Input) → Sound (entries state.log) → wanted state m i ≡ wanted_by (λ c. part_of c (entries state.log)) (listens_in (entries state.log)) state.heard (tree (entries state.log)) m i
 wanted_is state m (input.Up u) sound = message_is (entries state.log) m u sound
 wanted_is state m (input.Lost s) sound = ends_is (entries state.log) m why.Lost s sound
 wanted_is state m (input.Slow s) sound = ends_is (entries state.log) m why.Slow s sound
@@ -235,6 +249,16 @@ leaves_allowed es m e s q n o k plain h = by (nat_le n most_rows) refl where
   by true b = (plain, h (few b))
   by false b = (tt, (o, k))
 
+-- an On, or its denial
+listens_allowed : (es : List Entry) (m : ℕ) (s : SessionId) (q n : ℕ) (path : Path) → is_open s es ≡ true → q ≡ count s es + 1 → (n ≤ most_paths → MayComeUncounted es m (entry.On s q path)) → Allowed es m (within_paths n s q path)
+listens_allowed es m s q n path o k h = by (nat_le n most_paths) refl where
+  few : nat_le n most_paths ≡ true → n ≤ most_paths
+  few b = grind (arith, nat_tests)
+
+  by : (b : Bool) → nat_le n most_paths ≡ b → Allowed es m (makes (cond b (entry.On s q path) (entry.Denied s q limit.Listens) ∷ []))
+  by true b = (tt, h (few b))
+  by false b = (tt, (o, k))
+
 ends_allowed : (es : List Entry) (m : ℕ) (w : Why) (s : SessionId) → w ≢ why.Superseded → IsEndNumber s None w es → Allowed es m (ends_if_open es m w s)
 ends_allowed es m w s plain none = elim (is_open s es) as (λ b. is_open s es ≡ b → Allowed es m (cond b (makes (end_of es m None w s ∷ [])) quiet)) [
   | true ↦ λ o. (plain, (o, none, refl))
@@ -262,6 +286,9 @@ message_allowed es m (up.Left s q op) sound =
 message_allowed es m (up.Cancel s q path) sound =
     let e : Entry = entry.Cancelled s q path in
     said_allowed es m s q (leaves es e s q) (λ o k. leaves_allowed es m e s q (length (plan s (es ++ e ∷ []))) o k tt (λ few. ((o, k), few)))
+message_allowed es m (up.On s q path) sound =
+    said_allowed es m s q (listens es s q path) (λ o k. listens_allowed es m s q (length (listened s (es ++ entry.On s q path ∷ []))) path o k (λ few. ((o, k), few)))
+message_allowed es m (up.Off s q path) sound = said_allowed es m s q (makes (entry.Off s q path ∷ [])) (λ o k. (tt, (o, k)))
 message_allowed es m (up.Bye s q) sound = said_allowed es m s q (makes (end_of es m (Some q) why.Bye s ∷ [])) (λ o k. ((λ e. absurd (cc)), (o, ap Some k, refl)))
 message_allowed es m (up.Beat s) sound = elim (is_open s es) as (λ b. Allowed es m (cond b quiet (refused fault.Session))) [ true ↦ tt | false ↦ tt ]
 
@@ -298,6 +325,8 @@ together es m (e ∷ []) t h = (t.0, full es e t.1 h) where
   full bs (entry.Left s q puts) g k = g
   full bs (entry.Cancelled s q path) g k = g
   full bs (entry.Denied s q v) g k = g
+  full bs (entry.On s q path) g k = g
+  full bs (entry.Off s q path) g k = g
   full bs (entry.Ended s q w rows) g k = g
 together es m (e ∷ f ∷ []) t h = (t.0, first_of e f t.0 t.1, full (es ++ e ∷ []) f t.2 (subst (λ l. length (open_sessions l) ≤ 1024) (sym (append_assoc es (e ∷ []) (f ∷ []))) h)) where
   full : (bs : List Entry) (x : Entry) → MayComeUncounted bs m x → length (open_sessions (bs ++ x ∷ [])) ≤ 1024 → MayCome bs m x
@@ -307,6 +336,8 @@ together es m (e ∷ f ∷ []) t h = (t.0, first_of e f t.0 t.1, full (es ++ e �
   full bs (entry.Left s q puts) g k = g
   full bs (entry.Cancelled s q path) g k = g
   full bs (entry.Denied s q v) g k = g
+  full bs (entry.On s q path) g k = g
+  full bs (entry.Off s q path) g k = g
   full bs (entry.Ended s q w rows) g k = g
 
   first_of : (x y : Entry) → Supersedes x y → MayComeUncounted es m x → MayCome es m x
@@ -316,6 +347,8 @@ together es m (e ∷ f ∷ []) t h = (t.0, first_of e f t.0 t.1, full (es ++ e �
   first_of (entry.Left s q puts) y p g = g
   first_of (entry.Cancelled s q path) y p g = g
   first_of (entry.Denied s q v) y p g = g
+  first_of (entry.On s q path) y p g = g
+  first_of (entry.Off s q path) y p g = g
   first_of (entry.Ended s q w rows) y p g = g
 together es m (e ∷ f ∷ g ∷ more) t h = absurd t
 

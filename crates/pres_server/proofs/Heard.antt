@@ -19,8 +19,11 @@ use Rattle.pres_server.specs.declared.index.Index.{Index}
 use Rattle.pres_server.specs.Sessions.{session_of}
 use Rattle.pres_server.specs.Heard.{Heard, heard_last, heard_since, heard_again, heard_after, heard_after_all}
 use Rattle.pres_server.specs.Parts.{plan_after}
-use Rattle.pres_server.specs.Places.{Session, moment_at, live_after, answered, heard_at}
-use Rattle.pres_server.specs.Index.{session_at, gone_at, part_at, heard_in, Steps, Tells, Hears, Indexed}
+use Rattle.pres_write.specs.Basics.{BasicWrite}
+use Rattle.pres_fan.specs.Listeners.{IsListeners, paths_of, touched}
+use Rattle.pres_server.specs.Places.{Session, moment_at, live_after, answered, heard_at, sent_to, sent_one}
+use Rattle.pres_server.specs.Pushes.{Reached, Standing, after_push, after_pushes}
+use Rattle.pres_server.specs.Index.{session_at, gone_at, part_at, sent_at, heard_in, Carries, Steps, Tells, Hears, Indexed}
 use Rattle.pres_server.proofs.Since.{client_same, client_itself, client_sym}
 use Rattle.pres_server.proofs.AfterEntry.{clients_total, clients_apart, same_by_cmp}
 use Rattle.pres_server.proofs.Taken.{live_new, part_in}
@@ -64,6 +67,8 @@ own_after m (entry.Again s q n) heard live h = again_own s.client m heard (momen
 own_after m (entry.Left s q puts) heard live h = again_own s.client m heard (moment_at live) h ∙ sym (moment_answered m (entry.Left s q puts) live)
 own_after m (entry.Cancelled s q path) heard live h = again_own s.client m heard (moment_at live) h ∙ sym (moment_answered m (entry.Cancelled s q path) live)
 own_after m (entry.Denied s q why) heard live h = again_own s.client m heard (moment_at live) h ∙ sym (moment_answered m (entry.Denied s q why) live)
+own_after m (entry.On s q path) heard live h = again_own s.client m heard (moment_at live) h ∙ sym (moment_answered m (entry.On s q path) live)
+own_after m (entry.Off s q path) heard live h = again_own s.client m heard (moment_at live) h ∙ sym (moment_answered m (entry.Off s q path) live)
 own_after m (entry.Ended s q why rows) heard live h = find_where s.client s.client heard true (client_itself s.client)
 
 other_after : (m : ℕ) (e : Entry) (c : ClientId) (heard : Heard) → same_client (session_of e).client c ≡ false → heard_last (heard_after m e heard) c ≡ heard_last heard c
@@ -73,7 +78,24 @@ other_after m (entry.Again s q n) c heard h = again_other c s.client m heard h
 other_after m (entry.Left s q puts) c heard h = again_other c s.client m heard h
 other_after m (entry.Cancelled s q path) c heard h = again_other c s.client m heard h
 other_after m (entry.Denied s q why) c heard h = again_other c s.client m heard h
+other_after m (entry.On s q path) c heard h = again_other c s.client m heard h
+other_after m (entry.Off s q path) c heard h = again_other c s.client m heard h
 other_after m (entry.Ended s q why rows) c heard h = find_where c s.client heard false h
+
+moment_stepped : (live : Standing) (reached : Reached) (c : ClientId) → moment_at (after_push live reached c) ≡ moment_at (live c)
+moment_stepped live reached c = by (same_client reached.0.client c) (live c) where
+  by : (b : Bool) (o : Option Session) → moment_at (cond b (sent_one o) o) ≡ moment_at o
+  by true None = refl
+  by true (Some session) = refl
+  by false o = refl
+
+moment_pushed : (live : Standing) (ts : List Reached) (c : ClientId) → moment_at (after_pushes live ts c) ≡ moment_at (live c)
+moment_pushed live [] c = refl
+moment_pushed live (t ∷ ts) c = moment_pushed (after_push live t) ts c ∙ moment_stepped live t c
+
+-- a Push to a session changes nothing in when its client was heard of
+pub tells_carried : (writes : List BasicWrite) (old mid : Index) (heard : Heard) → Tells heard old → Carries writes old mid → Tells heard mid
+tells_carried writes old mid heard t carried = λ c. t c ∙ sym (ap moment_at (carried.live c) ∙ moment_pushed (session_at old) (touched writes old.listeners) c)
 
 -- the list of one entry more is that of the index with one entry more
 pub tells_after : (z m : ℕ) (old new : Index) (e : Entry) (heard : Heard) → Tells heard old → Steps z m old new e → Tells (heard_after m e heard) new
@@ -102,6 +124,8 @@ sorted_after m (entry.Again s q n) heard h = again_sorted s.client m heard h
 sorted_after m (entry.Left s q puts) heard h = again_sorted s.client m heard h
 sorted_after m (entry.Cancelled s q path) heard h = again_sorted s.client m heard h
 sorted_after m (entry.Denied s q why) heard h = again_sorted s.client m heard h
+sorted_after m (entry.On s q path) heard h = again_sorted s.client m heard h
+sorted_after m (entry.Off s q path) heard h = again_sorted s.client m heard h
 sorted_after m (entry.Ended s q why rows) heard h = is_sorted-where_key client_cmp (λ x. not (same_client s.client x)) heard h
 
 pub sorted_after_all : (m : ℕ) (es : List Entry) (heard : Heard) → T (is_sorted client_cmp heard) → T (is_sorted client_cmp (heard_after_all m es heard))
@@ -162,8 +186,8 @@ some_of o x h = ap is_some h
 
 -- what a map says at the client, and at each other one
 pub hears : (k : ClientId) (m : ℕ) (old new : Index) → (IsSome (session_at old k) → Updates client_cmp old.places.live new.places.live k (heard_at m (session_at old k)))
-    → (session_at old k ≡ None → new.places.live.entries ≡ old.places.live.entries) → new.places.gone ≡ old.places.gone → new.retry ≡ old.retry → new.tree ≡ old.tree → Hears k m old new
-hears k m old new known stranger g r t = record { live = λ c. by (session_at old k) refl c (same_client k c) refl; gone = g; retry = r; tree = t } where
+    → (session_at old k ≡ None → new.places.live.entries ≡ old.places.live.entries) → new.places.gone ≡ old.places.gone → new.retry ≡ old.retry → new.listeners ≡ old.listeners → new.tree ≡ old.tree → Hears k m old new
+hears k m old new known stranger g r l t = record { live = λ c. by (session_at old k) refl c (same_client k c) refl; gone = g; retry = r; listeners = l; tree = t } where
   by : (p : Option Session) → session_at old k ≡ p → (c : ClientId) (b : Bool) → same_client k c ≡ b → session_at new c ≡ cond b (heard_at m (session_at old k)) (session_at old c)
   by None h c true s = ap (λ es. lookup (is_at (client_cmp c)) es) (stranger h) ∙ sym (ap (session_at old) (client_same k c s)) ∙ h ∙ sym (ap (heard_at m) h)
   by None h c false s = ap (λ es. lookup (is_at (client_cmp c)) es) (stranger h)
@@ -177,6 +201,16 @@ hear_parts k m old new h c = by (same_client k c) refl where
       ∙ part_heard m (session_at old k) (gone_at old k) (rows_of k old.retry))
   by false s = λ i. part_in ((h.live c ∙ ap (λ b. cond b (heard_at m (session_at old k)) (session_at old c)) s) i) (get client_cmp (h.gone i) c) (rows_of c (h.retry i))
 
+sent_heard : (m : ℕ) (live : Option Session) → sent_to (heard_at m live) ≡ sent_to live
+sent_heard m None = refl
+sent_heard m (Some session) = refl
+
+hear_sent : (k : ClientId) (m : ℕ) (old new : Index) → Hears k m old new → (c : ClientId) → sent_at new c ≡ sent_at old c
+hear_sent k m old new h c = ap sent_to (h.live c) ∙ by (same_client k c) refl where
+  by : (b : Bool) → same_client k c ≡ b → sent_to (cond b (heard_at m (session_at old k)) (session_at old c)) ≡ sent_at old c
+  by true s = sent_heard m (session_at old k) ∙ ap (sent_at old) (client_same k c s)
+  by false s = refl
+
 pub hear_tells : (k : ClientId) (m : ℕ) (old new : Index) (heard : Heard) → Hears k m old new → Tells heard old → Tells (heard_again k m heard) new
 hear_tells k m old new heard h t = λ c. by c (same_client k c) refl where
   by : (c : ClientId) (b : Bool) → same_client k c ≡ b → heard_last (heard_again k m heard) c ≡ moment_at (session_at new c)
@@ -189,4 +223,10 @@ pub hear_is : (k : ClientId) (m : ℕ) (old new : Index) → Hears k m old new �
 hear_is k m old new h o p = heard_is (heard_again k m (heard_in old)) new (again_sorted k m (heard_in old) (heard_sorted old o)) p (hear_tells k m old new (heard_in old) h (heard_tells old))
 
 pub indexed_still : (es : List Entry) (k : ClientId) (m : ℕ) (old new : Index) → Hears k m old new → Indexed es old → Indexed es new
-indexed_still es k m old new h ix = record { parts = λ c. hear_parts k m old new h c ∙ ix.parts c; tree = h.tree ∙ ix.tree }
+indexed_still es k m old new h ix = record {
+  parts = λ c. hear_parts k m old new h c ∙ ix.parts c;
+  sent = λ c. hear_sent k m old new h c ∙ ix.sent c;
+  listens = λ s. ap (paths_of s) h.listeners ∙ ix.listens s;
+  held = subst IsListeners (sym h.listeners) ix.held;
+  tree = h.tree ∙ ix.tree;
+}

@@ -18,7 +18,7 @@ use Rattle.pres_log.specs.declared.entry.Entry.TheVariants as entry
 use Rattle.pres_wire.specs.Ids.{ClientId, same_client, same_session, is_earlier, stamp_of}
 use Rattle.pres_server.specs.Sessions.{session_of, opened, opens, ends, is_open, since_open, sessions_of, open_sessions_of, is_newest}
 use Rattle.pres_server.specs.Outcomes.{row_in, rows_for, ops}
-use Rattle.pres_server.specs.Streams.{sent_for, sent_from, own_answer, numbered_from, repeated_reply}
+use Rattle.pres_server.specs.Streams.{own_answer, repeated_reply}
 use Rattle.pres_wire.specs.declared.down.Down.TheVariants.{Reply}
 use Rattle.std.proofs.lemmas.Option.{slice_get_cases}
 use Rattle.pres_server.specs.LegalLog.{MayCome}
@@ -28,7 +28,7 @@ use Rattle.pres_plan.specs.Plans.{plan_of}
 use Rattle.pres_server.specs.Parts.{LivePart, Part, session_with, part_of, live_in, one_more, rows_step, part_step, Sound, listed, comes_after}
 use Rattle.pres_server.proofs.PlanSteps.{plan_own, plan_other}
 use Rattle.pres_server.proofs.Since.{after-append, after-cons, client_same, client_itself, client_sym, session_same, session_itself}
-use Rattle.pres_server.proofs.Steps.{In, or_false, any-filter, any-opened, is_open-append, is_open-same, open_listed, filter_alike, filter-filter, sessions_of-append, in_sessions, in_open, rows_for-append, count_own, count_other, length-stream_own, stream_other}
+use Rattle.pres_server.proofs.Steps.{In, or_false, any-filter, any-opened, is_open-append, is_open-same, open_listed, filter_alike, filter-filter, sessions_of-append, in_sessions, in_open, rows_for-append, count_own, count_other}
 
 pub uncounted : (es : List Entry) (m : ℕ) (e : Entry) → MayCome es m e → MayComeUncounted es m e
 uncounted es m (entry.Open s) h = (h.0, h.1)
@@ -37,6 +37,8 @@ uncounted es m (entry.Again s q n) h = h
 uncounted es m (entry.Left s q puts) h = h
 uncounted es m (entry.Cancelled s q path) h = h
 uncounted es m (entry.Denied s q why) h = h
+uncounted es m (entry.On s q path) h = h
+uncounted es m (entry.Off s q path) h = h
 uncounted es m (entry.Ended s q why rows) h = h
 
 -- a stamp isn't before itself
@@ -146,7 +148,7 @@ live_other c es e k same = ap (λ l. live_in l (es ++ e ∷ [])) same ∙ by (op
       let o = (and_parts (list_any (opens g) es) _ a.1).0 in
       let apart : same_client g.client (session_of e).client ≡ false = ap (λ x. same_client x (session_of e).client) (sym (client_same c g.client a.0)) ∙ client_sym c (session_of e).client ∙ k in
       let other : same_session g (session_of e) ≡ false = ap (λ b. b && g.incarnation == (session_of e).incarnation && g.attempt == (session_of e).attempt) apart in
-      λ i. Some (record { stamp = (stamp_of g); count = count_other g es e o other i; sent = length (stream_other g es e a.1 other i); plan = plan_other g es e o other i })
+      λ i. Some (record { stamp = (stamp_of g); count = count_other g es e o other i; plan = plan_other g es e o other i })
 
 -- and all of the part stays, where no other session of it is opened and no write of it made
 pub part_other : (c : ClientId) (es : List Entry) (e : Entry) → same_client (session_of e).client c ≡ false →
@@ -163,38 +165,35 @@ row_given c es e o k = rows_for-append c es e ∙ ap (λ x. rows_for c es ++ fil
 pub no_row : (c : ClientId) (es : List Entry) (e : Entry) → row_in c (length es + 1) e ≡ None → rows_for c (es ++ e ∷ []) ≡ rows_for c es
 no_row c es e k = row_given c es e None k ∙ append-nil (rows_for c es)
 
--- the open session's part after an entry of its own that gives one message
+-- the open session's part after an entry of its own
 pub live_own : (s : SessionId) (es : List Entry) (e : Entry) → Sound es → is_open s es ≡ true → session_of e ≡ s → open_sessions_of s.client (es ++ e ∷ []) ≡ open_sessions_of s.client es →
-    length (sent_for s (es ++ e ∷ []) e) ≡ 1 → live_in (open_sessions_of s.client (es ++ e ∷ [])) (es ++ e ∷ []) ≡ option_map (one_more e) (live_in (open_sessions_of s.client es) es)
-live_own s es e sound o k same one =
+    live_in (open_sessions_of s.client (es ++ e ∷ [])) (es ++ e ∷ []) ≡ option_map (one_more e) (live_in (open_sessions_of s.client es) es)
+live_own s es e sound o k same =
     let only = only_open s es sound o in
     let was = (and_parts (list_any (opens s) es) _ o).0 in
     let own_entry : same_session s (session_of e) ≡ true = ap (same_session s) k ∙ session_itself s in
     ap (λ l. live_in l (es ++ e ∷ [])) (same ∙ only)
-    ∙ (λ i. Some (record { stamp = (stamp_of s); count = count_own s es e was own_entry i; sent = length-stream_own s es e o one i; plan = plan_own s es e was own_entry i }))
+    ∙ (λ i. Some (record { stamp = (stamp_of s); count = count_own s es e was own_entry i; plan = plan_own s es e was own_entry i }))
     ∙ ap (λ l. option_map (one_more e) (live_in l es)) (sym only)
 
--- the part of each client after an entry that its open session gives, and that answers it once
+-- the part of each client after an entry that its open session gives
 part_said : (es : List Entry) (e : Entry) → Sound es → is_open (session_of e) es ≡ true → opened (e ∷ []) ≡ [] → ((s : SessionId) → opens s e ≡ false) → ((s : SessionId) → ends s e ≡ false)
-    → length (own_answer (es ++ e ∷ []) e) ≡ 1 → rows_for (session_of e).client (es ++ e ∷ []) ≡ rows_step (length es + 1) e (rows_for (session_of e).client es)
+    → rows_for (session_of e).client (es ++ e ∷ []) ≡ rows_step (length es + 1) e (rows_for (session_of e).client es)
     → ((c : ClientId) → same_client (session_of e).client c ≡ false → rows_for c (es ++ e ∷ []) ≡ rows_for c es)
     → (c : ClientId) → part_of c (es ++ e ∷ []) ≡ cond (same_client (session_of e).client c)
     (record { last = (part_of c es).last; rows = rows_step (length es + 1) e (rows_for c es); live = option_map (one_more e) (part_of c es).live }) (part_of c es)
-part_said es e sound o none opens_none ends_none one mine others c = by (same_client s.client c) refl where
+part_said es e sound o none opens_none ends_none mine others c = by (same_client s.client c) refl where
   s : SessionId
   s = session_of e
 
   after : ClientId → Part
   after k = record { last = (part_of k es).last; rows = rows_step (length es + 1) e (rows_for k es); live = option_map (one_more e) (part_of k es).live }
 
-  sent_one : length (sent_for s (es ++ e ∷ []) e) ≡ 1
-  sent_one = ap (λ b. length (cond b (own_answer (es ++ e ∷ []) e) [])) (session_itself s) ∙ one
-
   own : part_of s.client (es ++ e ∷ []) ≡ after s.client
   own = λ i. record {
     last = option_map (stamp_of) (last_or None (no_more s.client es e none i));
     rows = mine i;
-    live = live_own s es e sound o refl (open_of_same s.client es e none opens_none ends_none) sent_one i;
+    live = live_own s es e sound o refl (open_of_same s.client es e none opens_none ends_none) i;
   }
 
   by : (b : Bool) → same_client s.client c ≡ b → part_of c (es ++ e ∷ []) ≡ cond b (after c) (part_of c es)
@@ -203,7 +202,7 @@ part_said es e sound o none opens_none ends_none one mine others c = by (same_cl
 
 pub part_op : (es : List Entry) (s : SessionId) (q n : ℕ) (op : Op) (outcome : Outcome) → Sound es → is_open s es ≡ true →
     (c : ClientId) → let e = entry.Op s q n op outcome in part_of c (es ++ e ∷ []) ≡ cond (same_client s.client c) (part_step (length es + 1) e (part_of c es)) (part_of c es)
-part_op es s q n op outcome sound o = part_said es e sound o refl (λ _. refl) (λ _. refl) refl
+part_op es s q n op outcome sound o = part_said es e sound o refl (λ _. refl) (λ _. refl)
     (row_given s.client es e (Some row) (ap (λ b. cond b (Some row) None) (client_itself s.client)))
     (λ c k. no_row c es e (ap (λ b. cond b (Some row) None) (client_sym c s.client ∙ k))) where
       e : Entry
@@ -214,11 +213,11 @@ part_op es s q n op outcome sound o = part_said es e sound o refl (λ _. refl) (
 
 -- an entry that makes no write
 part_plain : (es : List Entry) (e : Entry) → Sound es → is_open (session_of e) es ≡ true → opened (e ∷ []) ≡ [] → ((s : SessionId) → opens s e ≡ false) → ((s : SessionId) → ends s e ≡ false)
-    → length (own_answer (es ++ e ∷ []) e) ≡ 1 → ((c : ClientId) → row_in c (length es + 1) e ≡ None) → rows_step (length es + 1) e (rows_for (session_of e).client es) ≡ rows_for (session_of e).client es
+    → ((c : ClientId) → row_in c (length es + 1) e ≡ None) → rows_step (length es + 1) e (rows_for (session_of e).client es) ≡ rows_for (session_of e).client es
     → (c : ClientId) → part_of c (es ++ e ∷ []) ≡ cond (same_client (session_of e).client c)
     (record { last = (part_of c es).last; rows = rows_step (length es + 1) e (rows_for c es); live = option_map (one_more e) (part_of c es).live }) (part_of c es)
-part_plain es e sound o none opens_none ends_none one no_write same =
-    part_said es e sound o none opens_none ends_none one (no_row (session_of e).client es e (no_write (session_of e).client) ∙ sym same) (λ c _. no_row c es e (no_write c))
+part_plain es e sound o none opens_none ends_none no_write same =
+    part_said es e sound o none opens_none ends_none (no_row (session_of e).client es e (no_write (session_of e).client) ∙ sym same) (λ c _. no_row c es e (no_write c))
 
 -- a write that is made again has a row
 pub row_there : (es : List Entry) (c : ClientId) (n : ℕ) → 1 ≤ n → n ≤ ops c es → (row : Row) × (slice_get (rows_for c es) (n - 1) ≡ Some row)
@@ -228,24 +227,13 @@ row_there es c n h k =
       | inr past ↦ absurd (omega (arith, past.0))
     ]
 
--- what is sent for it
-pub sent_again : (es : List Entry) (s : SessionId) (q n : ℕ) (row : Row) → slice_get (rows_for s.client es) (n - 1) ≡ Some row →
-    sent_for s (es ++ entry.Again s q n ∷ []) (entry.Again s q n) ≡ (λ r. Reply s r (length es + 1) q n row.done row.kept) ∷ []
-sent_again es s q n row k =
+-- what answers it
+pub own_again : (es : List Entry) (s : SessionId) (q n : ℕ) (row : Row) → slice_get (rows_for s.client es) (n - 1) ≡ Some row →
+    own_answer (es ++ entry.Again s q n ∷ []) (entry.Again s q n) ≡ (λ r. Reply s r (length es + 1) q n row.done row.kept) ∷ []
+own_again es s q n row k =
     let e = entry.Again s q n in
-    ap (λ b. cond b (own_answer (es ++ e ∷ []) e) []) (session_itself s)
-    ∙ (λ i. repeated_reply s (length-append es (e ∷ []) i) q n (slice_get (no_row s.client es e refl i) (n - 1)))
+    (λ i. repeated_reply s (length-append es (e ∷ []) i) q n (slice_get (no_row s.client es e refl i) (n - 1)))
     ∙ ap (repeated_reply s (length es + 1) q n) k
-
-pub part_again : (es : List Entry) (s : SessionId) (q n : ℕ) → Sound es → is_open s es ≡ true → 1 ≤ n → n ≤ ops s.client es →
-    (c : ClientId) → let e = entry.Again s q n in part_of c (es ++ e ∷ []) ≡ cond (same_client s.client c) (part_step (length es + 1) e (part_of c es)) (part_of c es)
-part_again es s q n sound o low high = part_plain es e sound o refl (λ _. refl) (λ _. refl) one (λ _. refl) refl where
-  e : Entry
-  e = entry.Again s q n
-
-  one : length (own_answer (es ++ e ∷ []) e) ≡ 1
-  one = let row = row_there es s.client n low high in
-      sym (ap (λ b. length (cond b (own_answer (es ++ e ∷ []) e) [])) (session_itself s)) ∙ ap length (sent_again es s q n row.0 row.1)
 
 -- the open sessions of the client of an ended one, and of another client
 pub ended_own : (es : List Entry) (s : SessionId) (q : Option ℕ) (why : Why) (rows : List Basic) → Sound es → is_open s es ≡ true → open_sessions_of s.client (es ++ entry.Ended s q why rows ∷ []) ≡ []
@@ -328,7 +316,7 @@ part_opened es s sound new none c =
         last = option_map (stamp_of) ((ap (last_or None) (opened_own es s) ∙ last_or-append None (sessions_of s.client es) s) i);
         rows = no_row s.client es e refl i;
         live = (ap (λ l. live_in l (es ++ e ∷ [])) now_open
-            ∙ λ j. Some (record { stamp = (stamp_of s); count = length (filter (λ x. same_session s (session_of x)) (nothing j)); sent = length (numbered_from 1 (sent_from s (before_first (opens s) (es ++ e ∷ []) ++ e ∷ []) (nothing j))); plan = plan_of (flat_map actions_in (filter (λ x. same_session s (session_of x)) (nothing j))) })) i;
+            ∙ λ j. Some (record { stamp = (stamp_of s); count = length (filter (λ x. same_session s (session_of x)) (nothing j)); plan = plan_of (flat_map actions_in (filter (λ x. same_session s (session_of x)) (nothing j))) })) i;
       }
 
 -- the step of each client's part
@@ -336,8 +324,10 @@ pub part_after : (es : List Entry) (m : ℕ) (e : Entry) → Sound es → MayCom
     (c : ClientId) → part_of c (es ++ e ∷ []) ≡ cond (same_client (session_of e).client c) (part_step (length es + 1) e (part_of c es)) (part_of c es)
 part_after es m (entry.Open s) sound f c = part_opened es s sound f.0 f.1 c
 part_after es m (entry.Op s q n op outcome) sound f c = part_op es s q n op outcome sound f.0.0 c
-part_after es m (entry.Again s q n) sound f c = part_again es s q n sound f.0.0 f.1 f.2 c
-part_after es m (entry.Left s q puts) sound f c = part_plain es (entry.Left s q puts) sound f.0.0 refl (λ _. refl) (λ _. refl) refl (λ _. refl) refl c
-part_after es m (entry.Cancelled s q path) sound f c = part_plain es (entry.Cancelled s q path) sound f.0.0 refl (λ _. refl) (λ _. refl) refl (λ _. refl) refl c
-part_after es m (entry.Denied s q why) sound f c = part_plain es (entry.Denied s q why) sound f.0 refl (λ _. refl) (λ _. refl) refl (λ _. refl) refl c
+part_after es m (entry.Again s q n) sound f c = part_plain es (entry.Again s q n) sound f.0.0 refl (λ _. refl) (λ _. refl) (λ _. refl) refl c
+part_after es m (entry.Left s q puts) sound f c = part_plain es (entry.Left s q puts) sound f.0.0 refl (λ _. refl) (λ _. refl) (λ _. refl) refl c
+part_after es m (entry.Cancelled s q path) sound f c = part_plain es (entry.Cancelled s q path) sound f.0.0 refl (λ _. refl) (λ _. refl) (λ _. refl) refl c
+part_after es m (entry.Denied s q why) sound f c = part_plain es (entry.Denied s q why) sound f.0 refl (λ _. refl) (λ _. refl) (λ _. refl) refl c
+part_after es m (entry.On s q path) sound f c = part_plain es (entry.On s q path) sound f.0.0 refl (λ _. refl) (λ _. refl) (λ _. refl) refl c
+part_after es m (entry.Off s q path) sound f c = part_plain es (entry.Off s q path) sound f.0 refl (λ _. refl) (λ _. refl) (λ _. refl) refl c
 part_after es m (entry.Ended s q why rows) sound f c = part_ended es s q why rows sound f.0 c

@@ -32,6 +32,8 @@ planned old (entry.Again s q n) = ap plan_of (append-nil old)
 planned old (entry.Left s q places) = sym (plan_grows old (puts q places))
 planned old (entry.Cancelled s q path) = sym (plan_grows old (cancels q path))
 planned old (entry.Denied s q why) = ap plan_of (append-nil old)
+planned old (entry.On s q path) = ap plan_of (append-nil old)
+planned old (entry.Off s q path) = ap plan_of (append-nil old)
 planned old (entry.Ended s q why rows) = ap plan_of (append-nil old)
 
 -- an entry of its own changes what the session leaves by what it asks for
@@ -87,4 +89,6 @@ asked_by n (entry.Cancelled s q path) rows k h =
     (All-append (Below (n + 1)) rows (cancels q path) (later_below n rows h)
     (let same = k q refl in All-cons (Below (n + 1)) (record { q = q; action = Keep path }) [] (omega arith) (λ i x small. absurd (omega arith))))
 asked_by n (entry.Denied s q why) rows k h = later_below n rows h
+asked_by n (entry.On s q path) rows k h = later_below n rows h
+asked_by n (entry.Off s q path) rows k h = later_below n rows h
 asked_by n (entry.Ended s q why due) rows k h = later_below n rows h

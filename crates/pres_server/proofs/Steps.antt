@@ -9,9 +9,7 @@ use Rattle.pres_log.specs.declared.entry.Entry.TheVariants as entry
 use Rattle.pres_wire.specs.Ids.{ClientId, same_client, same_session}
 use Rattle.pres_server.specs.Sessions.{session_of, opened_by, opened, opens, ends, is_open, since_open, own, count, sessions_of, open_sessions_of}
 use Rattle.pres_server.specs.Outcomes.{row_in, rows_for}
-use Rattle.pres_server.specs.Streams.{stream, sent_for, own_answer, numbered_from}
 use Rattle.pres_server.proofs.Since.{any-append, after-append, client_itself, session_same, session_itself}
-use Rattle.pres_server.proofs.StreamSteps.{stream_step, length-numbered_from}
 
 pub or_false : (b : Bool) → (b || false) ≡ b
 or_false true = refl
@@ -64,6 +62,8 @@ any-opened s (entry.Again t q n ∷ es) = any-opened s es
 any-opened s (entry.Left t q puts ∷ es) = any-opened s es
 any-opened s (entry.Cancelled t q path ∷ es) = any-opened s es
 any-opened s (entry.Denied t q why ∷ es) = any-opened s es
+any-opened s (entry.On t q path ∷ es) = any-opened s es
+any-opened s (entry.Off t q path ∷ es) = any-opened s es
 any-opened s (entry.Ended t q why rows ∷ es) = any-opened s es
 
 -- s is among the open sessions of its client where it is open
@@ -133,15 +133,3 @@ count_own s es e o k =
 
 pub count_other : (s : SessionId) (es : List Entry) (e : Entry) → list_any (opens s) es ≡ true → same_session s (session_of e) ≡ false → count s (es ++ e ∷ []) ≡ count s es
 count_other s es e o k = ap length (own-append s es e o ∙ ap (λ b. own s es ++ cond b (e ∷ []) []) k ∙ append-nil (own s es))
-
-pub length-stream_own : (s : SessionId) (es : List Entry) (e : Entry) → IsTrue (is_open s es) → length (sent_for s (es ++ e ∷ []) e) ≡ 1 → length (stream s (es ++ e ∷ [])) ≡ length (stream s es) + 1
-length-stream_own s es e h one =
-    ap length (stream_step s es e h)
-    ∙ length-append (stream s es) (numbered_from (length (stream s es) + 1) (sent_for s (es ++ e ∷ []) e))
-    ∙ ap (λ n. length (stream s es) + n) (length-numbered_from (length (stream s es) + 1) (sent_for s (es ++ e ∷ []) e) ∙ one)
-
-pub stream_other : (s : SessionId) (es : List Entry) (e : Entry) → IsTrue (is_open s es) → same_session s (session_of e) ≡ false → stream s (es ++ e ∷ []) ≡ stream s es
-stream_other s es e h k =
-    stream_step s es e h
-    ∙ ap (λ b. stream s es ++ numbered_from (length (stream s es) + 1) (cond b (own_answer (es ++ e ∷ []) e) [])) k
-    ∙ append-nil (stream s es)

@@ -14,7 +14,7 @@ use Rattle.pres_server.specs.LegalLog.{MayFollow}
 use Rattle.pres_server.specs.Turns.{moment_of, wanted, turn, batch_of}
 use Rattle.pres_server.specs.Parts.{wanted_by, limited_by}
 use Rattle.pres_server.specs.Heard.{State, heard_after_all}
-use Rattle.pres_server.specs.Index.{part_at, heard_in, Indexed, Tells}
+use Rattle.pres_server.specs.Index.{part_at, paths_at, heard_in, Indexed, Tells}
 use Rattle.pres_server.specs.Invariants.{MayTakeAll, Holds, Waits}
 use Rattle.pres_server.specs.Sessions.{open_sessions}
 use Rattle.pres_server.specs.Places.{open_count}
@@ -54,7 +54,7 @@ told log index = record { log = log; heard = heard_in index }
 
 -- what the index decides is the turn
 pub turned : (log : Log) (moment now : ℕ) (index : Index) (i : Input) → Holds log moment index → now ≤ moments.last_moment
-    → turn (told log index) i now ≡ limited_by (number log) (open_count index.places) (wanted_by (part_at index) (heard_in index) index.tree (max moment now) i)
+    → turn (told log index) i now ≡ limited_by (number log) (open_count index.places) (wanted_by (part_at index) (paths_at index) (heard_in index) index.tree (max moment now) i)
 turned log moment now index i kept low =
     let es = entries log in
     let sound = legal_is_sound log kept.legal in
@@ -62,7 +62,7 @@ turned log moment now index i kept low =
     let state = told log index in
     limited_is es m (wanted state m i) sound (wanted_allowed state m i sound)
     ∙ (λ x. limited_by (length es) (sym (count_is log moment index kept) x) (wanted_is state m i sound x))
-    ∙ (λ x. limited_by (length es) (open_count index.places) (wanted_by (λ c. sym (kept.indexed.parts c) x) (heard_in index) (sym kept.indexed.tree x) (sym (moment_is log moment now index kept low) x) i))
+    ∙ (λ x. limited_by (length es) (open_count index.places) (wanted_by (λ c. sym (kept.indexed.parts c) x) (λ s. sym (kept.indexed.listens s) x) (heard_in index) (sym kept.indexed.tree x) (sym (moment_is log moment now index kept low) x) i))
 
 -- ---- the commit
 

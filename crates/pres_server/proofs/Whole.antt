@@ -1,10 +1,10 @@
 -- The log as a whole.
-use Rattle.std.proofs.Common.{sym, subst, refl, ◌≡◌, ℕ, ◌+◌, ◌≤◌, suc, List, [], ◌∷◌, ◌++◌, length, map, Bool, true, false, cond, append_assoc, append-nil, arith, length-append, length-drop, Option, Some, None, is_some}
+use Rattle.std.proofs.Common.{sym, subst, refl, ◌≡◌, ℕ, ◌+◌, ◌*◌, ◌≤◌, suc, List, [], ◌∷◌, ◌++◌, length, map, Bool, true, false, cond, append_assoc, append-nil, arith, length-append, length-drop, Option, Some, None, is_some}
 use Rattle.std.specs.List.{filter, before_first, position_or_len}
 use Rattle.std.specs.FinMap.Entries.{length-put, find}
 use Rattle.std.specs.Cmp.Lexicographic.{nat_list_cmp_total}
 use Rattle.std.proofs.lemmas.List.{length-map}
-use Rattle.pres_tree.specs.Paths.{sorted_by}
+use Rattle.pres_tree.specs.Paths.{Path, sorted_by}
 use Rattle.pres_write.specs.Moments as moments
 use Rattle.pres_wire.specs.declared.id.SessionId.{SessionId}
 use Rattle.pres_wire.specs.Ids.{ClientId, client_cmp, same_session}
@@ -18,7 +18,8 @@ use Rattle.pres_log.proofs.Entries.{entries-push, last_moment-push}
 use Rattle.pres_server.specs.declared.input.Input.{Input}
 use Rattle.pres_server.specs.Heard.{State}
 use Rattle.pres_server.specs.Sessions.{session_of, opened, opens, ends, since_open, is_open, count, open_sessions}
-use Rattle.pres_server.specs.Streams.{stream, sent_for, sent_from, own_answer, repeated_reply}
+use Rattle.pres_server.specs.Listening.{touched}
+use Rattle.pres_server.specs.Streams.{stream, push_of, sent_for, sent_from, own_answer, repeated_reply}
 use Rattle.pres_server.specs.LegalLog.{MayCome, IsLegal, IsLegalAfter, MayFollow, MayComeTogether, Supersedes, LeavesRoom}
 use Rattle.pres_server.specs.Turns.{Decision, makes, quiet, refused, moment_of, wanted, turn, batch_of, log_after}
 use Rattle.pres_server.specs.SessionPlans.{due_at}
@@ -34,7 +35,7 @@ use Rattle.pres_server.proofs.Decide.{AllowedFully, wanted_allowed, limited_allo
 
 -- ---- bounds
 
-filter_small : {A : Type 0} (p : A → Bool) (xs : List A) → length (filter p xs) ≤ length xs
+pub filter_small : {A : Type 0} (p : A → Bool) (xs : List A) → length (filter p xs) ≤ length xs
 filter_small p [] = omega arith
 filter_small p (x ∷ xs) = by (p x) (filter_small p xs) where
   by : (b : Bool) → length (filter p xs) ≤ length xs → length (cond b (x ∷ filter p xs) (filter p xs)) ≤ suc (length xs)
@@ -47,36 +48,47 @@ count_small s es =
     let b = length-drop (position_or_len (opens s) es + 1) es in
     omega arith
 
-sent_small : (s : SessionId) (now : List Entry) (e : Entry) → length (sent_for s now e) ≤ 1
-sent_small s now e = by (same_session s (session_of e)) where
-  one : (x : Entry) → length (own_answer now x) ≤ 1
-  one (entry.Open t) = omega arith
-  one (entry.Op t q n op outcome) = omega arith
-  one (entry.Again t q n) = row _ where
-    row : (o : Option Row) → length (repeated_reply t (length now) q n o) ≤ 1
-    row None = omega arith
-    row (Some r) = omega arith
-  one (entry.Left t q puts) = omega arith
-  one (entry.Cancelled t q path) = omega arith
-  one (entry.Denied t q why) = omega arith
-  one (entry.Ended t q why rows) = omega arith
+pub pushed_small : (s : SessionId) (now : List Entry) (paths : List Path) → length (push_of s now paths) ≤ 1
+pushed_small s now [] = omega arith
+pushed_small s now (p ∷ paths) = omega arith
 
-  by : (b : Bool) → length (cond b (own_answer now e) []) ≤ 1
-  by true = one e
-  by false = omega arith
+-- at most a Push and an answer
+sent_small : (s : SessionId) (now : List Entry) (e : Entry) → length (sent_for s now e) ≤ 2
+sent_small s now e =
+    let p = pushed_small s now (touched s now e) in
+    let a = by (same_session s (session_of e)) in
+    let n = length-append (push_of s now (touched s now e)) (cond (same_session s (session_of e)) (own_answer now e) []) in
+    omega arith where
+      one : (x : Entry) → length (own_answer now x) ≤ 1
+      one (entry.Open t) = omega arith
+      one (entry.Op t q n op outcome) = omega arith
+      one (entry.Again t q n) = row _ where
+        row : (o : Option Row) → length (repeated_reply t (length now) q n o) ≤ 1
+        row None = omega arith
+        row (Some r) = omega arith
+      one (entry.Left t q puts) = omega arith
+      one (entry.Cancelled t q path) = omega arith
+      one (entry.Denied t q why) = omega arith
+      one (entry.On t q path) = omega arith
+      one (entry.Off t q path) = omega arith
+      one (entry.Ended t q why rows) = omega arith
 
-sent_from_small : (s : SessionId) (before later : List Entry) → length (sent_from s before later) ≤ length later
+      by : (b : Bool) → length (cond b (own_answer now e) []) ≤ 1
+      by true = one e
+      by false = omega arith
+
+sent_from_small : (s : SessionId) (before later : List Entry) → length (sent_from s before later) ≤ 2 * length later
 sent_from_small s before [] = omega arith
 sent_from_small s before (e ∷ later) =
     let first = sent_small s (before ++ e ∷ []) e in
     let rest = by (ends s e) (sent_from_small s (before ++ e ∷ []) later) in
     let both = length-append (sent_for s (before ++ e ∷ []) e) (cond (ends s e) [] (sent_from s (before ++ e ∷ []) later)) in
     omega arith where
-      by : (b : Bool) → length (sent_from s (before ++ e ∷ []) later) ≤ length later → length (cond b [] (sent_from s (before ++ e ∷ []) later)) ≤ length later
+      by : (b : Bool) → length (sent_from s (before ++ e ∷ []) later) ≤ 2 * length later → length (cond b [] (sent_from s (before ++ e ∷ []) later)) ≤ 2 * length later
       by true h = omega arith
       by false h = h
 
-pub stream_small : (s : SessionId) (es : List Entry) → length (stream s es) ≤ length es
+pub stream_small : (s : SessionId) (es : List Entry) → length (stream s es) ≤ 2 * length es
 stream_small s es =
     let a = sent_from_small s (before_first (opens s) es ++ entry.Open s ∷ []) (since_open s es) in
     let b = length-drop (position_or_len (opens s) es + 1) es in
@@ -102,6 +114,8 @@ opened_small (entry.Again s q n ∷ es) = let r = opened_small es in omega arith
 opened_small (entry.Left s q puts ∷ es) = let r = opened_small es in omega arith
 opened_small (entry.Cancelled s q path ∷ es) = let r = opened_small es in omega arith
 opened_small (entry.Denied s q why ∷ es) = let r = opened_small es in omega arith
+opened_small (entry.On s q path ∷ es) = let r = opened_small es in omega arith
+opened_small (entry.Off s q path ∷ es) = let r = opened_small es in omega arith
 opened_small (entry.Ended s q why rows ∷ es) = let r = opened_small es in omega arith
 
 pub open_small : (es : List Entry) → length (open_sessions es) ≤ length es
@@ -138,6 +152,8 @@ held_together es m (e ∷ f ∷ []) t = by e f t.0 where
   by (entry.Ended s q w rows) (entry.Left u r puts) h = absurd h
   by (entry.Ended s q w rows) (entry.Cancelled u r path) h = absurd h
   by (entry.Ended s q w rows) (entry.Denied u r v) h = absurd h
+  by (entry.Ended s q w rows) (entry.On u r path) h = absurd h
+  by (entry.Ended s q w rows) (entry.Off u r path) h = absurd h
   by (entry.Ended s q w rows) (entry.Ended u r v more) h = absurd h
   by (entry.Open s) y h = absurd h
   by (entry.Op s q n op outcome) y h = absurd h
@@ -145,6 +161,8 @@ held_together es m (e ∷ f ∷ []) t = by e f t.0 where
   by (entry.Left s q puts) y h = absurd h
   by (entry.Cancelled s q path) y h = absurd h
   by (entry.Denied s q why) y h = absurd h
+  by (entry.On s q path) y h = absurd h
+  by (entry.Off s q path) y h = absurd h
 held_together es m (e ∷ f ∷ g ∷ more) t = absurd t
 
 -- ---- one batch more

@@ -35,6 +35,8 @@ heard_after moment (entry.Again s q n) heard = heard_again s.client moment heard
 heard_after moment (entry.Left s q puts) heard = heard_again s.client moment heard
 heard_after moment (entry.Cancelled s q path) heard = heard_again s.client moment heard
 heard_after moment (entry.Denied s q why) heard = heard_again s.client moment heard
+heard_after moment (entry.On s q path) heard = heard_again s.client moment heard
+heard_after moment (entry.Off s q path) heard = heard_again s.client moment heard
 heard_after moment (entry.Ended s q why rows) heard = where_key client_cmp (λ c. not (same_client s.client c)) heard
 
 -- after the entries of a batch

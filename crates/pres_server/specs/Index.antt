@@ -1,12 +1,13 @@
 -- What the index of a log says, as plain data, and how an entry changes it.
-use Rattle.std.specs.Prelude.{◌≡◌, ◌<◌, ℕ, ◌+◌, ◌-◌, ◌^◌, Option, Some, None, List, length, slice_get, if◌then◌else◌, IsSome, Result}
+use Rattle.std.specs.Prelude.{◌≡◌, ◌<◌, ◌≤◌, ℕ, ◌+◌, ◌-◌, ◌^◌, Option, Some, None, List, [], ◌++◌, length, slice_get, if◌then◌else◌, IsSome, Result}
 use Rattle.std.specs.Option.{option_map}
 use Rattle.std.specs.BTreeMap.{get, Updates}
 use Rattle.pres_tree.specs.declared.scalar.Scalar.{Scalar}
 use Rattle.pres_tree.specs.Rows.{Rows}
+use Rattle.pres_tree.specs.Paths.{Path}
 use Rattle.pres_write.specs.declared.op.Op.{Op}
-use Rattle.pres_write.specs.Basics.{applied}
-use Rattle.pres_write.specs.Outcomes.{kept_of, writes_in}
+use Rattle.pres_write.specs.Basics.{BasicWrite, applied}
+use Rattle.pres_write.specs.Outcomes.{kept_of}
 use Rattle.pres_wire.specs.declared.id.SessionId.{SessionId}
 use Rattle.pres_wire.specs.declared.down.Down.{Down}
 use Rattle.pres_wire.specs.Ids.{ClientId, client_cmp, same_client}
@@ -17,17 +18,21 @@ use Rattle.pres_retry.specs.Verdicts.{verdict, again}
 use Rattle.pres_log.specs.declared.entry.Entry.{Entry}
 use Rattle.pres_log.specs.declared.entry.Entry.TheVariants as entry
 use Rattle.pres_log.specs.declared.fault.Fault.{Fault}
-use Rattle.pres_log.specs.Logs.{tree}
+use Rattle.pres_log.specs.Logs.{tree, writes_of}
+use Rattle.pres_fan.specs.declared.listeners.Listener.{Listener}
+use Rattle.pres_fan.specs.Listeners.{IsListeners, most_paths, paths_of, with_listener, without, without_session, touched}
 use Rattle.pres_server.specs.declared.index.Index.{Index}
 use Rattle.pres_server.specs.declared.index.Made.{Made}
 use Rattle.pres_server.specs.declared.input.Input.{Input}
 use Rattle.pres_server.specs.declared.turn.Now.{Now}
 use Rattle.pres_server.specs.declared.turn.Step.{Step}
-use Rattle.pres_server.specs.Sessions.{session_of}
+use Rattle.pres_server.specs.Sessions.{session_of, is_open}
+use Rattle.pres_server.specs.Listening.{listened}
 use Rattle.pres_server.specs.Heard.{Heard, heard_last, heard_from}
 use Rattle.pres_server.specs.Turns.{Decision, Decides, op_by}
-use Rattle.pres_server.specs.Parts.{LivePart, Part, part_of, limited_by, wanted_by, answer_by}
-use Rattle.pres_server.specs.Places.{Session, last_stamp, moment_at, live_part, live_after, heard_at, heard_of_all, HasRoom, MayLeaveAt, AreDueAt, open_count, MayOpen}
+use Rattle.pres_server.specs.Parts.{LivePart, Part, part_of, sent_of, limited_by, wanted_by, answer_by}
+use Rattle.pres_server.specs.Pushes.{after_pushes, pushes, MayPushAll}
+use Rattle.pres_server.specs.Places.{Session, last_stamp, moment_at, sent_to, live_part, live_after, heard_at, heard_of_all, HasRoom, MayLeaveAt, AreDueAt, open_count, MayOpen}
 
 -- the client's open session
 abbrev pub session_at : Index → ClientId → Option Session
@@ -45,6 +50,14 @@ part_at index client = record { last = last_stamp (session_at index client) (gon
 abbrev pub live_at : Index → SessionId → Option LivePart
 live_at index s = (part_at index s.client).live
 
+-- how many messages were sent to the client's open session
+abbrev pub sent_at : Index → ClientId → Option ℕ
+sent_at index client = sent_to (session_at index client)
+
+-- the paths that the session listens to
+abbrev pub paths_at : Index → SessionId → List Path
+paths_at index s = paths_of s index.listeners
+
 -- when the client of each open session was heard of last
 abbrev pub heard_in : Index → Heard
 heard_in index = heard_of_all index.places
@@ -58,11 +71,12 @@ abbrev pub retry_after : ℕ → Entry → Table → Table
 retry_after z (entry.Op s q n op outcome) table = recorded s.client n (row z (kept_of outcome)) table
 retry_after z _ table = table
 
--- the tree after the writes of an entry
-abbrev pub tree_after_entry : Entry → Rows Scalar → Rows Scalar
-tree_after_entry (entry.Op s q n op outcome) before = applied before (writes_in outcome)
-tree_after_entry (entry.Ended s q why rows) before = applied before rows
-tree_after_entry _ before = before
+-- who listens to what after an entry
+abbrev pub listeners_after : Entry → List Listener → List Listener
+listeners_after (entry.On s q path) listeners = with_listener s path listeners
+listeners_after (entry.Off s q path) listeners = without s path listeners
+listeners_after (entry.Ended s q why rows) listeners = without_session s listeners
+listeners_after _ listeners = listeners
 
 -- what is made, where it is within the limits; so many entries were made before
 abbrev pub limited_on : Index → ℕ → Decision → Decision
@@ -74,7 +88,7 @@ write_on index moment s q n op = op_by (verdict n (part_at index s.client).rows)
 
 -- what an input asks for, within the limits
 abbrev pub decision_on : Index → Now → Input → Decision
-decision_on index now i = limited_on index now.number (wanted_by (part_at index) (heard_in index) index.tree now.moment i)
+decision_on index now i = limited_on index now.number (wanted_by (part_at index) (paths_at index) (heard_in index) index.tree now.moment i)
 
 -- the step that an input asks for, or its refusal
 abbrev pub DecidesOn : Index → Now → Input → Result Step Fault → Type 0
@@ -86,9 +100,17 @@ pub record Ready (index : Index) (now : Now) : Type 0 where
   pub sessions : open_count index.places < 2 ^ 53
   pub counted : (c : ClientId) → IsSome (part_at index c).live → 0 < open_count index.places
 
--- what the entry answers that is made there
+-- what the entry answers to its own session that is made there
 abbrev pub answer_on : Index → Made → Entry → List Down
-answer_on index made e = answer_by made.number e (part_at index (session_of e).client)
+answer_on index made e = answer_by made.number e (part_at index (session_of e).client).rows (sent_at index (session_of e).client) index.tree
+
+-- the index after these writes, and a Push to each session that they touch
+pub record Carries (writes : List BasicWrite) (old new : Index) : Type 0 where
+  pub live : (c : ClientId) → session_at new c ≡ after_pushes (session_at old) (touched writes old.listeners) c
+  pub gone : new.places.gone ≡ old.places.gone
+  pub retry : new.retry ≡ old.retry
+  pub listeners : new.listeners ≡ old.listeners
+  pub tree : new.tree ≡ applied old.tree writes
 
 -- who is gone after an entry
 abbrev pub GoneSteps : Index → Index → Entry → Type 0
@@ -96,12 +118,13 @@ GoneSteps old new (entry.Open s) = Updates client_cmp old.places.gone new.places
 GoneSteps old new (entry.Ended s q why rows) = Updates client_cmp old.places.gone new.places.gone s.client (last_stamp (session_at old s.client) (gone_at old s.client))
 GoneSteps old new _ = new.places.gone ≡ old.places.gone
 
--- the index after entry number z, made at the moment
+-- the index after entry number z, made at the moment, whose writes were carried out before
 pub record Steps (z moment : ℕ) (old new : Index) (e : Entry) : Type 0 where
   pub live : Updates client_cmp old.places.live new.places.live (session_of e).client (live_after moment e (session_at old (session_of e).client))
   pub gone : GoneSteps old new e
   pub retry : new.retry ≡ retry_after z e old.retry
-  pub tree : new.tree ≡ tree_after_entry e old.tree
+  pub listeners : new.listeners ≡ listeners_after e old.listeners
+  pub tree : new.tree ≡ old.tree
 
 -- the index after an entry that is made there
 abbrev pub StepsAt : Made → Index → Index → Entry → Type 0
@@ -112,9 +135,10 @@ pub record Hears (client : ClientId) (moment : ℕ) (old new : Index) : Type 0 w
   pub live : (c : ClientId) → session_at new c ≡ (if same_client client c then heard_at moment (session_at old client) else session_at old c)
   pub gone : new.places.gone ≡ old.places.gone
   pub retry : new.retry ≡ old.retry
+  pub listeners : new.listeners ≡ old.listeners
   pub tree : new.tree ≡ old.tree
 
--- what the code asks of an entry that it takes in: a legal log's next one meets it
+-- what the code asks of an entry that it takes in, whose writes were carried out: a legal log's next one meets it
 abbrev pub MayTake : Index → Entry → Type 0
 MayTake index (entry.Open s) = MayOpen index.places s
 MayTake index (entry.Op s q n op outcome) = HasRoom (session_at index s.client) × (n ≡ length (rows_of s.client index.retry) + 1)
@@ -122,9 +146,26 @@ MayTake index (entry.Again s q n) = HasRoom (session_at index s.client) × (kept
 MayTake index (entry.Left s q puts) = HasRoom (session_at index s.client) × MayLeaveAt (session_at index s.client) q (entry.Left s q puts)
 MayTake index (entry.Cancelled s q path) = HasRoom (session_at index s.client) × MayLeaveAt (session_at index s.client) q (entry.Cancelled s q path)
 MayTake index (entry.Denied s q why) = HasRoom (session_at index s.client)
+MayTake index (entry.On s q path) = HasRoom (session_at index s.client) × (length (paths_of s (with_listener s path index.listeners)) ≤ most_paths)
+MayTake index (entry.Off s q path) = HasRoom (session_at index s.client)
 MayTake index (entry.Ended s q why rows) = HasRoom (session_at index s.client) × AreDueAt (session_at index s.client) rows
+
+-- and of its writes
+pub record MayCarry (index : Index) (e : Entry) : Type 0 where
+  pub writes : MayPushAll (session_at index) (touched (writes_of e) index.listeners)
+  pub entry : (next : Index) → Carries (writes_of e) index next → MayTake next e
+
+-- the index after an entry that is made there, and the messages that it adds to those before
+pub record Takes (made : Made) (e : Entry) (old new : Index) (before after : List Down) : Type 0 where
+  pub between : Index
+  pub carried : Carries (writes_of e) old between
+  pub steps : StepsAt made between new e
+  pub answers : after ≡ before ++ (pushes made.number between.tree (session_at old) (touched (writes_of e) old.listeners) ++ answer_on between made e)
 
 -- the index says what the entries say
 pub record Indexed (es : List Entry) (index : Index) : Type 0 where
   pub parts : (c : ClientId) → part_at index c ≡ part_of c es
+  pub sent : (c : ClientId) → sent_at index c ≡ sent_of c es
+  pub listens : (s : SessionId) → paths_at index s ≡ (if is_open s es then listened s es else [])
+  pub held : IsListeners index.listeners
   pub tree : index.tree ≡ tree es

@@ -6,6 +6,7 @@ use Rattle.pres_wire.specs.declared.id.SessionId.{SessionId}
 use Rattle.pres_wire.specs.declared.id.Why.{Why}
 use Rattle.pres_wire.specs.declared.id.Why.TheVariants.{Bye, Superseded}
 use Rattle.pres_plan.specs.Plans.{most_rows}
+use Rattle.pres_fan.specs.Listeners.{most_paths}
 use Rattle.pres_log.specs.declared.entry.Batch.{Batch}
 use Rattle.pres_log.specs.declared.entry.Entry.{Entry}
 use Rattle.pres_log.specs.declared.entry.Entry.TheVariants as entry
@@ -13,6 +14,7 @@ use Rattle.pres_log.specs.Logs.{Log, entries, number, last_moment, tree}
 use Rattle.pres_server.specs.Sessions.{is_open, is_newest, open_sessions, open_sessions_of, count}
 use Rattle.pres_server.specs.Outcomes.{ops}
 use Rattle.pres_server.specs.SessionPlans.{plan, due_at}
+use Rattle.pres_server.specs.Listening.{listened}
 
 -- s is open, and q is its next
 abbrev pub IsNext : SessionId → ℕ → List Entry → Type 0
@@ -31,6 +33,8 @@ MayCome before moment (entry.Again s q n) = IsNext s q before × (1 ≤ n) × (n
 MayCome before moment (entry.Left s q puts) = IsNext s q before × (length (plan s (before ++ entry.Left s q puts ∷ [])) ≤ most_rows)
 MayCome before moment (entry.Cancelled s q path) = IsNext s q before × (length (plan s (before ++ entry.Cancelled s q path ∷ [])) ≤ most_rows)
 MayCome before moment (entry.Denied s q why) = IsNext s q before
+MayCome before moment (entry.On s q path) = IsNext s q before × (length (listened s (before ++ entry.On s q path ∷ [])) ≤ most_paths)
+MayCome before moment (entry.Off s q path) = IsNext s q before
 MayCome before moment (entry.Ended s q why rows) = IsTrue (is_open s before) × IsEndNumber s q why before × (rows ≡ due_at before moment s)
 
 -- no end for a newer session

@@ -1,12 +1,14 @@
 pub mod Sessions
 pub mod Outcomes
 pub mod SessionPlans
+pub mod Listening
 pub mod Streams
 pub mod LegalLog
 pub mod Heard
 pub mod Turns
 pub mod Parts
 pub mod Places
+pub mod Pushes
 pub mod Index
 pub mod Invariants
 pub mod Laws

@@ -6,7 +6,7 @@ use Rattle.pres_write.specs.Outcomes.{kept_of}
 use Rattle.pres_wire.specs.declared.id.Stamp.{Stamp}
 use Rattle.pres_wire.specs.declared.id.SessionId.{SessionId}
 use Rattle.pres_wire.specs.declared.down.Down.{Down}
-use Rattle.pres_wire.specs.declared.down.Down.TheVariants.{Welcome, Reply, Armed, Denied, Gone}
+use Rattle.pres_wire.specs.declared.down.Down.TheVariants.{Welcome, Reply, Armed, Snap, OffDone, Denied, Gone}
 use Rattle.pres_wire.specs.Ids.{ClientId, stamp_of, is_earlier}
 use Rattle.pres_retry.specs.declared.table.Row.{Row}
 use Rattle.pres_log.specs.declared.entry.Entry.{Entry}
@@ -14,9 +14,11 @@ use Rattle.pres_log.specs.declared.entry.Entry.TheVariants as entry
 use Rattle.pres_server.specs.Sessions.{opens, ends, count, open_sessions_of, is_newest, last_of}
 use Rattle.pres_server.specs.Outcomes.{rows_for}
 use Rattle.pres_server.specs.SessionPlans.{plan}
-use Rattle.pres_server.specs.Streams.{stream}
+use Rattle.pres_fan.specs.Listeners.{add_path}
+use Rattle.pres_server.specs.Streams.{Unnumbered, stream}
 use Rattle.pres_tree.specs.declared.scalar.Scalar.{Scalar}
-use Rattle.pres_tree.specs.Rows.{Rows}
+use Rattle.pres_tree.specs.Paths.{Path}
+use Rattle.pres_tree.specs.Rows.{Rows, value_at}
 use Rattle.pres_wire.specs.declared.id.Why.{Why}
 use Rattle.pres_wire.specs.declared.id.Why.TheVariants as why
 use Rattle.pres_wire.specs.declared.up.Up.{Up}
@@ -31,13 +33,12 @@ use Rattle.pres_log.specs.declared.fault.Fault.TheVariants as fault
 use Rattle.pres_server.specs.declared.input.Input.{Input}
 use Rattle.pres_server.specs.declared.input.Input.TheVariants as input
 use Rattle.pres_server.specs.Heard.{Heard, late_client}
-use Rattle.pres_server.specs.Turns.{Decision, refused, quiet, makes, within_rows, op_by}
+use Rattle.pres_server.specs.Turns.{Decision, refused, quiet, makes, within_rows, within_paths, op_by}
 
--- of an open session: its stamp, its last q and its last r, and what it leaves for its end
+-- of an open session: its stamp, its last q, and what it leaves for its end
 pub record LivePart : Type 0 where
   pub stamp : Stamp
   pub count : ℕ
-  pub sent : ℕ
   pub plan : List PlanRow
 
 -- of a client: the stamp of its last session, the outcomes of its writes, and its open session
@@ -48,11 +49,19 @@ pub record Part : Type 0 where
 
 abbrev pub live_in : List SessionId → List Entry → Option LivePart
 live_in [] es = None
-live_in (s ∷ more) es = Some (record { stamp = stamp_of s; count = count s es; sent = length (stream s es); plan = plan s es })
+live_in (s ∷ more) es = Some (record { stamp = stamp_of s; count = count s es; plan = plan s es })
 
 -- what the log says
 abbrev pub part_of : ClientId → List Entry → Part
 part_of c es = record { last = last_of c es; rows = rows_for c es; live = live_in (open_sessions_of c es) es }
+
+-- how many messages were sent to the open session of a client
+abbrev pub sent_in : List SessionId → List Entry → Option ℕ
+sent_in [] es = None
+sent_in (s ∷ more) es = Some (length (stream s es))
+
+abbrev pub sent_of : ClientId → List Entry → Option ℕ
+sent_of c es = sent_in (open_sessions_of c es) es
 
 -- what it leaves after an entry of its own
 abbrev pub plan_after : Entry → List PlanRow → List PlanRow
@@ -62,10 +71,10 @@ plan_after _ rows = rows
 
 -- an open session after an entry of its own that answers it
 abbrev pub one_more : Entry → LivePart → LivePart
-one_more e l = record { stamp = l.stamp; count = l.count + 1; sent = l.sent + 1; plan = plan_after e l.plan }
+one_more e l = record { stamp = l.stamp; count = l.count + 1; plan = plan_after e l.plan }
 
 abbrev pub live_step : Entry → Option LivePart → Option LivePart
-live_step (entry.Open s) live = Some (record { stamp = stamp_of s; count = 0; sent = 0; plan = [] })
+live_step (entry.Open s) live = Some (record { stamp = stamp_of s; count = 0; plan = [] })
 live_step (entry.Ended s q why rows) live = None
 live_step e live = option_map (one_more e) live
 
@@ -87,23 +96,27 @@ open_step (entry.Open s) n = n + 1
 open_step (entry.Ended s q why rows) n = n - 1
 open_step _ n = n
 
-abbrev pub message_next : Option LivePart → (ℕ → Down) → List Down
+-- the next message to a session to which so many were sent
+abbrev pub message_next : Option ℕ → Unnumbered → List Down
 message_next None m = []
-message_next (Some l) m = m (l.sent + 1) ∷ []
+message_next (Some sent) m = m (sent + 1) ∷ []
 
-abbrev pub reply_next : SessionId → ℕ → ℕ → ℕ → Option LivePart → Option Row → List Down
-reply_next s z q n live None = []
-reply_next s z q n live (Some row) = message_next live (λ r. Reply s r z q n row.done row.kept)
+abbrev pub reply_next : SessionId → ℕ → ℕ → ℕ → Option ℕ → Option Row → List Down
+reply_next s z q n sent None = []
+reply_next s z q n sent (Some row) = message_next sent (λ r. Reply s r z q n row.done row.kept)
 
--- what entry number z answers, by the part before it
-abbrev pub answer_by : ℕ → Entry → Part → List Down
-answer_by z (entry.Open s) p = Welcome s z (length p.rows) ∷ []
-answer_by z (entry.Op s q n op outcome) p = message_next p.live (λ r. Reply s r z q n z (kept_of outcome))
-answer_by z (entry.Again s q n) p = reply_next s z q n p.live (slice_get p.rows (n - 1))
-answer_by z (entry.Left s q puts) p = message_next p.live (λ r. Armed s r z q)
-answer_by z (entry.Cancelled s q path) p = message_next p.live (λ r. Armed s r z q)
-answer_by z (entry.Denied s q why) p = message_next p.live (λ r. Denied s r z q why)
-answer_by z (entry.Ended s q why rows) p = message_next p.live (λ r. Gone s r z why)
+-- what entry number z answers to its own session, by the rows of its client, how many messages were sent to the
+-- session, and the tree after the entry
+abbrev pub answer_by : ℕ → Entry → List Row → Option ℕ → Rows Scalar → List Down
+answer_by z (entry.Open s) rows sent tree = Welcome s z (length rows) ∷ []
+answer_by z (entry.Op s q n op outcome) rows sent tree = message_next sent (λ r. Reply s r z q n z (kept_of outcome))
+answer_by z (entry.Again s q n) rows sent tree = reply_next s z q n sent (slice_get rows (n - 1))
+answer_by z (entry.Left s q puts) rows sent tree = message_next sent (λ r. Armed s r z q)
+answer_by z (entry.Cancelled s q path) rows sent tree = message_next sent (λ r. Armed s r z q)
+answer_by z (entry.Denied s q why) rows sent tree = message_next sent (λ r. Denied s r z q why)
+answer_by z (entry.On s q path) rows sent tree = message_next sent (λ r. Snap s r z q path (value_at path tree))
+answer_by z (entry.Off s q path) rows sent tree = message_next sent (λ r. OffDone s r z q)
+answer_by z (entry.Ended s q why rows_due) rows sent tree = message_next sent (λ r. Gone s r z why)
 
 abbrev pub comes_after : Option Stamp → Stamp → Bool
 comes_after None t = true
@@ -174,13 +187,20 @@ hello_by p tree moment s =
 abbrev pub leaves_by : Option LivePart → Entry → SessionId → ℕ → Decision
 leaves_by live e s q = within_rows (length (plan_after e (plan_in live))) e s q
 
-abbrev pub message_by : Part → Rows Scalar → ℕ → Up → Decision
-message_by p tree moment (up.Hello s) = hello_by p tree moment s
-message_by p tree moment (up.Op s q n op) = said_by p.live s q (op_by (verdict n p.rows) tree moment s q n op)
-message_by p tree moment (up.Left s q op) = said_by p.live s q (leaves_by p.live (entry.Left s q (puts_of op)) s q)
-message_by p tree moment (up.Cancel s q path) = said_by p.live s q (leaves_by p.live (entry.Cancelled s q path) s q)
-message_by p tree moment (up.Bye s q) = said_by p.live s q (makes (end_by p.live tree moment (Some q) why.Bye s ∷ []))
-message_by p tree moment (up.Beat s) = if is_live p.live (stamp_of s) then quiet else refused fault.Session
+-- a session that listens to these paths listens to one more, or is denied where there would be too many
+abbrev pub listens_by : List Path → SessionId → ℕ → Path → Decision
+listens_by paths s q path = within_paths (length (add_path path paths)) s q path
+
+-- what a message asks for, by the part of its client and the paths that its session listens to
+abbrev pub message_by : Part → List Path → Rows Scalar → ℕ → Up → Decision
+message_by p paths tree moment (up.Hello s) = hello_by p tree moment s
+message_by p paths tree moment (up.Op s q n op) = said_by p.live s q (op_by (verdict n p.rows) tree moment s q n op)
+message_by p paths tree moment (up.Left s q op) = said_by p.live s q (leaves_by p.live (entry.Left s q (puts_of op)) s q)
+message_by p paths tree moment (up.Cancel s q path) = said_by p.live s q (leaves_by p.live (entry.Cancelled s q path) s q)
+message_by p paths tree moment (up.On s q path) = said_by p.live s q (listens_by paths s q path)
+message_by p paths tree moment (up.Off s q path) = said_by p.live s q (makes (entry.Off s q path ∷ []))
+message_by p paths tree moment (up.Bye s q) = said_by p.live s q (makes (end_by p.live tree moment (Some q) why.Bye s ∷ []))
+message_by p paths tree moment (up.Beat s) = if is_live p.live (stamp_of s) then quiet else refused fault.Session
 
 abbrev pub ends_live : Option LivePart → Rows Scalar → ℕ → Why → SessionId → Decision
 ends_live live tree moment why s = if is_live live (stamp_of s) then makes (end_by live tree moment None why s ∷ []) else quiet
@@ -194,13 +214,13 @@ abbrev pub ends_late_by : (ClientId → Part) → Rows Scalar → ℕ → Option
 ends_late_by part tree moment None = quiet
 ends_late_by part tree moment (Some c) = ends_of (part c).live tree moment why.Lease c
 
--- what an input asks for, by the part of each client, and when each was heard of last
-abbrev pub wanted_by : (ClientId → Part) → Heard → Rows Scalar → ℕ → Input → Decision
-wanted_by part heard tree moment (input.Up m) = message_by (part (session_in m).client) tree moment m
-wanted_by part heard tree moment (input.Lost s) = ends_live (part s.client).live tree moment why.Lost s
-wanted_by part heard tree moment (input.Slow s) = ends_live (part s.client).live tree moment why.Slow s
-wanted_by part heard tree moment (input.Restart c) = ends_of (part c).live tree moment why.Restart c
-wanted_by part heard tree moment input.Tick = ends_late_by part tree moment (late_client moment heard)
+-- what an input asks for, by the part of each client, what each session listens to, and when each was heard of last
+abbrev pub wanted_by : (ClientId → Part) → (SessionId → List Path) → Heard → Rows Scalar → ℕ → Input → Decision
+wanted_by part paths heard tree moment (input.Up m) = message_by (part (session_in m).client) (paths (session_in m)) tree moment m
+wanted_by part paths heard tree moment (input.Lost s) = ends_live (part s.client).live tree moment why.Lost s
+wanted_by part paths heard tree moment (input.Slow s) = ends_live (part s.client).live tree moment why.Slow s
+wanted_by part paths heard tree moment (input.Restart c) = ends_of (part c).live tree moment why.Restart c
+wanted_by part paths heard tree moment input.Tick = ends_late_by part tree moment (late_client moment heard)
 
 abbrev pub open_steps : List Entry → ℕ → ℕ
 open_steps [] n = n

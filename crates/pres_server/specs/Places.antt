@@ -32,13 +32,21 @@ last_stamp (Some session) last = Some session.stamp
 abbrev pub next_number : Option Session → Option ℕ
 next_number live = option_map (λ session. session.sent + 1) live
 
+-- how many messages were sent to it
+abbrev pub sent_to : Option Session → Option ℕ
+sent_to live = option_map (λ session. session.sent) live
+
+-- a session after one message more to it
+abbrev pub sent_one : Option Session → Option Session
+sent_one live = option_map (λ session. record { stamp = session.stamp; count = session.count; sent = session.sent + 1; heard = session.heard; plan = session.plan }) live
+
 -- when the client was heard of last, where a session of it is open
 abbrev pub moment_at : Option Session → Option ℕ
 moment_at live = option_map (λ session. session.heard) live
 
 -- what answers and checks need of it
 abbrev pub live_part : Session → LivePart
-live_part session = record { stamp = session.stamp; count = session.count; sent = session.sent; plan = session.plan }
+live_part session = record { stamp = session.stamp; count = session.count; plan = session.plan }
 
 -- a session after a message of its client that was accepted at the moment and answered, and leaves this plan
 abbrev pub answered : ℕ → List PlanRow → Session → Session
@@ -71,6 +79,11 @@ gone_after _ live last = last
 abbrev pub HasRoom : Option Session → Type 0
 HasRoom (Some session) = (session.count < greatest_number) × (session.sent < greatest_number)
 HasRoom None = ⊥
+
+-- a session is open that has a number left for a message to it
+abbrev pub MaySend : Option Session → Type 0
+MaySend (Some session) = session.sent < greatest_number
+MaySend None = ⊥
 
 -- the session's next message is q, which leaves what the entry adds
 pub record MayLeave (session : Session) (q : ℕ) (e : Entry) : Type 0 where

@@ -18,6 +18,8 @@ session_of (entry.Again s q n) = s
 session_of (entry.Left s q puts) = s
 session_of (entry.Cancelled s q path) = s
 session_of (entry.Denied s q why) = s
+session_of (entry.On s q path) = s
+session_of (entry.Off s q path) = s
 session_of (entry.Ended s q why rows) = s
 
 abbrev pub opened_by : Entry → Option SessionId

@@ -1,21 +1,36 @@
 -- What a session is sent: the stream of its messages, read off the log, and what a committed batch answers. The
 -- numbers of messages are ours.
-use Rattle.std.specs.Prelude.{ℕ, ◌+◌, ◌-◌, List, [], ◌∷◌, ◌++◌, length, Option, Some, None, if◌then◌else◌, slice_get, drop}
-use Rattle.std.specs.List.{before_first}
+use Rattle.std.specs.Prelude.{ℕ, ◌+◌, ◌-◌, Bool, true, false, not, List, [], ◌∷◌, ◌++◌, map, filter, length, Option, Some, None, if◌then◌else◌, slice_get, drop}
+use Rattle.std.specs.List.{before_first, flat_map}
+use Rattle.pres_tree.specs.declared.scalar.Scalar.{Scalar}
+use Rattle.pres_tree.specs.Paths.{Path}
+use Rattle.pres_tree.specs.Rows.{Rows, value_at}
 use Rattle.pres_write.specs.Outcomes.{kept_of}
 use Rattle.pres_wire.specs.declared.id.SessionId.{SessionId}
 use Rattle.pres_wire.specs.declared.down.Down.{Down}
-use Rattle.pres_wire.specs.declared.down.Down.TheVariants.{Welcome, Reply, Armed, Denied, Gone}
+use Rattle.pres_wire.specs.declared.down.Down.TheVariants.{Welcome, Reply, Armed, Snap, Push, OffDone, Denied, Gone}
+use Rattle.pres_wire.specs.declared.values.PathValue.{PathValue}
 use Rattle.pres_wire.specs.Ids.{same_session}
 use Rattle.pres_retry.specs.declared.table.Row.{Row}
 use Rattle.pres_log.specs.declared.entry.Entry.{Entry}
 use Rattle.pres_log.specs.declared.entry.Entry.TheVariants as entry
-use Rattle.pres_server.specs.Sessions.{session_of, opens, ends, since_open}
+use Rattle.pres_log.specs.Logs.{tree}
+use Rattle.pres_server.specs.Sessions.{session_of, opens, ends, since_open, open_sessions}
 use Rattle.pres_server.specs.Outcomes.{ops, rows_for}
+use Rattle.pres_server.specs.Listening.{touched}
 
 -- a message still without its r
 abbrev pub Unnumbered : Type 0
 Unnumbered = ℕ → Down
+
+-- a path and what stands there
+abbrev pub shown : Rows Scalar → Path → PathValue
+shown tree path = record { path = path; value = value_at path tree }
+
+-- one Push with what stands at the paths after the entries, where there is such a path
+abbrev pub push_of : SessionId → List Entry → List Path → List Unnumbered
+push_of s now [] = []
+push_of s now (p ∷ paths) = (λ r. Push s r (length now) (map (shown (tree now)) (p ∷ paths))) ∷ []
 
 abbrev pub repeated_reply : SessionId → ℕ → ℕ → ℕ → Option Row → List Unnumbered
 repeated_reply s z q n None = []
@@ -29,11 +44,14 @@ own_answer now (entry.Again s q n) = repeated_reply s (length now) q n (slice_ge
 own_answer now (entry.Left s q puts) = (λ r. Armed s r (length now) q) ∷ []
 own_answer now (entry.Cancelled s q path) = (λ r. Armed s r (length now) q) ∷ []
 own_answer now (entry.Denied s q why) = (λ r. Denied s r (length now) q why) ∷ []
+own_answer now (entry.On s q path) = (λ r. Snap s r (length now) q path (value_at path (tree now))) ∷ []
+own_answer now (entry.Off s q path) = (λ r. OffDone s r (length now) q) ∷ []
 own_answer now (entry.Ended s q why rows) = (λ r. Gone s r (length now) why) ∷ []
 
--- what one entry, the last of these, adds to the stream of s
+-- what one entry, the last of these, adds to the stream of s: a Push of what it touches, then the answer where it is
+-- an entry of s
 abbrev pub sent_for : SessionId → List Entry → Entry → List Unnumbered
-sent_for s now e = if same_session s (session_of e) then own_answer now e else []
+sent_for s now e = push_of s now (touched s now e) ++ (if same_session s (session_of e) then own_answer now e else [])
 
 -- what the later entries add, up to the end of s
 abbrev pub sent_from : SessionId → List Entry → List Entry → List Unnumbered
@@ -60,10 +78,18 @@ welcome s now = Welcome s (length now) (ops s.client now)
 abbrev pub added : SessionId → List Entry → Entry → List Down
 added s before e = drop (length (stream s before)) (stream s (before ++ e ∷ []))
 
+abbrev pub is_push : Down → Bool
+is_push (Push s r z values) = true
+is_push _ = false
+
 -- the answer to the entry's own session
+abbrev pub own_added : List Entry → Entry → List Down
+own_added before (entry.Open s) = welcome s (before ++ entry.Open s ∷ []) ∷ []
+own_added before e = filter (λ m. not (is_push m)) (added (session_of e) before e)
+
+-- the Pushes to the open sessions, in byte order of their clients, and then the own answer
 abbrev pub answers_to : List Entry → Entry → List Down
-answers_to before (entry.Open s) = welcome s (before ++ entry.Open s ∷ []) ∷ []
-answers_to before e = added (session_of e) before e
+answers_to before e = flat_map (λ s. filter is_push (added s before e)) (open_sessions before) ++ own_added before e
 
 -- those of a batch, entry by entry
 abbrev pub answers : List Entry → List Entry → List Down

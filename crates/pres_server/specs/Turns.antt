@@ -2,6 +2,7 @@
 -- is handed in, and what the calls of a server answer.
 use Rattle.std.specs.Prelude.{ℕ, ◌+◌, ◌-◌, ◌^◌, min, max, List, [], ◌∷◌, ◌++◌, map, length, Some, None, if◌then◌else◌, nat_lt, nat_le, ◌==◌, unwrap_or, ◌≡◌, ◌⊎◌, Bool, true, false, Option, Result, MatchResult}
 use Rattle.pres_tree.specs.declared.scalar.Scalar.{Scalar}
+use Rattle.pres_tree.specs.Paths.{Path}
 use Rattle.pres_tree.specs.Rows.{Rows}
 use Rattle.pres_write.specs.declared.op.Op.{Op}
 use Rattle.pres_write.specs.Moments as moments
@@ -15,6 +16,7 @@ use Rattle.pres_wire.specs.declared.up.Up.TheVariants as up
 use Rattle.pres_wire.specs.declared.down.Limit.TheVariants as limit
 use Rattle.pres_wire.specs.Ids.{ClientId, stamp_of}
 use Rattle.pres_plan.specs.Plans.{most_rows}
+use Rattle.pres_fan.specs.Listeners.{most_paths}
 use Rattle.pres_retry.specs.Verdicts.{verdict, Told, fresh, again, gap}
 use Rattle.pres_log.specs.declared.entry.Entry.{Entry}
 use Rattle.pres_log.specs.declared.entry.Entry.TheVariants as entry
@@ -24,6 +26,7 @@ use Rattle.pres_log.specs.Logs.{Log, last_moment, tree, entries, number}
 use Rattle.pres_server.specs.Sessions.{is_open, is_newest, open_sessions, open_sessions_of, last_of, count}
 use Rattle.pres_server.specs.Outcomes.{rows_for}
 use Rattle.pres_server.specs.SessionPlans.{plan, due_at}
+use Rattle.pres_server.specs.Listening.{listened}
 use Rattle.pres_log.specs.declared.entry.Batch.{Batch}
 use Rattle.pres_server.specs.declared.input.Input.{Input}
 use Rattle.pres_server.specs.declared.input.Input.TheVariants as input
@@ -71,6 +74,10 @@ ends_late before moment (Some c) = ends_first before moment why.Lease (open_sess
 abbrev pub within_rows : ℕ → Entry → SessionId → ℕ → Decision
 within_rows rows e s q = makes ((if nat_le rows most_rows then e else entry.Denied s q limit.Plan) ∷ [])
 
+-- the On with message q of the session, or a denial where the session would then listen to so many paths
+abbrev pub within_paths : ℕ → SessionId → ℕ → Path → Decision
+within_paths paths s q path = makes ((if nat_le paths most_paths then entry.On s q path else entry.Denied s q limit.Listens) ∷ [])
+
 -- what write n of a client makes, by what it is
 abbrev pub op_by : Told → Rows Scalar → ℕ → SessionId → ℕ → ℕ → Op → Decision
 op_by fresh tree moment s q n op = makes (entry.Op s q n op (resolved tree moment op) ∷ [])
@@ -97,6 +104,10 @@ hello before moment s =
 abbrev pub leaves : List Entry → Entry → SessionId → ℕ → Decision
 leaves before e s q = within_rows (length (plan s (before ++ e ∷ []))) e s q
 
+-- the session listens to the path by message q, or is denied where it would then listen to too many
+abbrev pub listens : List Entry → SessionId → ℕ → Path → Decision
+listens before s q path = within_paths (length (listened s (before ++ entry.On s q path ∷ []))) s q path
+
 abbrev pub message : List Entry → ℕ → Up → Decision
 message before moment (up.Hello s) = hello before moment s
 message before moment (up.Op s q n op) = if_open before s (in_order before s q (op_by (verdict n (rows_for s.client before)) (tree before) moment s q n op))
@@ -104,6 +115,8 @@ message before moment (up.Left s q op) = if_open before s (in_order before s q (
 message before moment (up.Cancel s q path) = if_open before s (in_order before s q (leaves before (entry.Cancelled s q path) s q))
 message before moment (up.Bye s q) = if_open before s (in_order before s q (makes (end_of before moment (Some q) why.Bye s ∷ [])))
 message before moment (up.Beat s) = if_open before s quiet
+message before moment (up.On s q path) = if_open before s (in_order before s q (listens before s q path))
+message before moment (up.Off s q path) = if_open before s (in_order before s q (makes (entry.Off s q path ∷ [])))
 
 -- refused where no number would be left for the ends, or where there would be more than 1,024 sessions
 abbrev pub limited : List Entry → Decision → Decision

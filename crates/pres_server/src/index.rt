@@ -2,21 +2,24 @@
 
 ghost use Rattle.std.specs.Prelude.{◌≡◌, ◌+◌, ◌++◌, ◌∷◌, [], ℕ, List, Option, length, IfOk};
 ghost use Rattle.std.specs.BTreeMap.{IsOrdered};
-ghost use Rattle.pres_write.specs.Basics.{applied};
-ghost use Rattle.pres_write.specs.Outcomes.{kept_of, writes_in};
+ghost use Rattle.pres_write.specs.Outcomes.{kept_of};
+ghost use Rattle.pres_fan.specs.Listeners.{touched};
 ghost use Rattle.pres_write.specs.declared.op.Op.{Op};
 ghost use Rattle.pres_retry.specs.Tables.{row, rows_of, recorded};
 ghost use Rattle.pres_wire.specs.Ids.{ClientId, client_cmp, stamp_of};
 ghost use Rattle.pres_log.specs.declared.entry.Entry.TheVariants as entry;
 ghost use Rattle.pres_server.specs.Streams.{answers};
 ghost use Rattle.pres_server.specs.Heard.{Heard, heard_after_all};
-ghost use Rattle.pres_server.specs.Index.{Indexed, StepsAt, MayTake, Tells, answer_on, live_at, session_at};
+ghost use Rattle.pres_server.specs.Pushes.{MayPushAll, pushes};
+ghost use Rattle.pres_server.specs.Index.{Indexed, Carries, StepsAt, Takes, MayTake, MayCarry, Tells, answer_on, live_at, session_at};
 ghost use Rattle.pres_server.specs.Invariants.{MayTakeAll};
 ghost use Rattle.pres_server.specs.Places.{moment_at};
 ghost use Rattle.pres_server.specs.Parts.{count_in};
 
 use crate::places::Places;
+use crate::push::{push_all, value_of};
 use crate::reopen::Reopen;
+use pres_fan::{FanFault, Listeners};
 use pres_log::Entry;
 use pres_retry::{RetryTable, Verdict};
 use pres_tree::{Path, Tree};
@@ -31,6 +34,8 @@ pub(crate) struct Index {
     pub(crate) places: Places,
     /// The answers to the writes of each client.
     pub(crate) retry: RetryTable,
+    /// Who listens to what.
+    pub(crate) listeners: Listeners,
     /// The tree after all writes.
     pub(crate) tree: Tree,
 }
@@ -40,16 +45,6 @@ pub(crate) struct Index {
 pub(crate) struct Made {
     pub(crate) number: Number,
     pub(crate) moment: Moment,
-}
-
-// The writes of an outcome.
-fn writes(outcome: &Outcome) -> &[Basic]
-    ensures { result.now ≡ writes_in outcome.now }
-{
-    match outcome {
-        Outcome::Wrote(writes) => writes.as_slice(),
-        Outcome::Stale(_) => &[],
-    }
 }
 
 impl Index {
@@ -62,6 +57,7 @@ impl Index {
         Index {
             places: Places::new(alloc),
             retry: RetryTable::new(alloc),
+            listeners: Listeners::new(alloc),
             tree: Tree::empty(),
         }
     }
@@ -101,15 +97,28 @@ impl Index {
         })
     }
 
-    // Carries out the writes.
-    fn put(&mut self, alloc: Global, writes: &[Basic]) -> Result<(), Reopen>
-        ensures { IfOk result
-            (λ _. self.new ≡ record self.old { tree = applied self.old.tree writes.now }) }
+    // Carries out the writes of entry number `z`, and sends what stands then to the sessions that
+    // listen to a place that they touch.
+    fn carry_out(
+        &mut self,
+        alloc: Global,
+        writes: &[Basic],
+        z: Number,
+        outs: &mut Vec<Down>,
+    ) -> Result<(), Reopen>
+        requires { MayPushAll (session_at self.old) (touched writes.now self.old.listeners) }
+        ensures carried { IfOk result (λ _. Carries writes.now self.old self.new) }
+        ensures messages { IfOk result (λ _. outs.new.items ≡ outs.old.items
+            ++ pushes z self.new.tree (session_at self.old)
+            (touched writes.now self.old.listeners)) }
     {
         let Ok(()) = apply(alloc, &mut self.tree, writes) else {
             return Err(Reopen);
         };
-        Ok(())
+        let Ok(touched) = self.listeners.touched(alloc, writes) else {
+            return Err(Reopen);
+        };
+        push_all(&mut self.places, alloc, &self.tree, z, touched, outs)
     }
 
     // Keeps the answer to the client's next write.
@@ -151,7 +160,6 @@ impl Index {
     {
         let r = self.places.answer(&session.client, made.moment);
         self.keep(alloc, &session.client, n, made.number, outcome)?;
-        self.put(alloc, writes(outcome))?;
         Ok(Down::Reply {
             session: session.copy(alloc)?,
             r,
@@ -267,6 +275,63 @@ impl Index {
         })
     }
 
+    // Takes in that the session listens to the path by its message `q`, and answers it.
+    fn listen(
+        &mut self,
+        alloc: Global,
+        session: &SessionId,
+        q: Number,
+        path: &Path,
+        made: Made,
+    ) -> Result<Down, Reopen>
+        requires { MayTake self.old (entry.On session.now q path.now) }
+        ensures steps { IfOk result
+            (λ _. StepsAt made self.old self.new (entry.On session.now q path.now)) }
+        ensures answer { IfOk result
+            (λ m. answer_on self.old made (entry.On session.now q path.now) ≡ m ∷ []) }
+    {
+        let r = self.places.answer(&session.client, made.moment);
+        let listened = path.copy(alloc)?;
+        match self.listeners.on(alloc, session, listened) {
+            Ok(()) => {}
+            Err(FanFault::Memory) => return Err(Reopen),
+            Err(FanFault::Full) => unreachable!(),
+        }
+        Ok(Down::Snap {
+            session: session.copy(alloc)?,
+            r,
+            z: made.number,
+            q,
+            path: path.copy(alloc)?,
+            value: value_of(alloc, &self.tree, path)?,
+        })
+    }
+
+    // Takes in that the session listens to the path no more by its message `q`, and answers it.
+    fn unlisten(
+        &mut self,
+        alloc: Global,
+        session: &SessionId,
+        q: Number,
+        path: &Path,
+        made: Made,
+    ) -> Result<Down, Reopen>
+        requires { MayTake self.old (entry.Off session.now q path.now) }
+        ensures steps { IfOk result
+            (λ _. StepsAt made self.old self.new (entry.Off session.now q path.now)) }
+        ensures answer { IfOk result
+            (λ m. answer_on self.old made (entry.Off session.now q path.now) ≡ m ∷ []) }
+    {
+        let r = self.places.answer(&session.client, made.moment);
+        self.listeners.off(session, path);
+        Ok(Down::OffDone {
+            session: session.copy(alloc)?,
+            r,
+            z: made.number,
+            q,
+        })
+    }
+
     // Takes in that the session ended, and answers it.
     fn end(
         &mut self,
@@ -283,7 +348,7 @@ impl Index {
             (λ m. answer_on self.old made (entry.Ended session.now q why rows.now) ≡ m ∷ []) }
     {
         let r = self.places.end(&session.client, why, rows)?;
-        self.put(alloc, rows)?;
+        self.listeners.drop_session(session);
         Ok(Down::Gone {
             session: session.copy(alloc)?,
             r,
@@ -292,8 +357,8 @@ impl Index {
         })
     }
 
-    /// Takes in the next entry of the log, and answers it. After an `Err` the index is of no use.
-    pub(crate) fn take(&mut self, alloc: Global, entry: &Entry, made: Made) -> Result<Down, Reopen>
+    // Takes in an entry whose writes were carried out, and answers its own session.
+    fn enter(&mut self, alloc: Global, entry: &Entry, made: Made) -> Result<Down, Reopen>
         requires { MayTake self.old entry.now }
         ensures steps { IfOk result (λ _. StepsAt made self.old self.new entry.now) }
         ensures answer { IfOk result (λ m. answer_on self.old made entry.now ≡ m ∷ []) }
@@ -313,6 +378,8 @@ impl Index {
                 self.cancelled(alloc, session, *q, path, made)
             }
             Entry::Denied { session, q, why } => self.denied(alloc, session, *q, *why, made),
+            Entry::On { session, q, path } => self.listen(alloc, session, *q, path, made),
+            Entry::Off { session, q, path } => self.unlisten(alloc, session, *q, path, made),
             Entry::Ended {
                 session,
                 why,
@@ -320,6 +387,25 @@ impl Index {
                 ..
             } => self.end(alloc, session, *why, rows.as_slice(), made),
         }
+    }
+
+    // Takes in the next entry of the log, and adds its answers: the Pushes, and then that to its
+    // own session. After an `Err` the index is of no use.
+    fn take(
+        &mut self,
+        alloc: Global,
+        entry: &Entry,
+        made: Made,
+        outs: &mut Vec<Down>,
+    ) -> Result<(), Reopen>
+        requires { MayCarry self.old entry.now }
+        ensures { IfOk result
+            (λ _. Takes made entry.now self.old self.new outs.old.items outs.new.items) }
+    {
+        self.carry_out(alloc, entry.writes(), made.number, outs)?;
+        let answer = self.enter(alloc, entry, made)?;
+        outs.push(answer)?;
+        Ok(())
     }
 }
 
@@ -346,13 +432,10 @@ pub(crate) fn take_all(
     let Some((first, rest)) = entries.split_first() else {
         return Ok(());
     };
-    outs.push(index.take(alloc, first, made)?)?;
+    let moment = made.moment;
     let Some(number) = made.number.next() else {
         unreachable!()
     };
-    let next = Made {
-        number,
-        moment: made.moment,
-    };
-    take_all(index, alloc, rest, next, outs)
+    index.take(alloc, first, made, outs)?;
+    take_all(index, alloc, rest, Made { number, moment }, outs)
 }

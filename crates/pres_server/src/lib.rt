@@ -6,6 +6,7 @@ mod index;
 mod input;
 pub mod laws;
 mod places;
+mod push;
 mod reopen;
 mod server;
 mod turn;
@@ -15,7 +16,9 @@ pub use pres_log::{Batch, Entry, Fault, Log};
 pub use pres_plan::{Action, Plan, PlanRow};
 pub use pres_retry::Row;
 pub use pres_tree::{Path, Tree};
-pub use pres_wire::{ClientId, Code, Count, Down, Limit, Number, SessionId, Stamp, Up, Why};
+pub use pres_wire::{
+    ClientId, Code, Count, Down, Limit, Number, PathValue, SessionId, Stamp, Up, Values, Why,
+};
 pub use pres_write::{Basic, Items, Kept, Moment, Op, Outcome, Placement, Puts, Unconditional};
 pub use reopen::Reopen;
 pub use server::{Busy, Server, Turn};

@@ -3,7 +3,7 @@
 ghost use Rattle.std.specs.Prelude.{◌≡◌, ◌+◌, nat_lt, [], IfSome, OnOk, IfOk, IsSome, Some, None, option_map, option_copied};
 ghost use Rattle.std.specs.BTreeMap.{get, Updates, IsOrdered};
 ghost use Rattle.pres_wire.specs.Ids.{client_cmp, stamp_of};
-ghost use Rattle.pres_server.specs.Places.{began, next_number, last_stamp, open_count, MayOpen, MayLeave, MayLeaveAt, AreDueAt, HasRoom, answered, answered_at, live_after, heard_at, heard_of_all};
+ghost use Rattle.pres_server.specs.Places.{began, next_number, last_stamp, open_count, MayOpen, MayLeave, MayLeaveAt, AreDueAt, HasRoom, MaySend, sent_one, answered, answered_at, live_after, heard_at, heard_of_all};
 ghost use Rattle.pres_server.specs.Heard.{lease, late_client};
 ghost use Rattle.pres_log.specs.declared.entry.Entry.TheVariants as entry;
 
@@ -166,6 +166,23 @@ impl Places {
             unreachable!()
         };
         answer_in(live, moment)
+    }
+
+    /// Counts a message to the client's open session: its number.
+    pub(crate) fn emit(&mut self, client: &ClientId) -> Number
+        requires { MaySend (get client_cmp self.old.live client.now) }
+        ensures number { Some result ≡ next_number (get client_cmp self.old.live client.now) }
+        ensures live { Updates client_cmp self.old.live self.new.live client.now
+            (sent_one (get client_cmp self.old.live client.now)) }
+        ensures gone { self.new.gone ≡ self.old.gone }
+    {
+        let Some(live) = self.live.get_mut(client) else {
+            unreachable!()
+        };
+        let Ok(number) = live.emit() else {
+            unreachable!()
+        };
+        number
     }
 
     /// The open session leaves what its message `q` puts, which was accepted at the moment: the

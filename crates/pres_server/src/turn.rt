@@ -5,13 +5,13 @@ ghost use Rattle.pres_wire.specs.Ids.{stamp_of};
 ghost use Rattle.pres_wire.specs.declared.up.Up.TheVariants as up;
 ghost use Rattle.pres_log.specs.declared.fault.Fault.TheVariants.{Busy};
 ghost use Rattle.pres_server.specs.Turns.{Decision, makes, Makes, Decides};
-ghost use Rattle.pres_server.specs.Parts.{said_by, ends_live, ends_of, end_by, leaves_by, is_live, within, checked, said, session_with};
+ghost use Rattle.pres_server.specs.Parts.{said_by, ends_live, ends_of, end_by, leaves_by, listens_by, is_live, within, checked, said, session_with};
 ghost use Rattle.pres_server.specs.declared.input.Input.TheVariants as input;
 ghost use Rattle.pres_wire.specs.declared.id.Why.TheVariants as why;
 ghost use Rattle.pres_write.specs.Unconditionals.{puts_of};
 ghost use Rattle.pres_log.specs.declared.entry.Entry.TheVariants as entry;
 ghost use Rattle.pres_server.specs.Places.{open_count, live_part};
-ghost use Rattle.pres_server.specs.Index.{live_at, part_at, limited_on, write_on, decision_on, DecidesOn, Ready};
+ghost use Rattle.pres_server.specs.Index.{live_at, part_at, paths_at, limited_on, write_on, decision_on, DecidesOn, Ready};
 
 use crate::index::Index;
 use crate::input::Input;
@@ -371,6 +371,88 @@ impl Index {
         Ok(Step::Makes(self.cancelling(alloc, session, q, path, now)?))
     }
 
+    // The entry of a session that listens, or of its denial.
+    fn listening_entry(&self, session: SessionId, q: Number, path: Path) -> Entry
+        ensures { makes (result ∷ []) ≡ listens_by (paths_at self.now session) session q path }
+    {
+        if self.listeners.may_listen(&session, &path) {
+            return Entry::On { session, q, path };
+        }
+        let why = Limit::Listens;
+        Entry::Denied { session, q, why }
+    }
+
+    // What an On makes that is the open session's next message.
+    fn listening(
+        &self,
+        alloc: Global,
+        session: SessionId,
+        q: Number,
+        path: Path,
+        now: Now,
+    ) -> Result<Items<Entry>, Fault>
+        requires { Ready self.now now }
+        ensures { Makes (limited_on self.now now.number
+            (listens_by (paths_at self.now session) session q path)) result }
+    {
+        limits(now.number + 1, self.places.open_count())?;
+        let entry = self.listening_entry(session, q, path);
+        Ok(Items::one(alloc, entry)?)
+    }
+
+    // What an On asks for.
+    fn on_message(
+        &self,
+        alloc: Global,
+        session: SessionId,
+        q: Number,
+        path: Path,
+        now: Now,
+    ) -> Result<Step, Fault>
+        requires { Ready self.now now }
+        ensures { DecidesOn self.now now (input.Up (up.On session q path)) result }
+    {
+        if !self.is_next(&session, q)? {
+            return Ok(Step::Quiet(Some(session)));
+        }
+        Ok(Step::Makes(self.listening(alloc, session, q, path, now)?))
+    }
+
+    // What an Off makes that is the open session's next message.
+    fn unlistening(
+        &self,
+        alloc: Global,
+        session: SessionId,
+        q: Number,
+        path: Path,
+        now: Now,
+    ) -> Result<Items<Entry>, Fault>
+        requires { Ready self.now now }
+        ensures { Makes (limited_on self.now now.number
+            (makes (entry.Off session q path ∷ []))) result }
+    {
+        limits(now.number + 1, self.places.open_count())?;
+        Ok(Items::one(alloc, Entry::Off { session, q, path })?)
+    }
+
+    // What an Off asks for.
+    fn off_message(
+        &self,
+        alloc: Global,
+        session: SessionId,
+        q: Number,
+        path: Path,
+        now: Now,
+    ) -> Result<Step, Fault>
+        requires { Ready self.now now }
+        ensures { DecidesOn self.now now (input.Up (up.Off session q path)) result }
+    {
+        if !self.is_next(&session, q)? {
+            return Ok(Step::Quiet(Some(session)));
+        }
+        Ok(Step::Makes(self.unlistening(alloc, session, q, path, now)?))
+    }
+
     // What a Beat asks for: nothing, but its client was heard of.
     fn beat(&self, session: SessionId, now: Now) -> Result<Step, Fault>
         ensures { DecidesOn self.now now (input.Up (up.Beat session)) result }
@@ -393,6 +475,8 @@ impl Index {
             Up::Cancel { session, q, path } => self.cancel_message(alloc, session, q, path, now),
             Up::Bye { session, q } => self.bye_message(alloc, session, q, now),
             Up::Beat { session } => self.beat(session, now),
+            Up::On { session, q, path } => self.on_message(alloc, session, q, path, now),
+            Up::Off { session, q, path } => self.off_message(alloc, session, q, path, now),
         }
     }
 

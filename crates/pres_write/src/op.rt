@@ -106,11 +106,7 @@ fn one_write(
 }
 
 // The same of a placement that isn't needed any more.
-fn owned_write(
-    alloc: Global,
-    placement: Placement,
-    moment: Moment,
-) -> Result<Outcome, AllocError>
+fn owned_write(alloc: Global, placement: Placement, moment: Moment) -> Result<Outcome, AllocError>
     ensures outcome { IfOk result (λ outcome. outcome ≡ resolved [] moment (Op.Set placement)) }
     ensures apart { IfOk result (λ outcome. Apart (writes_in outcome)) }
 {
@@ -154,9 +150,9 @@ fn read_put(alloc: Global, value: &Value, text: &str) -> Result<Op, WriteFault>
 fn read_update(alloc: Global, value: &Value, text: &str) -> Result<Op, WriteFault>
     ensures { MatchResult result
         (λ op. with_part (option_and_then as_object (get (codes "values") (view value.now)))
-            (update_read text.now) ≡ Ok op)
+        (update_read text.now) ≡ Ok op)
         (λ e. IsRefusal (with_part (option_and_then as_object (get (codes "values") (view value.now)))
-            (update_read text.now)) e) }
+        (update_read text.now)) e) }
 {
     let Some(members) = value.get("values").and_then(Value::as_object) else {
         return Err(WriteFault::Shape);
@@ -186,9 +182,9 @@ fn read_comparison(
 fn read_tx(alloc: Global, value: &Value, text: &str) -> Result<Op, WriteFault>
     ensures { MatchResult result
         (λ op. with_part (get (codes "expect") (view value.now)) (λ expect.
-            with_part (get (codes "value") (view value.now)) (tx_read text.now expect)) ≡ Ok op)
+        with_part (get (codes "value") (view value.now)) (tx_read text.now expect)) ≡ Ok op)
         (λ e. IsRefusal (with_part (get (codes "expect") (view value.now)) (λ expect.
-            with_part (get (codes "value") (view value.now)) (tx_read text.now expect))) e) }
+        with_part (get (codes "value") (view value.now)) (tx_read text.now expect))) e) }
 {
     let Some(expect) = value.get("expect") else {
         return Err(WriteFault::Shape);

@@ -14,6 +14,8 @@ mod logs;
 #[cfg(test)]
 mod plans;
 #[cfg(test)]
+mod pushes;
+#[cfg(test)]
 mod sessions;
 #[cfg(test)]
 mod turns;

@@ -148,6 +148,8 @@ fn entry_parts(
         Entry::Again { session, q, n } => ("again", session, Some(*q), Some(*n), "answered"),
         Entry::Left { session, q, .. } => ("left", session, Some(*q), None, "armed"),
         Entry::Cancelled { session, q, .. } => ("cancelled", session, Some(*q), None, "armed"),
+        Entry::On { session, q, .. } => ("on", session, Some(*q), None, "listens"),
+        Entry::Off { session, q, .. } => ("off", session, Some(*q), None, "listens no more"),
         Entry::Denied { session, q, why } => {
             ("denied", session, Some(*q), None, limit_word(*why))
         }

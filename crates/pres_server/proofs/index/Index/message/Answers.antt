@@ -25,3 +25,9 @@ returns-in-Left c = subst (λ m. DecidesOn c.args.self.now c.args.now (input.Up 
 
 pub returns-in-Cancel : goal.returns-in-Cancel
 returns-in-Cancel c = subst (λ m. DecidesOn c.args.self.now c.args.now (input.Up m) c.cancel_message.result) (sym c.in-Cancel.is) c.cancel_message.ensures
+
+pub returns-in-On : goal.returns-in-On
+returns-in-On c = subst (λ m. DecidesOn c.args.self.now c.args.now (input.Up m) c.on_message.result) (sym c.in-On.is) c.on_message.ensures
+
+pub returns-in-Off : goal.returns-in-Off
+returns-in-Off c = subst (λ m. DecidesOn c.args.self.now c.args.now (input.Up m) c.off_message.result) (sym c.in-Off.is) c.off_message.ensures

@@ -7,7 +7,7 @@ use Rattle.pres_server.specs.LegalLog.{IsLegal, MayFollow}
 use Rattle.pres_server.specs.Turns.{Decision, makes, moment_of, turn, batch_of, IsRefusal, IsStep}
 use Rattle.pres_server.specs.Heard.{State, Pending, heard_of}
 use Rattle.pres_server.specs.Parts.{wanted_by, limited_by}
-use Rattle.pres_server.specs.Index.{part_at, heard_in}
+use Rattle.pres_server.specs.Index.{part_at, paths_at, heard_in}
 use Rattle.pres_server.specs.Invariants.{Holds}
 use Rattle.pres_server.specs.declared.turn.Step.{Step}
 use Rattle.pres_server.specs.declared.turn.Step.TheVariants as step
@@ -22,11 +22,11 @@ abbrev Inside : State → Log → ℕ → Index → Type 0
 Inside s log moment index = Holds log moment index × (record { log = log; heard = heard_in index } ≡ s)
 
 turn_is : (s : State) (log : Log) (moment : ℕ) (index : Index) → Inside s log moment index → (i : Input) (now m z : ℕ) → now ≤ moments.last_moment → m ≡ max moment now → z ≡ number log
-    → turn s i now ≡ limited_by z (open_count index.places) (wanted_by (part_at index) (heard_in index) index.tree m i)
+    → turn s i now ≡ limited_by z (open_count index.places) (wanted_by (part_at index) (paths_at index) (heard_in index) index.tree m i)
 turn_is s log moment index k i now m z low e f =
     ap (λ x. turn x i now) (sym k.1)
     ∙ turned log moment now index i k.0 low
-    ∙ (λ x. limited_by (sym f x) (open_count index.places) (wanted_by (part_at index) (heard_in index) index.tree (sym e x) i))
+    ∙ (λ x. limited_by (sym f x) (open_count index.places) (wanted_by (part_at index) (paths_at index) (heard_in index) index.tree (sym e x) i))
 
 moment_as : (s : State) (log : Log) (moment : ℕ) (index : Index) → Inside s log moment index → (now m : ℕ) → now ≤ moments.last_moment → m ≡ max moment now → m ≡ moment_of s.log now
 moment_as s log moment index k now m low e = e ∙ moment_is log moment now index k.0 low ∙ ap (λ (x : State). moment_of x.log now) k.1

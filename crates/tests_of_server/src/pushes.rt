@@ -1,0 +1,198 @@
+//! Runs of a server in which sessions listen.
+
+use crate::turns::{wrong_in, wrong_in_all};
+use std::alloc::{AllocError, Global};
+use std::test::Fail;
+
+const PRESENCE: &str = r#"1000 {"m":"hello","s":["alice",1,1]}
+=> {"m":"welcome","ops":0,"s":["alice",1,1],"z":1}
+
+1000 {"m":"hello","s":["bob",1,1]}
+=> {"m":"welcome","ops":0,"s":["bob",1,1],"z":2}
+
+1000 {"m":"on","path":"/last","q":1,"s":["bob",1,1]}
+=> {"m":"snap","path":"/last","q":1,"r":1,"s":["bob",1,1],"value":null,"z":3}
+
+1000 {"m":"on","path":"/online","q":2,"s":["bob",1,1]}
+=> {"m":"snap","path":"/online","q":2,"r":2,"s":["bob",1,1],"value":null,"z":4}
+
+1000 {"m":"left","op":{"op":"update","path":"/","values":{"last":{".sv":"timestamp"},"online":null}},"q":1,"s":["alice",1,1]}
+=> {"m":"armed","q":1,"r":1,"s":["alice",1,1],"z":5}
+
+2000 {"m":"op","n":1,"op":{"op":"set","path":"/online","value":true},"q":2,"s":["alice",1,1]}
+=> {"m":"push","r":3,"s":["bob",1,1],"values":[["/online",true]],"z":6}
+{"done":6,"m":"reply","n":1,"out":"wrote","q":2,"r":2,"s":["alice",1,1],"z":6}
+
+9000 lost ["alice",1,1]
+=> {"m":"push","r":4,"s":["bob",1,1],"values":[["/last",9000],["/online",null]],"z":7}
+{"m":"gone","r":3,"s":["alice",1,1],"why":"lost","z":7}
+
+value /
+=> {"last":9000}
+
+log
+=> 1 open ["alice",1,1] q None n None opened
+2 open ["bob",1,1] q None n None opened
+3 on ["bob",1,1] q Some(1) n None listens
+4 on ["bob",1,1] q Some(2) n None listens
+5 left ["alice",1,1] q Some(1) n None armed
+6 op ["alice",1,1] q Some(2) n Some(1) wrote
+7 ended ["alice",1,1] q None n None Lost"#;
+
+const PUSH_BEFORE_REPLY: &str = r#"1000 {"m":"hello","s":["alice",1,1]}
+=> {"m":"welcome","ops":0,"s":["alice",1,1],"z":1}
+
+1000 {"m":"on","path":"/a/b","q":1,"s":["alice",1,1]}
+=> {"m":"snap","path":"/a/b","q":1,"r":1,"s":["alice",1,1],"value":null,"z":2}
+
+1000 {"m":"op","n":1,"op":{"op":"set","path":"/a","value":5},"q":2,"s":["alice",1,1]}
+=> {"m":"push","r":2,"s":["alice",1,1],"values":[["/a/b",null]],"z":3}
+{"done":3,"m":"reply","n":1,"out":"wrote","q":2,"r":3,"s":["alice",1,1],"z":3}
+
+1000 {"m":"op","n":2,"op":{"op":"set","path":"/a","value":5},"q":3,"s":["alice",1,1]}
+=> {"m":"push","r":4,"s":["alice",1,1],"values":[["/a/b",null]],"z":4}
+{"done":4,"m":"reply","n":2,"out":"wrote","q":3,"r":5,"s":["alice",1,1],"z":4}
+
+1000 {"m":"off","path":"/a/b","q":4,"s":["alice",1,1]}
+=> {"m":"offdone","q":4,"r":6,"s":["alice",1,1],"z":5}
+
+1000 {"m":"op","n":3,"op":{"op":"set","path":"/a","value":6},"q":5,"s":["alice",1,1]}
+=> {"done":6,"m":"reply","n":3,"out":"wrote","q":5,"r":7,"s":["alice",1,1],"z":6}"#;
+
+const ORDER: &str = r#"1000 {"m":"hello","s":["alice",1,1]}
+=> {"m":"welcome","ops":0,"s":["alice",1,1],"z":1}
+
+1000 {"m":"on","path":"/x","q":2,"s":["alice",1,1]}
+=> fault 4
+
+1000 {"m":"cancel","path":"/x","q":1,"s":["alice",1,1]}
+=> {"m":"armed","q":1,"r":1,"s":["alice",1,1],"z":2}
+
+1000 {"m":"cancel","path":"/x","q":1,"s":["alice",1,1]}
+=> quiet
+
+1000 {"m":"op","n":2,"op":{"op":"set","path":"/a","value":1},"q":2,"s":["alice",1,1]}
+=> fault 4
+
+1000 {"m":"off","path":"/x","q":2,"s":["alice",1,1]}
+=> {"m":"offdone","q":2,"r":2,"s":["alice",1,1],"z":3}
+
+1000 {"m":"on","path":"/x","q":1,"s":["bob",1,1]}
+=> fault 3"#;
+
+const ACROSS_A_LOSS: &str = r#"1000 {"m":"hello","s":["alice",1,1]}
+=> {"m":"welcome","ops":0,"s":["alice",1,1],"z":1}
+
+1000 {"m":"hello","s":["bob",1,1]}
+=> {"m":"welcome","ops":0,"s":["bob",1,1],"z":2}
+
+1000 {"m":"on","path":"/a","q":1,"s":["bob",1,1]}
+=> {"m":"snap","path":"/a","q":1,"r":1,"s":["bob",1,1],"value":null,"z":3}
+
+1000 {"m":"op","n":1,"op":{"op":"set","path":"/a","value":1},"q":1,"s":["alice",1,1]}
+=> {"m":"push","r":2,"s":["bob",1,1],"values":[["/a",1]],"z":4}
+{"done":4,"m":"reply","n":1,"out":"wrote","q":1,"r":1,"s":["alice",1,1],"z":4}
+
+1000 lost ["bob",1,1]
+=> {"m":"gone","r":3,"s":["bob",1,1],"why":"lost","z":5}
+
+1000 {"m":"op","n":2,"op":{"op":"set","path":"/a","value":2},"q":2,"s":["alice",1,1]}
+=> {"done":6,"m":"reply","n":2,"out":"wrote","q":2,"r":2,"s":["alice",1,1],"z":6}
+
+1000 {"m":"hello","s":["bob",1,2]}
+=> {"m":"welcome","ops":0,"s":["bob",1,2],"z":7}
+
+1000 {"m":"on","path":"/a","q":1,"s":["bob",1,2]}
+=> {"m":"snap","path":"/a","q":1,"r":1,"s":["bob",1,2],"value":2,"z":8}"#;
+
+const OWN_END: &str = r#"1000 {"m":"hello","s":["alice",1,1]}
+=> {"m":"welcome","ops":0,"s":["alice",1,1],"z":1}
+
+1000 {"m":"on","path":"/a","q":1,"s":["alice",1,1]}
+=> {"m":"snap","path":"/a","q":1,"r":1,"s":["alice",1,1],"value":null,"z":2}
+
+1000 {"m":"left","op":{"op":"set","path":"/a/b","value":1},"q":2,"s":["alice",1,1]}
+=> {"m":"armed","q":2,"r":2,"s":["alice",1,1],"z":3}
+
+1000 {"m":"bye","q":3,"s":["alice",1,1]}
+=> {"m":"push","r":3,"s":["alice",1,1],"values":[["/a",{"b":1}]],"z":4}
+{"m":"gone","r":4,"s":["alice",1,1],"why":"bye","z":4}"#;
+
+const TWO_LISTEN: &str = r#"1000 {"m":"hello","s":["bob",1,1]}
+=> {"m":"welcome","ops":0,"s":["bob",1,1],"z":1}
+
+1000 {"m":"hello","s":["alice",1,1]}
+=> {"m":"welcome","ops":0,"s":["alice",1,1],"z":2}
+
+1000 {"m":"on","path":"/","q":1,"s":["bob",1,1]}
+=> {"m":"snap","path":"/","q":1,"r":1,"s":["bob",1,1],"value":null,"z":3}
+
+1000 {"m":"on","path":"/b","q":1,"s":["alice",1,1]}
+=> {"m":"snap","path":"/b","q":1,"r":1,"s":["alice",1,1],"value":null,"z":4}
+
+1000 {"m":"on","path":"/a","q":2,"s":["alice",1,1]}
+=> {"m":"snap","path":"/a","q":2,"r":2,"s":["alice",1,1],"value":null,"z":5}
+
+1000 {"m":"op","n":1,"op":{"op":"update","path":"/","values":{"a":1,"b":2}},"q":2,"s":["bob",1,1]}
+=> {"m":"push","r":3,"s":["alice",1,1],"values":[["/a",1],["/b",2]],"z":6}
+{"m":"push","r":2,"s":["bob",1,1],"values":[["/",{"a":1,"b":2}]],"z":6}
+{"done":6,"m":"reply","n":1,"out":"wrote","q":2,"r":3,"s":["bob",1,1],"z":6}
+
+1000 {"m":"op","n":2,"op":{"op":"set","path":"/c","value":3},"q":3,"s":["bob",1,1]}
+=> {"m":"push","r":4,"s":["bob",1,1],"values":[["/",{"a":1,"b":2,"c":3}]],"z":7}
+{"done":7,"m":"reply","n":2,"out":"wrote","q":3,"r":5,"s":["bob",1,1],"z":7}"#;
+
+const OPENING: &str = r#"1000 {"m":"hello","s":["alice",1,1]}
+=> {"m":"welcome","ops":0,"s":["alice",1,1],"z":1}
+
+"#;
+
+const ONE_TOO_MANY: &str = r#"1000 {"m":"on","path":"/p/257","q":257,"s":["alice",1,1]}
+=> {"m":"denied","q":257,"r":257,"s":["alice",1,1],"why":2,"z":258}
+
+1000 {"m":"on","path":"/p/1","q":258,"s":["alice",1,1]}
+=> {"m":"snap","path":"/p/1","q":258,"r":258,"s":["alice",1,1],"value":null,"z":259}"#;
+
+// A step in which alice listens by her message `q`.
+fn listening(alloc: Global, q: u64) -> Result<String, AllocError> {
+    let z = q.saturating_add(1);
+    format!(in alloc;
+        r#"1000 {{"m":"on","path":"/p/{q}","q":{q},"s":["alice",1,1]}}
+=> {{"m":"snap","path":"/p/{q}","q":{q},"r":{q},"s":["alice",1,1],"value":null,"z":{z}}}
+
+"#
+    )
+}
+
+// A run in which alice listens to as many paths as she may, and one more.
+fn listenings(alloc: Global, paths: u64) -> Result<String, Fail> {
+    let mut run = String::from_str(alloc, OPENING)?;
+    for q in 1..=paths {
+        run.push_str(listening(alloc, q)?.as_str())?;
+    }
+    run.push_str(ONE_TOO_MANY)?;
+    Ok(run)
+}
+
+#[test]
+fn listeners_see_each_write(rt: HostRuntime) -> Result<(), Fail> {
+    let runs = [
+        PRESENCE,
+        PUSH_BEFORE_REPLY,
+        ORDER,
+        ACROSS_A_LOSS,
+        OWN_END,
+        TWO_LISTEN,
+    ];
+    let wrong = wrong_in_all(rt.alloc(), &runs)?;
+    assert_eq!(rt; wrong.as_str(), "");
+    Ok(())
+}
+
+#[test]
+fn so_many_paths_may_be_listened_to(rt: HostRuntime) -> Result<(), Fail> {
+    let run = listenings(rt.alloc(), 256)?;
+    let wrong = wrong_in(rt.alloc(), run.as_str())?;
+    assert_eq!(rt; wrong.as_str(), "");
+    Ok(())
+}
