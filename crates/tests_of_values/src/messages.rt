@@ -30,17 +30,27 @@ fn session(alloc: Global, client: &str) -> Result<SessionId, Fail> {
 // ---- numbers
 
 #[test]
-fn numbers_count_from_1_to_the_greatest(rt: HostRuntime) -> Result<(), Fail> {
+fn numbers_count_from_1(rt: HostRuntime) -> Result<(), Fail> {
     let first = Count::zero().next().ok_or("no number")?;
     assert_eq!(rt; first, Number::first());
-    assert_eq!(rt; first.next().ok_or("no number")?.get(), 2);
+    assert_eq!(rt; first.next().map(Number::get), Some(2));
+    assert_eq!(rt; Number::new(0), None);
+    Ok(())
+}
+
+#[test]
+fn numbers_end_at_the_greatest(rt: HostRuntime) -> Result<(), Fail> {
     let last = Number::new(9007199254740991).ok_or("no number")?;
     assert_eq!(rt; last.get(), MAX_SAFE_INTEGER);
     assert_eq!(rt; last.next(), None);
     assert_eq!(rt; Number::new(9007199254740992), None);
-    assert_eq!(rt; Number::new(0), None);
-    let all = Count::new(9007199254740991).ok_or("no count")?;
-    assert_eq!(rt; all, Count::up_to(last));
+    Ok(())
+}
+
+#[test]
+fn counts_go_up_to_numbers(rt: HostRuntime) -> Result<(), Fail> {
+    let last = Number::new(9007199254740991).ok_or("no number")?;
+    assert_eq!(rt; Count::new(9007199254740991), Some(Count::up_to(last)));
     assert_eq!(rt; Count::up_to(last).get(), last.get());
     Ok(())
 }
@@ -87,11 +97,15 @@ fn session_in(alloc: Global, text: &str) -> Result<Option<SessionId>, Fail> {
     Ok(SessionId::from_value(alloc, &value)?)
 }
 
+fn json_text(alloc: Global, value: Value) -> Result<String, Fail> {
+    Ok(value.to_string(alloc)?)
+}
+
 // The JSON of the session and of its stamp.
 fn session_json(alloc: Global, session: &SessionId) -> Result<String, Fail> {
-    let value = session.to_value(alloc)?;
-    let stamp = session.stamp().to_value(alloc)?;
-    Ok(format!(in alloc; "{value} {stamp}")?)
+    let whole = json_text(alloc, session.to_value(alloc)?)?;
+    let stamp = json_text(alloc, session.stamp().to_value(alloc)?)?;
+    Ok(format!(in alloc; "{whole} {stamp}")?)
 }
 
 // The JSON of a session's JSON, or `none`.
@@ -140,6 +154,20 @@ fn left_text(alloc: Global, case: &str) -> Result<String, Fail> {
     Ok(format!(in alloc; r#"{{"m":"left","op":{op},"q":{q},"s":["alice",1,1]}}"#)?)
 }
 
+const HELLO: &str = r#"{"m":"hello","s":["a",1,1]}"#;
+
+// A Hello, filled up with spaces to so many bytes, and an end, of a case such as `40+x`.
+fn filled_text(alloc: Global, case: &str) -> Result<String, Fail> {
+    let (bytes, end) = case.split_once('+').ok_or("no end")?;
+    let bytes: usize = bytes.parse()?;
+    let mut text = String::from_str(alloc, HELLO)?;
+    for _ in HELLO.len()..bytes {
+        text.push(' ')?;
+    }
+    text.push_str(end)?;
+    Ok(text)
+}
+
 fn fault_of(alloc: Global, text: &str) -> Result<WireFault, Fail> {
     Ok(Up::decode(alloc, text).err().ok_or("accepted")?)
 }
@@ -150,14 +178,19 @@ fn refusal(alloc: Global, text: &str) -> Result<String, Fail> {
     Ok(format!(in alloc; "{} {} {fault:?}", fault.number(), fault.name())?)
 }
 
+// The refusal of the message with the value between its parts.
+fn refusal_of(alloc: Global, before: &str, value: &str, after: &str) -> Result<String, Fail> {
+    let text = format!(in alloc; "{before}{value}{after}")?;
+    refusal(alloc, text.as_str())
+}
+
 // The message with each value in the place of `_`: its refusal, where another one follows.
 fn field_refusals(alloc: Global, message: &str, values: &str) -> Result<String, Fail> {
     let (before, after) = message.split_once('_').ok_or("no place")?;
     let mut last = String::new(alloc);
     let mut all = String::new(alloc);
     for value in values.split(" ; ") {
-        let text = format!(in alloc; "{before}{value}{after}")?;
-        let said = refusal(alloc, text.as_str())?;
+        let said = refusal_of(alloc, before, value, after)?;
         if said != last {
             all.push_str(said.as_str())?;
         }
@@ -184,6 +217,9 @@ enum Table {
     RefusedLeft,
     Fields,
     Pushes,
+    Filled,
+    RefusedFilled,
+    ToClients,
 }
 
 fn answer(alloc: Global, table: Table, case: &str) -> Result<String, Fail> {
@@ -198,6 +234,9 @@ fn answer(alloc: Global, table: Table, case: &str) -> Result<String, Fail> {
         Table::RefusedLeft => refusal(alloc, left_text(alloc, case)?.as_str()),
         Table::Fields => fields_answer(alloc, case),
         Table::Pushes => push_answer(alloc, case),
+        Table::Filled => message_answer(alloc, filled_text(alloc, case)?.as_str()),
+        Table::RefusedFilled => refusal(alloc, filled_text(alloc, case)?.as_str()),
+        Table::ToClients => to_client(alloc, case),
     }
 }
 
@@ -206,10 +245,8 @@ fn try_line(alloc: Global, table: Table, line: &str, wrong: &mut String) -> Resu
     let (case, wanted) = line.split_once(" => ").ok_or("no answer")?;
     let said = answer(alloc, table, case)?;
     if said.as_str() != wanted {
-        wrong.push_str(case)?;
-        wrong.push_str(" => ")?;
-        wrong.push_str(said.as_str())?;
-        wrong.push_str("\n")?;
+        let line = format!(in alloc; "{case} => {said}\n")?;
+        wrong.push_str(line.as_str())?;
     }
     Ok(())
 }
@@ -219,6 +256,15 @@ fn wrong_in(alloc: Global, table: Table, lines: &str) -> Result<String, Fail> {
     let mut wrong = String::new(alloc);
     for line in lines.lines() {
         try_line(alloc, table, line, &mut wrong)?;
+    }
+    Ok(wrong)
+}
+
+// The lines of several tables that answer something else, each with that.
+fn wrong_in_all(alloc: Global, tables: &[(Table, &str)]) -> Result<String, Fail> {
+    let mut wrong = String::new(alloc);
+    for (table, lines) in tables {
+        wrong.push_str(wrong_in(alloc, *table, lines)?.as_str())?;
     }
     Ok(wrong)
 }
@@ -239,6 +285,10 @@ const MESSAGES: &str = r#"{"m":"hello","s":["alice",1,1]} => same
 {"m":"on","path":"/a","q":1,"s":["bob",1,1]} => same
 {"m":"off","path":"/a","q":2,"s":["bob",1,1]} => same
 {"m":"cancel","path":"","q":2,"s":["a",1,1]} => {"m":"cancel","path":"/","q":2,"s":["a",1,1]}"#;
+
+// A Bye with spaces around it, its members in another order, and a member that it has not.
+const UNTIDY: &str =
+    r#" {"s":["a",9007199254740991,2],"q":9007199254740991,"m":"bye","more":{"q":0}}  => {"m":"bye","q":9007199254740991,"s":["a",9007199254740991,2]}"#;
 
 const LEFT: &str = r#"1 {"op":"set","path":"/a","value":1} => same
 1 {"op":"update","path":"/","values":{"last":{".sv":"timestamp"},"online":null}} => same"#;
@@ -331,31 +381,31 @@ fn sessions_are_read_and_printed(rt: HostRuntime) -> Result<(), Fail> {
 
 #[test]
 fn messages_are_read_and_printed(rt: HostRuntime) -> Result<(), Fail> {
-    let wrong = wrong_in(rt.alloc(), Table::Messages, MESSAGES)?;
+    let tables = [
+        (Table::Messages, MESSAGES),
+        (Table::Messages, UNTIDY),
+        (Table::Writes, WRITES),
+        (Table::Left, LEFT),
+    ];
+    let wrong = wrong_in_all(rt.alloc(), &tables)?;
     assert_eq!(rt; wrong.as_str(), "");
-    let wrong = wrong_in(rt.alloc(), Table::Writes, WRITES)?;
-    assert_eq!(rt; wrong.as_str(), "");
-    let wrong = wrong_in(rt.alloc(), Table::Left, LEFT)?;
-    assert_eq!(rt; wrong.as_str(), "");
-    let bye = message_answer(
-        rt.alloc(),
-        r#" {"s":["a",9007199254740991,2],"q":9007199254740991,"m":"bye","more":{"q":0}} "#,
-    )?;
-    assert_eq!(rt;
-        bye.as_str(),
-        r#"{"m":"bye","q":9007199254740991,"s":["a",9007199254740991,2]}"#
-    );
     Ok(())
 }
 
 #[test]
 fn texts_are_refused(rt: HostRuntime) -> Result<(), Fail> {
-    let wrong = wrong_in(rt.alloc(), Table::Refusals, REFUSALS)?;
+    let tables = [
+        (Table::Refusals, REFUSALS),
+        (Table::RefusedWrites, REFUSED_WRITES),
+        (Table::RefusedLeft, REFUSED_LEFT),
+    ];
+    let wrong = wrong_in_all(rt.alloc(), &tables)?;
     assert_eq!(rt; wrong.as_str(), "");
-    let wrong = wrong_in(rt.alloc(), Table::RefusedWrites, REFUSED_WRITES)?;
-    assert_eq!(rt; wrong.as_str(), "");
-    let wrong = wrong_in(rt.alloc(), Table::RefusedLeft, REFUSED_LEFT)?;
-    assert_eq!(rt; wrong.as_str(), "");
+    Ok(())
+}
+
+#[test]
+fn refusals_are_displayed(rt: HostRuntime) -> Result<(), Fail> {
     let told = WireFault::Field(Field::N).to_string(rt.alloc())?;
     assert_eq!(rt; told.as_str(), "the field n is missing or wrong");
     Ok(())
@@ -363,10 +413,14 @@ fn texts_are_refused(rt: HostRuntime) -> Result<(), Fail> {
 
 #[test]
 fn fields_are_checked(rt: HostRuntime) -> Result<(), Fail> {
-    for lines in [HELLO_SESSIONS, OP_SESSIONS, BYE_SESSIONS, NUMBERS] {
-        let wrong = wrong_in(rt.alloc(), Table::Fields, lines)?;
-        assert_eq!(rt; wrong.as_str(), "");
-    }
+    let tables = [
+        (Table::Fields, HELLO_SESSIONS),
+        (Table::Fields, OP_SESSIONS),
+        (Table::Fields, BYE_SESSIONS),
+        (Table::Fields, NUMBERS),
+    ];
+    let wrong = wrong_in_all(rt.alloc(), &tables)?;
+    assert_eq!(rt; wrong.as_str(), "");
     Ok(())
 }
 
@@ -386,25 +440,16 @@ fn messages_are_numbered(rt: HostRuntime) -> Result<(), Fail> {
     Ok(())
 }
 
-// The text of a Hello, filled up with spaces to the longest that is read.
-fn longest_text(alloc: Global) -> Result<String, Fail> {
-    let mut text = String::from_str(alloc, r#"{"m":"hello","s":["a",1,1]}"#)?;
-    for _ in 0..1048576 - 27 {
-        text.push(' ')?;
-    }
-    Ok(text)
-}
+const LONGEST: &str = r#"1048576+ => {"m":"hello","s":["a",1,1]}"#;
+
+const TOO_LONG: &str = "1048576+x => 3 TooLong TooLong";
 
 #[test]
 fn long_texts_are_refused_first(rt: HostRuntime) -> Result<(), Fail> {
     assert_eq!(rt; MAX_TEXT_BYTES, 1048576);
-    let mut text = longest_text(rt.alloc())?;
-    assert_eq!(rt; text.len(), 1048576);
-    assert!(rt; Up::decode(rt.alloc(), text.as_str()).is_ok());
-    text.push('x')?;
-    let refused = fault_of(rt.alloc(), text.as_str())?;
-    assert_eq!(rt; refused, WireFault::TooLong);
-    assert_eq!(rt; refused.name(), "TooLong");
+    let tables = [(Table::Filled, LONGEST), (Table::RefusedFilled, TOO_LONG)];
+    let wrong = wrong_in_all(rt.alloc(), &tables)?;
+    assert_eq!(rt; wrong.as_str(), "");
     Ok(())
 }
 
@@ -567,45 +612,45 @@ fn bad_text(alloc: Global) -> Result<String, Fail> {
     printed(alloc, &message)
 }
 
+// The text of the message to a client that the case names.
+fn to_client(alloc: Global, case: &str) -> Result<String, Fail> {
+    match case {
+        "welcome" => welcome_text(alloc),
+        "gone" => gone_text(alloc),
+        "old" => old_text(alloc),
+        "bad" => bad_text(alloc),
+        "armed" => armed_text(alloc),
+        "plan" => denied_text(alloc, Limit::Plan),
+        "listens" => denied_text(alloc, Limit::Listens),
+        "wrote" => reply_text(alloc, "alice", 2, 5, None),
+        _ => reply_text(alloc, "bob", 3, 7, Some(1)),
+    }
+}
+
+const TO_CLIENTS: &str = r#"welcome => {"m":"welcome","ops":0,"s":["alice",1,1],"z":1}
+gone => {"m":"gone","r":3,"s":["alice",1,1],"why":"lost","z":6}
+old => {"code":2,"last":[1,1],"m":"fault","s":["a",1,1]}
+bad => {"code":1,"m":"fault","s":null}"#;
+
+const PLANNED: &str = r#"armed => {"m":"armed","q":2,"r":3,"s":["alice",1,1],"z":6}
+plan => {"m":"denied","q":2,"r":3,"s":["alice",1,1],"why":1,"z":6}
+listens => {"m":"denied","q":2,"r":3,"s":["alice",1,1],"why":2,"z":6}"#;
+
+const REPLIES: &str =
+    r#"wrote => {"done":5,"m":"reply","n":1,"out":"wrote","q":2,"r":2,"s":["alice",1,1],"z":5}
+stale => {"done":7,"m":"reply","n":1,"out":{"stale":1},"q":2,"r":3,"s":["bob",1,1],"z":7}"#;
+
 #[test]
 fn messages_to_clients_are_printed(rt: HostRuntime) -> Result<(), Fail> {
-    let welcome = welcome_text(rt.alloc())?;
-    assert_eq!(rt;
-        welcome.as_str(),
-        r#"{"m":"welcome","ops":0,"s":["alice",1,1],"z":1}"#
-    );
-    let gone = gone_text(rt.alloc())?;
-    assert_eq!(rt;
-        gone.as_str(),
-        r#"{"m":"gone","r":3,"s":["alice",1,1],"why":"lost","z":6}"#
-    );
-    let old = old_text(rt.alloc())?;
-    assert_eq!(rt;
-        old.as_str(),
-        r#"{"code":2,"last":[1,1],"m":"fault","s":["a",1,1]}"#
-    );
-    let bad = bad_text(rt.alloc())?;
-    assert_eq!(rt; bad.as_str(), r#"{"code":1,"m":"fault","s":null}"#);
+    let wrong = wrong_in(rt.alloc(), Table::ToClients, TO_CLIENTS)?;
+    assert_eq!(rt; wrong.as_str(), "");
     Ok(())
 }
 
 #[test]
 fn answers_to_plans_are_printed(rt: HostRuntime) -> Result<(), Fail> {
-    let armed = armed_text(rt.alloc())?;
-    assert_eq!(rt;
-        armed.as_str(),
-        r#"{"m":"armed","q":2,"r":3,"s":["alice",1,1],"z":6}"#
-    );
-    let denied = denied_text(rt.alloc(), Limit::Plan)?;
-    assert_eq!(rt;
-        denied.as_str(),
-        r#"{"m":"denied","q":2,"r":3,"s":["alice",1,1],"why":1,"z":6}"#
-    );
-    let denied = denied_text(rt.alloc(), Limit::Listens)?;
-    assert_eq!(rt;
-        denied.as_str(),
-        r#"{"m":"denied","q":2,"r":3,"s":["alice",1,1],"why":2,"z":6}"#
-    );
+    let wrong = wrong_in(rt.alloc(), Table::ToClients, PLANNED)?;
+    assert_eq!(rt; wrong.as_str(), "");
     Ok(())
 }
 
@@ -643,15 +688,7 @@ fn what_listeners_are_told_is_printed(rt: HostRuntime) -> Result<(), Fail> {
 
 #[test]
 fn replies_are_printed(rt: HostRuntime) -> Result<(), Fail> {
-    let wrote = reply_text(rt.alloc(), "alice", 2, 5, None)?;
-    assert_eq!(rt;
-        wrote.as_str(),
-        r#"{"done":5,"m":"reply","n":1,"out":"wrote","q":2,"r":2,"s":["alice",1,1],"z":5}"#
-    );
-    let stale = reply_text(rt.alloc(), "bob", 3, 7, Some(1))?;
-    assert_eq!(rt;
-        stale.as_str(),
-        r#"{"done":7,"m":"reply","n":1,"out":{"stale":1},"q":2,"r":3,"s":["bob",1,1],"z":7}"#
-    );
+    let wrong = wrong_in(rt.alloc(), Table::ToClients, REPLIES)?;
+    assert_eq!(rt; wrong.as_str(), "");
     Ok(())
 }

@@ -18,7 +18,6 @@ use std::test::Fail;
 #[derive(Clone, Copy)]
 enum Table {
     Trees,
-    Forms,
     Faults,
     Depths,
     Places,
@@ -135,6 +134,13 @@ fn again(alloc: Global, text: &str) -> Result<String, Fail> {
     copied_form(alloc, &op)
 }
 
+// The tree that the operation leaves, and the operation as it is printed.
+fn left_and_printed(alloc: Global, text: &str) -> Result<String, Fail> {
+    let left = left_by(alloc, text)?;
+    let printed = again(alloc, text)?;
+    Ok(format!(in alloc; "{left} by {printed}")?)
+}
+
 fn refused(alloc: Global, text: &str) -> Result<String, Fail> {
     let fault = fault_of(alloc, text)?.ok_or("accepted")?;
     Ok(format!(in alloc; "{} {}", fault.number(), fault.name())?)
@@ -230,10 +236,15 @@ fn write_text(alloc: Global, write: &Basic) -> Result<String, Fail> {
     Ok(text)
 }
 
+// Copies of the write alone.
+fn copies_of(alloc: Global, write: Basic) -> Result<Items<Basic>, Fail> {
+    let one = Items::one(alloc, write)?;
+    Ok(copy_writes(alloc, one.as_slice())?)
+}
+
 // The first of copies of the write alone.
 fn copied_write(alloc: Global, write: Basic) -> Result<String, Fail> {
-    let one = Items::one(alloc, write)?;
-    let copies = copy_writes(alloc, one.as_slice())?;
+    let copies = copies_of(alloc, write)?;
     write_text(alloc, copies.as_slice().first().ok_or("no write")?)
 }
 
@@ -315,8 +326,7 @@ fn put_by(alloc: Global, text: &str) -> Result<String, Fail> {
 
 fn answer(alloc: Global, table: Table, case: &str) -> Result<String, Fail> {
     match table {
-        Table::Trees => left_by(alloc, case),
-        Table::Forms => again(alloc, case),
+        Table::Trees => left_and_printed(alloc, case),
         Table::Faults => refused(alloc, case),
         Table::Depths => number_text(alloc, set_below(alloc, case)?.as_str()),
         Table::Places => number_text(alloc, update_of(alloc, case.parse()?)?.as_str()),
@@ -333,10 +343,8 @@ fn try_line(alloc: Global, table: Table, line: &str, wrong: &mut String) -> Resu
     let (case, wanted) = line.split_once(" => ").ok_or("no answer")?;
     let got = answer(alloc, table, case)?;
     if got.as_str() != wanted {
-        wrong.push_str(case)?;
-        wrong.push_str(" => ")?;
-        wrong.push_str(got.as_str())?;
-        wrong.push_str("\n")?;
+        let line = format!(in alloc; "{case} => {got}\n")?;
+        wrong.push_str(line.as_str())?;
     }
     Ok(())
 }
@@ -346,6 +354,15 @@ fn wrong_in(alloc: Global, table: Table, lines: &str) -> Result<String, Fail> {
     let mut wrong = String::new(alloc);
     for line in lines.lines() {
         try_line(alloc, table, line, &mut wrong)?;
+    }
+    Ok(wrong)
+}
+
+// The lines of several tables that answer something else, each with that.
+fn wrong_in_all(alloc: Global, tables: &[(Table, &str)]) -> Result<String, Fail> {
+    let mut wrong = String::new(alloc);
+    for (table, lines) in tables {
+        wrong.push_str(wrong_in(alloc, *table, lines)?.as_str())?;
     }
     Ok(wrong)
 }
@@ -388,71 +405,23 @@ const COMPARES: &str = r#"[1,null,{"a":"x"}] => none
 null => {"0":1,"2":{"a":"x"}}
 [1,null,{"a":"y"}] => {"0":1,"2":{"a":"x"}}"#;
 
+const TREES: &str =
+    r#"{"op":"set","path":"/v","value":[1,null,2]} => {"v":{"0":1,"2":2}} by {"op":"set","path":"/v","value":{"0":1,"2":2}}
+{"op":"set","path":"/t","value":{".sv":"timestamp"}} => {"t":5} by {"op":"set","path":"/t","value":{".sv":"timestamp"}}
+{"op":"set","path":"a//b/","value":{"c":[],"d":true}} => {"a":{"b":{"d":true}}} by {"op":"set","path":"/a/b","value":{"d":true}}
+{"op":"set","path":"/","value":9223372036854775807} => 9223372036854775807 by {"op":"set","path":"/","value":9223372036854775807}
+{"op":"set","path":"/a","value":null} => null by {"op":"set","path":"/a","value":null}
+{"op":"remove","path":"/a","value":1} => null by {"op":"set","path":"/a","value":null}
+{"op":"update","path":"/","values":{"a/b":1,"a/c":null}} => {"a":{"b":1}} by {"op":"update","path":"/","values":{"a/b":1,"a/c":null}}
+{"op":"update","path":"/p","values":{"/a-b":1,"a/b/":{".sv":"timestamp"}}} => {"p":{"a":{"b":5},"a-b":1}} by {"op":"update","path":"/p","values":{"a-b":1,"a/b":{".sv":"timestamp"}}}
+{"op":"update","path":"/p","values":{"//":1}} => {"p":1} by {"op":"update","path":"/p","values":{"":1}}
+{"op":"update","path":"/","values":{}} => null by {"op":"update","path":"/","values":{}}
+{"expect":[null,{}],"op":"tx","path":"/n","value":{"a":2}} => {"n":{"a":2}} by {"expect":null,"op":"tx","path":"/n","value":{"a":2}}"#;
+
 #[test]
 fn operations_leave_trees(rt: HostRuntime) -> Result<(), Fail> {
-    let alloc = rt.alloc();
-    for (text, tree, again) in [
-        (
-            r#"{"op":"set","path":"/v","value":[1,null,2]}"#,
-            r#"{"v":{"0":1,"2":2}}"#,
-            r#"{"op":"set","path":"/v","value":{"0":1,"2":2}}"#,
-        ),
-        (
-            r#"{"op":"set","path":"/t","value":{".sv":"timestamp"}}"#,
-            r#"{"t":5}"#,
-            r#"{"op":"set","path":"/t","value":{".sv":"timestamp"}}"#,
-        ),
-        (
-            r#"{"op":"set","path":"a//b/","value":{"c":[],"d":true}}"#,
-            r#"{"a":{"b":{"d":true}}}"#,
-            r#"{"op":"set","path":"/a/b","value":{"d":true}}"#,
-        ),
-        (
-            r#"{"op":"set","path":"/","value":9223372036854775807}"#,
-            "9223372036854775807",
-            r#"{"op":"set","path":"/","value":9223372036854775807}"#,
-        ),
-        (
-            r#"{"op":"set","path":"/a","value":null}"#,
-            "null",
-            r#"{"op":"set","path":"/a","value":null}"#,
-        ),
-        (
-            r#"{"op":"remove","path":"/a","value":1}"#,
-            "null",
-            r#"{"op":"set","path":"/a","value":null}"#,
-        ),
-        (
-            r#"{"op":"update","path":"/","values":{"a/b":1,"a/c":null}}"#,
-            r#"{"a":{"b":1}}"#,
-            r#"{"op":"update","path":"/","values":{"a/b":1,"a/c":null}}"#,
-        ),
-        (
-            r#"{"op":"update","path":"/p","values":{"/a-b":1,"a/b/":{".sv":"timestamp"}}}"#,
-            r#"{"p":{"a":{"b":5},"a-b":1}}"#,
-            r#"{"op":"update","path":"/p","values":{"a-b":1,"a/b":{".sv":"timestamp"}}}"#,
-        ),
-        (
-            r#"{"op":"update","path":"/p","values":{"//":1}}"#,
-            r#"{"p":1}"#,
-            r#"{"op":"update","path":"/p","values":{"":1}}"#,
-        ),
-        (
-            r#"{"op":"update","path":"/","values":{}}"#,
-            "null",
-            r#"{"op":"update","path":"/","values":{}}"#,
-        ),
-        (
-            r#"{"expect":[null,{}],"op":"tx","path":"/n","value":{"a":2}}"#,
-            r#"{"n":{"a":2}}"#,
-            r#"{"expect":null,"op":"tx","path":"/n","value":{"a":2}}"#,
-        ),
-    ] {
-        let left = answer(alloc, Table::Trees, text)?;
-        assert_eq!(rt; left.as_str(), tree, "at {text}");
-        let printed = answer(alloc, Table::Forms, text)?;
-        assert_eq!(rt; printed.as_str(), again, "at {text}");
-    }
+    let wrong = wrong_in(rt.alloc(), Table::Trees, TREES)?;
+    assert_eq!(rt; wrong.as_str(), "");
     Ok(())
 }
 
@@ -472,9 +441,11 @@ fn places_have_at_most_32_keys(rt: HostRuntime) -> Result<(), Fail> {
 
 #[test]
 fn updates_have_at_most_256_places(rt: HostRuntime) -> Result<(), Fail> {
-    let wrong = wrong_in(rt.alloc(), Table::Places, "256 => 0\n257 => 10")?;
-    assert_eq!(rt; wrong.as_str(), "");
-    let wrong = wrong_in(rt.alloc(), Table::Names, NAMES)?;
+    let tables = [
+        (Table::Places, "256 => 0\n257 => 10"),
+        (Table::Names, NAMES),
+    ];
+    let wrong = wrong_in_all(rt.alloc(), &tables)?;
     assert_eq!(rt; wrong.as_str(), "");
     Ok(())
 }
@@ -490,21 +461,20 @@ const WRITES: &str = r#"/a/b {"c":[1]} => /a/b {"c":{"0":1}}
 /a {"b":{}} => /a none
 /k/k/k/k/k/k/k/k/k/k/k/k/k/k/k/k/k/k/k/k/k/k/k/k/k/k/k/k/k/k/k/k {"x":1} => TooDeep"#;
 
+const SETS: &str =
+    r#"/a {".sv":"timestamp"} => {"op":"set","path":"/a","value":{".sv":"timestamp"}}"#;
+
+const TXS: &str = r#"/a 2 => {"expect":1,"op":"tx","path":"/a","value":2}"#;
+
 #[test]
 fn writes_and_operations_are_made(rt: HostRuntime) -> Result<(), Fail> {
-    let wrong = wrong_in(rt.alloc(), Table::Writes, WRITES)?;
+    let tables = [
+        (Table::Writes, WRITES),
+        (Table::Sets, SETS),
+        (Table::Txs, TXS),
+    ];
+    let wrong = wrong_in_all(rt.alloc(), &tables)?;
     assert_eq!(rt; wrong.as_str(), "");
-    let alloc = rt.alloc();
-    let set = answer(alloc, Table::Sets, r#"/a {".sv":"timestamp"}"#)?;
-    assert_eq!(rt;
-        set.as_str(),
-        r#"{"op":"set","path":"/a","value":{".sv":"timestamp"}}"#
-    );
-    let tx = answer(alloc, Table::Txs, "/a 2")?;
-    assert_eq!(rt;
-        tx.as_str(),
-        r#"{"expect":1,"op":"tx","path":"/a","value":2}"#
-    );
     Ok(())
 }
 

@@ -21,6 +21,7 @@ enum Table {
     Values,
     Nested,
     Writes,
+    Texts,
 }
 
 fn refusal(alloc: Global, fault: TreeFault) -> Result<String, Fail> {
@@ -152,18 +153,21 @@ fn text_of(alloc: Global, text: &str) -> Result<Text, Fail> {
     Ok(text.copy(alloc)?)
 }
 
+// Two texts, whether the first is less and another, and the bytes of the first.
+fn texts_answer(alloc: Global, case: &str) -> Result<String, Fail> {
+    let (first, second) = case.split_once(' ').ok_or("no second text")?;
+    let first = text_of(alloc, first)?;
+    let second = text_of(alloc, second)?;
+    let (less, other) = (first < second, first != second);
+    Ok(format!(in alloc; "{first} {second} {less} {other} {}", first.as_str())?)
+}
+
 #[test]
-fn texts_are_compared_by_their_bytes(rt: HostRuntime) -> Result<(), Fail> {
-    let alloc = rt.alloc();
-    let a = text_of(alloc, "a-b")?;
-    let b = text_of(alloc, "a/b")?;
-    assert!(rt; a < b && a != b && a.as_str() == "a-b");
-    let said = format!(in alloc; "{a} {b}")?;
-    assert_eq!(rt; said.as_str(), "a-b a/b");
-    let key = Key::parse(alloc, "a-b")?;
-    let said = key.to_string(alloc)?;
-    assert_eq!(rt; said.as_str(), "a-b");
+fn keys_are_displayed(rt: HostRuntime) -> Result<(), Fail> {
+    let key = Key::parse(rt.alloc(), "a-b")?;
     assert!(rt; key >= key);
+    let said = key.to_string(rt.alloc())?;
+    assert_eq!(rt; said.as_str(), "a-b");
     Ok(())
 }
 
@@ -189,14 +193,18 @@ fn value_answer(alloc: Global, text: &str) -> Result<String, Fail> {
     }
 }
 
+// A value below so many keys.
+fn nested(alloc: Global, value: &str, keys: usize) -> Result<String, Fail> {
+    let before = repeated(alloc, "{\"a\":", keys)?;
+    let after = repeated(alloc, "}", keys)?;
+    Ok(format!(in alloc; "{before}{value}{after}")?)
+}
+
 // The answer for a value below so many keys.
 fn nested_answer(alloc: Global, case: &str) -> Result<String, Fail> {
     let (keys, value) = case.split_once(' ').ok_or("no value")?;
-    let keys: usize = keys.parse()?;
-    let mut nested = repeated(alloc, "{\"a\":", keys)?;
-    nested.push_str(value)?;
-    nested.push_str(repeated(alloc, "}", keys)?.as_str())?;
-    value_answer(alloc, nested.as_str())
+    let text = nested(alloc, value, keys.parse()?)?;
+    value_answer(alloc, text.as_str())
 }
 
 // The value of a JSON text that may stand at the path.
@@ -258,6 +266,7 @@ fn answer(alloc: Global, table: Table, case: &str) -> Result<String, Fail> {
         Table::Values => value_answer(alloc, case),
         Table::Nested => nested_answer(alloc, case),
         Table::Writes => left_answer(alloc, case),
+        Table::Texts => texts_answer(alloc, case),
     }
 }
 
@@ -266,10 +275,8 @@ fn try_line(alloc: Global, table: Table, line: &str, wrong: &mut String) -> Resu
     let (case, wanted) = line.split_once(" => ").ok_or("no answer")?;
     let said = answer(alloc, table, case)?;
     if said.as_str() != wanted {
-        wrong.push_str(case)?;
-        wrong.push_str(" => ")?;
-        wrong.push_str(said.as_str())?;
-        wrong.push_str("\n")?;
+        let line = format!(in alloc; "{case} => {said}\n")?;
+        wrong.push_str(line.as_str())?;
     }
     Ok(())
 }
@@ -279,6 +286,15 @@ fn wrong_in(alloc: Global, table: Table, lines: &str) -> Result<String, Fail> {
     let mut wrong = String::new(alloc);
     for line in lines.lines() {
         try_line(alloc, table, line, &mut wrong)?;
+    }
+    Ok(wrong)
+}
+
+// The lines of several tables that answer something else, each with that.
+fn wrong_in_all(alloc: Global, tables: &[(Table, &str)]) -> Result<String, Fail> {
+    let mut wrong = String::new(alloc);
+    for (table, lines) in tables {
+        wrong.push_str(wrong_in(alloc, *table, lines)?.as_str())?;
     }
     Ok(wrong)
 }
@@ -326,6 +342,13 @@ const WRITES: &str = r#"/a 1;/a/b null => {"a":1} 1 object 1
 /a 1;/a/b null;/a/b true;/a/b {} => null 0 nothing nothing"#;
 
 #[test]
+fn texts_are_compared_by_their_bytes(rt: HostRuntime) -> Result<(), Fail> {
+    let wrong = wrong_in(rt.alloc(), Table::Texts, "a-b a/b => a-b a/b true true a-b")?;
+    assert_eq!(rt; wrong.as_str(), "");
+    Ok(())
+}
+
+#[test]
 fn key_texts(rt: HostRuntime) -> Result<(), Fail> {
     let wrong = wrong_in(rt.alloc(), Table::Keys, KEYS)?;
     assert_eq!(rt; wrong.as_str(), "");
@@ -349,13 +372,11 @@ fn keys_have_at_most_768_bytes_and_paths_32_keys(rt: HostRuntime) -> Result<(), 
 
 #[test]
 fn paths_of_parts(rt: HostRuntime) -> Result<(), Fail> {
-    let wrong = wrong_in(rt.alloc(), Table::Pairs, PAIRS)?;
-    assert_eq!(rt; wrong.as_str(), "");
-    let wrong = wrong_in(
-        rt.alloc(),
-        Table::LongPairs,
-        "32 /a+ => below, 5 TooDeep, none",
-    )?;
+    let tables = [
+        (Table::Pairs, PAIRS),
+        (Table::LongPairs, "32 /a+ => below, 5 TooDeep, none"),
+    ];
+    let wrong = wrong_in_all(rt.alloc(), &tables)?;
     assert_eq!(rt; wrong.as_str(), "");
     Ok(())
 }
@@ -382,8 +403,12 @@ fn scalars_stand_below_at_most_32_keys(rt: HostRuntime) -> Result<(), Fail> {
 fn writes_change_the_tree(rt: HostRuntime) -> Result<(), Fail> {
     let wrong = wrong_in(rt.alloc(), Table::Writes, WRITES)?;
     assert_eq!(rt; wrong.as_str(), "");
-    let leaf = Tree::scalar(Scalar::Bool(true));
-    let said = printed(rt.alloc(), &leaf)?;
+    Ok(())
+}
+
+#[test]
+fn scalars_are_trees(rt: HostRuntime) -> Result<(), Fail> {
+    let said = printed(rt.alloc(), &Tree::scalar(Scalar::Bool(true)))?;
     assert_eq!(rt; said.as_str(), "true");
     Ok(())
 }
