@@ -20,3 +20,4 @@ pub mod Heard
 pub mod Readers
 pub mod Turned
 pub mod OpenList
+pub mod Views

@@ -1,18 +1,27 @@
 -- What holds of every legal log and of every turn.
-use Rattle.std.specs.Prelude.{◌≡◌, ◌+◌, ℕ, List, [], ◌∷◌, ◌++◌, length, IsTrue, Option}
+use Rattle.std.specs.Prelude.{◌≡◌, ◌+◌, ◌&&◌, ℕ, Bool, false, List, [], ◌∷◌, ◌++◌, length, take, IsTrue, Option, Some}
+use Rattle.std.specs.List.{list_any, AllByRecursion}
+use Rattle.pres_tree.specs.declared.scalar.Scalar.{Scalar}
+use Rattle.pres_tree.specs.Paths.{Path}
+use Rattle.pres_tree.specs.Rows.{Rows, value_at}
 use Rattle.pres_wire.specs.declared.id.SessionId.{SessionId}
 use Rattle.pres_wire.specs.declared.down.Down.{Down}
+use Rattle.pres_wire.specs.declared.down.Down.TheVariants.{Snap}
+use Rattle.pres_wire.specs.Ids.{same_session}
+use Rattle.pres_wire.specs.Messages.{number_in}
+use Rattle.pres_fan.specs.Listeners.{same_path}
 use Rattle.pres_wire.specs.declared.id.Why.{Why}
 use Rattle.pres_write.specs.declared.basic.Basic.{Basic}
 use Rattle.pres_log.specs.declared.entry.Batch.{Batch}
 use Rattle.pres_log.specs.declared.entry.Entry.{Entry}
 use Rattle.pres_log.specs.declared.entry.Entry.TheVariants as entry
-use Rattle.pres_log.specs.Logs.{Log, entries}
+use Rattle.pres_log.specs.Logs.{Log, entries, tree}
 use Rattle.pres_server.specs.declared.input.Input.{Input}
 use Rattle.pres_server.specs.Heard.{State}
 use Rattle.pres_server.specs.Sessions.{is_open}
 use Rattle.pres_server.specs.SessionPlans.{due_at}
 use Rattle.pres_server.specs.Streams.{stream, sent_for, numbered_from}
+use Rattle.pres_server.specs.Views.{told, seen_in}
 use Rattle.pres_server.specs.LegalLog.{IsLegal}
 use Rattle.pres_server.specs.Turns.{moment_of, turn, log_after}
 use Rattle.pres_server.specs.Parts.{Sound}
@@ -38,3 +47,29 @@ abbrev pub EndsAreDue : Log → Batch → Log → Type 0
 EndsAreDue earlier batch later =
     IsLegal (earlier ++ batch ∷ later) → (s : SessionId) (q : Option ℕ) (why : Why) (rows : List Basic) (more : List Entry) →
     batch.entries ≡ entry.Ended s q why rows ∷ more → rows ≡ due_at (entries earlier) batch.moment s
+
+-- The value that a message of a stream tells of a path is the value there after as many entries as its number says.
+abbrev pub TellsTheTree : Path → List Entry → Down → Type 0
+TellsTheTree p es m = (value : Rows Scalar) → told p m ≡ Some value → value ≡ value_at p (tree (take (number_in m) es))
+
+abbrev pub StreamTells : SessionId → Path → List Entry → Type 0
+StreamTells s p es = AllByRecursion (TellsTheTree p es) (stream s es)
+
+-- by the entry s listens to p no more
+abbrev pub unlistens : SessionId → Path → Entry → Bool
+unlistens s p (entry.Off t q path) = same_session s t && same_path path p
+unlistens s p _ = false
+
+-- the Snap that answers an On of p by message q of s
+abbrev pub snap_of : SessionId → ℕ → Path → List Entry → Down
+snap_of s q p before = let now = before ++ entry.On s q p ∷ [] in Snap s (length (stream s before) + 1) (length now) q p (value_at p (tree now))
+
+-- the messages from that Snap on, and what is seen of p after any number of them
+pub record ViewIsTrue (s : SessionId) (q : ℕ) (p : Path) (before later : List Entry) : Type 0 where
+  pub rest : List Down
+  pub sent : stream s (before ++ entry.On s q p ∷ later) ≡ stream s before ++ (snap_of s q p before ∷ rest)
+  pub seen : (k : ℕ) → (z : ℕ) × (seen_in p (snap_of s q p before ∷ take k rest) ≡ Some (z, value_at p (tree (take z (before ++ entry.On s q p ∷ later)))))
+
+-- From the Snap that answers an On, with no later Off of its path, each view is the value at its own number.
+abbrev pub ViewsAreTrue : SessionId → ℕ → Path → List Entry → List Entry → Type 0
+ViewsAreTrue s q p before later = IsTrue (is_open s before) → list_any (unlistens s p) later ≡ false → ViewIsTrue s q p before later

@@ -2,12 +2,13 @@
 
 ghost use Rattle.std.specs.Prelude.{ℕ, List};
 ghost use Rattle.pres_wire.specs.declared.id.SessionId.{SessionId};
+ghost use Rattle.pres_tree.specs.Paths.{Path};
 ghost use Rattle.pres_log.specs.Logs.{Log};
 ghost use Rattle.pres_log.specs.declared.entry.Batch.{Batch};
 ghost use Rattle.pres_log.specs.declared.entry.Entry.{Entry};
 ghost use Rattle.pres_server.specs.declared.input.Input.{Input};
 ghost use Rattle.pres_server.specs.Heard.{State};
-ghost use Rattle.pres_server.specs.Laws.{TurnIsLegal, LegalIsSound, StreamSteps, StreamGrows, EndsAreDue};
+ghost use Rattle.pres_server.specs.Laws.{TurnIsLegal, LegalIsSound, StreamSteps, StreamGrows, EndsAreDue, StreamTells, ViewsAreTrue};
 
 /// A turn on a legal log leaves a legal log.
 pub fn turns_are_legal()
@@ -33,4 +34,18 @@ pub fn streams_grow()
 /// moment of the end.
 pub fn ends_are_due()
     ensures { (earlier later : Log) (batch : Batch) → EndsAreDue earlier batch later }
+{}
+
+/// The value that a message of a stream tells of a path is the value there after as many entries as
+/// its number says.
+pub fn streams_tell_the_tree()
+    ensures { (session : SessionId) (path : Path) (es : List Entry)
+        → StreamTells session path es }
+{}
+
+/// From the Snap that answers an On, with no later Off of its path, what is seen of the path after
+/// any beginning of the rest of the stream is the value at the number of its last message.
+pub fn views_are_true()
+    ensures { (session : SessionId) (q : ℕ) (path : Path) (before later : List Entry)
+        → ViewsAreTrue session q path before later }
 {}
