@@ -9,6 +9,7 @@ ghost use Rattle.pres_server.specs.Parts.{said_by, ends_live, ends_of, end_by, l
 ghost use Rattle.pres_server.specs.declared.input.Input.TheVariants as input;
 ghost use Rattle.pres_wire.specs.declared.id.Why.TheVariants as why;
 ghost use Rattle.pres_write.specs.Unconditionals.{puts_of};
+ghost use Rattle.pres_write.specs.Outcomes.{resolved};
 ghost use Rattle.pres_log.specs.declared.entry.Entry.TheVariants as entry;
 ghost use Rattle.pres_server.specs.Places.{open_count, live_part};
 ghost use Rattle.pres_server.specs.Index.{live_at, part_at, paths_at, limited_on, write_on, decision_on, DecidesOn, Ready};
@@ -67,9 +68,7 @@ fn pair(alloc: Global, first: Entry, second: Entry) -> Result<Items<Entry>, Faul
     ensures ok { IfOk result (λ made. made ≡ first ∷ second ∷ []) }
     ensures err { IfErr result (λ e. e ≡ Busy) }
 {
-    let mut entries = Vec::new(alloc);
-    entries.push(first)?;
-    entries.push(second)?;
+    let entries = Vec::from_array(alloc, [first, second])?;
     Ok(Items::of(entries))
 }
 
@@ -190,6 +189,68 @@ impl Index {
         Ok(Items::one(alloc, Entry::Open { session })?)
     }
 
+    // The entry of a write that is done.
+    fn op_entry(
+        &self,
+        alloc: Global,
+        session: SessionId,
+        q: Number,
+        n: Number,
+        op: Op,
+        moment: Moment,
+    ) -> Result<Entry, Fault>
+        ensures ok { IfOk result (λ made.
+            made ≡ entry.Op session q n op (resolved self.now.tree moment op)) }
+        ensures err { IfErr result (λ e. e ≡ Busy) }
+    {
+        match op.resolve(alloc, &self.tree, moment) {
+            Ok(outcome) => Ok(Entry::Op {
+                session,
+                q,
+                n,
+                op,
+                outcome,
+            }),
+            Err(_) => Err(Fault::Busy),
+        }
+    }
+
+    // What a write makes that wasn't answered before.
+    fn fresh(
+        &self,
+        alloc: Global,
+        session: SessionId,
+        q: Number,
+        n: Number,
+        op: Op,
+        now: Now,
+    ) -> Result<Items<Entry>, Fault>
+        requires { Ready self.now now }
+        ensures { Makes (limited_on self.now now.number (makes
+            (entry.Op session q n op (resolved self.now.tree now.moment op) ∷ []))) result }
+    {
+        limits(now.number + 1, self.places.open_count())?;
+        let entry = self.op_entry(alloc, session, q, n, op, now.moment)?;
+        Ok(Items::one(alloc, entry)?)
+    }
+
+    // What an answered write makes that is sent again.
+    fn repeated(
+        &self,
+        alloc: Global,
+        session: SessionId,
+        q: Number,
+        n: Number,
+        now: Now,
+    ) -> Result<Items<Entry>, Fault>
+        requires { Ready self.now now }
+        ensures { Makes (limited_on self.now now.number (makes
+            (entry.Again session q n ∷ []))) result }
+    {
+        limits(now.number + 1, self.places.open_count())?;
+        Ok(Items::one(alloc, Entry::Again { session, q, n })?)
+    }
+
     // What an operation makes, which came as the open session's next message.
     fn operation(
         &self,
@@ -204,28 +265,11 @@ impl Index {
         ensures { Makes (limited_on self.now now.number
             (write_on self.now now.moment session q n op)) result }
     {
-        let again = match self.retry.find(&session.client, n) {
-            Verdict::New => false,
-            Verdict::Again(_) => true,
-            Verdict::Gap => return Err(Fault::Order),
-        };
-        limits(now.number + 1, self.places.open_count())?;
-        if again {
-            return Ok(Items::one(alloc, Entry::Again { session, q, n })?);
+        match self.retry.find(&session.client, n) {
+            Verdict::New => self.fresh(alloc, session, q, n, op, now),
+            Verdict::Again(_) => self.repeated(alloc, session, q, n, now),
+            Verdict::Gap => Err(Fault::Order),
         }
-        let Ok(outcome) = op.resolve(alloc, &self.tree, now.moment) else {
-            return Err(Fault::Busy);
-        };
-        Ok(Items::one(
-            alloc,
-            Entry::Op {
-                session,
-                q,
-                n,
-                op,
-                outcome,
-            },
-        )?)
     }
 
     // What an Op asks for.
