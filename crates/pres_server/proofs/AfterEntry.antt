@@ -1,5 +1,5 @@
 -- What one entry more keeps and changes of the whole log.
-use Rattle.std.proofs.Common.{refl, sym, ◌∙◌, ap, subst, ◌≡◌, ℕ, ◌+◌, ◌-◌, ◌≤◌, suc, List, [], ◌∷◌, ◌++◌, length, drop, map, Bool, true, false, not, cond, ◌||◌, ◌&&◌, append-nil, true≢false, arith, IsTrue, length-append, Option, Some, None, unwrap_or, T, is_some, Ordering, Less, Equal, Greater, is_eq}
+use Rattle.std.proofs.Common.{refl, sym, ◌∙◌, ap, subst, ◌≡◌, ℕ, ◌+◌, ◌-◌, ◌≤◌, suc, List, [], ◌∷◌, ◌++◌, length, map, Bool, true, false, not, cond, ◌||◌, ◌&&◌, append-nil, true≢false, arith, IsTrue, Option, Some, None, unwrap_or, T, is_some, Ordering, Less, Equal, Greater, is_eq}
 use Rattle.std.specs.List.{list_any, list_all, filter, last_or}
 use Rattle.std.specs.Option.{option_map}
 use Rattle.std.specs.Cmp.{IsTotalOrder, tied_itself}
@@ -22,7 +22,7 @@ use Rattle.pres_server.specs.Invariants.{MayComeUncounted}
 use Rattle.pres_server.specs.SessionPlans.{plan}
 use Rattle.pres_server.specs.Parts.{LivePart, Part, IsAsked, session_with, part_of, part_step, live_step, one_more, live_in, open_step, Sound, listed, comes_after}
 use Rattle.pres_server.proofs.PlanSteps.{number_in, asked_by}
-use Rattle.pres_server.proofs.Since.{client_same, client_itself, session_same, session_itself, any-append}
+use Rattle.pres_server.proofs.Since.{client_same, client_itself, session_same, any-append}
 use Rattle.pres_server.proofs.Steps.{is_open-same, filter_alike, filter-filter}
 use Rattle.pres_server.proofs.Parts.{later_still, not_ended, open_of_same, open_of_opened, only_open, ended_own, ended_other, opened_own, opened_other, no_more, part_after}
 

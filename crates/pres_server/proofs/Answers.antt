@@ -1,21 +1,19 @@
 -- What one entry more answers.
-use Rattle.std.proofs.Common.{refl, sym, ◌∙◌, ap, subst, ◌≡◌, ℕ, ◌+◌, ◌-◌, ◌≤◌, List, [], ◌∷◌, ◌++◌, length, drop, filter, map, Bool, true, false, not, cond, append-nil, arith, length-append, Option, Some, None, slice_get}
-use Rattle.std.specs.List.{flat_map, list_any}
+use Rattle.std.proofs.Common.{refl, sym, ◌∙◌, ap, ◌≡◌, ℕ, ◌+◌, ◌-◌, List, [], ◌∷◌, ◌++◌, length, drop, filter, map, Bool, true, false, not, cond, arith, length-append, Option, Some, None, slice_get}
 use Rattle.pres_tree.specs.Paths.{Path}
 use Rattle.pres_tree.specs.Rows.{value_at}
 use Rattle.pres_write.specs.Outcomes.{kept_of}
 use Rattle.pres_wire.specs.declared.id.SessionId.{SessionId}
-use Rattle.pres_wire.specs.declared.down.Down.{Down}
 use Rattle.pres_wire.specs.declared.down.Down.TheVariants.{Welcome, Reply, Armed, Snap, Push, OffDone, Denied, Gone}
-use Rattle.pres_wire.specs.Ids.{ClientId, same_client, same_session}
+use Rattle.pres_wire.specs.Ids.{same_session}
 use Rattle.pres_retry.specs.declared.table.Row.{Row}
 use Rattle.pres_log.specs.declared.entry.Entry.{Entry}
 use Rattle.pres_log.specs.declared.entry.Entry.TheVariants as entry
 use Rattle.pres_log.specs.Logs.{tree}
-use Rattle.pres_server.specs.Sessions.{session_of, is_open, open_sessions, open_sessions_of}
+use Rattle.pres_server.specs.Sessions.{session_of, is_open, open_sessions_of}
 use Rattle.pres_server.specs.Outcomes.{rows_for}
 use Rattle.pres_server.specs.Listening.{touched}
-use Rattle.pres_server.specs.Streams.{Unnumbered, shown, push_of, repeated_reply, own_answer, sent_for, numbered_from, stream, added, is_push, own_added, answers_to}
+use Rattle.pres_server.specs.Streams.{Unnumbered, shown, push_of, repeated_reply, own_answer, sent_for, numbered_from, stream, added, is_push, own_added}
 use Rattle.pres_server.specs.Parts.{message_next, reply_next, answer_by, Sound}
 use Rattle.pres_server.specs.Invariants.{MayComeUncounted}
 use Rattle.pres_server.proofs.Since.{session_itself}

@@ -1,5 +1,5 @@
 -- What the index says once the writes of one entry more were carried out, and what it sent for them.
-use Rattle.std.proofs.Common.{refl, sym, ◌∙◌, ap, subst, ◌≡◌, ℕ, ◌+◌, ◌-◌, ◌*◌, ◌^◌, ◌<◌, ◌≤◌, List, [], ◌∷◌, ◌++◌, length, map, filter, Bool, true, false, cond, ◌||◌, append-nil, arith, length-append, Option, Some, None, unwrap_or, T, Ordering, Less, Equal, Greater}
+use Rattle.std.proofs.Common.{refl, sym, ◌∙◌, ap, subst, ◌≡◌, ℕ, ◌+◌, ◌^◌, ◌<◌, List, [], ◌∷◌, ◌++◌, length, map, filter, Bool, true, false, cond, append-nil, arith, length-append, Option, Some, None, unwrap_or, T, Ordering, Less, Equal, Greater}
 use Rattle.std.specs.List.{list_any, flat_map, AllByRecursion}
 use Rattle.std.specs.Option.{option_map}
 use Rattle.std.specs.FinMap.Entries.{by_order, find, put, is_sorted, same_entries}
@@ -9,7 +9,6 @@ use Rattle.pres_tree.specs.Paths.{Path, sorted_by}
 use Rattle.pres_write.specs.Basics.{applied}
 use Rattle.pres_wire.specs.declared.id.Stamp.{Stamp}
 use Rattle.pres_wire.specs.declared.id.SessionId.{SessionId}
-use Rattle.pres_wire.specs.declared.down.Down.{Down}
 use Rattle.pres_wire.specs.declared.down.Down.TheVariants.{Push}
 use Rattle.pres_wire.specs.Ids.{ClientId, client_cmp, same_session}
 use Rattle.pres_wire.specs.Numbers.{greatest_number}
@@ -26,7 +25,7 @@ use Rattle.pres_server.specs.declared.index.Index.{Index}
 use Rattle.pres_server.specs.Sessions.{opens, opened, is_open, open_entries, open_sessions, open_sessions_of}
 use Rattle.pres_server.specs.Listening.{listened, touched}
 use Rattle.pres_server.specs.Streams.{shown, push_of, stream, added, is_push, numbered_from}
-use Rattle.pres_server.specs.Parts.{LivePart, part_of, sent_in, sent_of, message_next, listed, live_in, Sound}
+use Rattle.pres_server.specs.Parts.{LivePart, part_of, sent_in, message_next, listed, live_in, Sound}
 use Rattle.pres_server.specs.Places.{Session, sent_to, sent_one, live_part, last_stamp, MaySend}
 use Rattle.pres_server.specs.Pushes.{after_pushes, pushes, MayPush, MayPushAll}
 use Rattle.pres_server.specs.Index.{session_at, gone_at, part_at, sent_at, paths_at, Carries, Indexed}
@@ -36,7 +35,7 @@ use Rattle.pres_server.proofs.ListenSteps.{touched_is, touched_sorted}
 use Rattle.pres_server.proofs.Parts.{only_open}
 use Rattle.pres_server.proofs.AfterEntry.{clients_apart, by_client, first_of_list, find_open, open_is_sorted}
 use Rattle.pres_server.proofs.Reached.{InOrder, reached, stepped, step_by, after_reached, push_here, pushes_reached, may_reach, find_reached, reached_sorted, is_found, any_found, all_members, flat_alike}
-use Rattle.pres_server.proofs.Sent.{push_count, sent_between}
+use Rattle.pres_server.proofs.Sent.{sent_between}
 use Rattle.pres_server.proofs.Answers.{pushes_added}
 use Rattle.pres_server.proofs.Whole.{stream_small}
 

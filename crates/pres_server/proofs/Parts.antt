@@ -1,6 +1,6 @@
 -- What one entry more changes in what the log says of each client.
 use Rattle.std.proofs.Common.{refl, sym, ◌∙◌, ap, subst, ◌≡◌, ℕ, ◌+◌, ◌-◌, ◌≤◌, List, [], ◌∷◌, ◌++◌, length, Bool, true, false, not, cond, ◌||◌, ◌&&◌, ◌==◌, inl, inr, append-nil, true≢false, arith, IsTrue, length-append, Option, Some, None, slice_get}
-use Rattle.std.specs.List.{list_any, list_all, before_first, after_first, filter, filter_map, flat_map, last_or}
+use Rattle.std.specs.List.{list_any, list_all, after_first, filter, filter_map, flat_map, last_or}
 use Rattle.std.specs.Option.{option_map}
 use Rattle.std.proofs.lemmas.Bool.{and_parts}
 use Rattle.std.proofs.lemmas.Bool.Decides.{nat_tests}

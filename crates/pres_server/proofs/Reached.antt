@@ -1,7 +1,7 @@
 -- The sessions that an entry reaches, among the open ones in byte order of their clients.
-use Rattle.std.proofs.Common.{refl, sym, ◌∙◌, ap, subst, ◌≡◌, ℕ, List, [], ◌∷◌, ◌++◌, map, Bool, true, false, cond, ◌||◌, ◌&&◌, ◌==◌, true≢false, Option, Some, None, T, Ordering, Less, Equal, Greater}
+use Rattle.std.proofs.Common.{refl, sym, ◌∙◌, ap, subst, ◌≡◌, ℕ, List, [], ◌∷◌, ◌++◌, map, Bool, true, false, cond, ◌||◌, ◌&&◌, ◌==◌, Option, Some, None, T, Ordering, Less, Equal, Greater}
 use Rattle.std.specs.List.{list_any, flat_map, AllByRecursion}
-use Rattle.std.specs.Ordering.{is_lt, is_eq, eq_by_cmp, ordering_then, nat_cmp}
+use Rattle.std.specs.Ordering.{is_lt, is_eq, ordering_then, nat_cmp}
 use Rattle.std.specs.FinMap.Entries.{find, is_sorted, below_all}
 use Rattle.pres_tree.specs.declared.scalar.Scalar.{Scalar}
 use Rattle.pres_tree.specs.Paths.{Path}
@@ -14,7 +14,7 @@ use Rattle.pres_fan.specs.Laws.{some_paths}
 use Rattle.pres_fan.proofs.Orders.{same_by_cmp as same_by_session}
 use Rattle.pres_server.specs.Places.{Session, sent_one, MaySend}
 use Rattle.pres_server.specs.Pushes.{Reached, Standing, after_push, after_pushes, push_to, pushes, MayPush, MayPushAll}
-use Rattle.pres_server.proofs.Since.{client_same, client_itself, client_sym, session_same}
+use Rattle.pres_server.proofs.Since.{client_same, client_sym, session_same}
 use Rattle.pres_server.proofs.AfterEntry.{same_by_cmp, by_client}
 
 -- in byte order of clients, each client once

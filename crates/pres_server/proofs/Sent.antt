@@ -1,8 +1,7 @@
 -- How many messages one entry more sends to the open session of each client.
-use Rattle.std.proofs.Common.{refl, sym, ◌∙◌, ap, subst, ◌≡◌, ℕ, ◌+◌, ◌-◌, ◌≤◌, List, [], ◌∷◌, ◌++◌, length, Bool, true, false, not, cond, ◌||◌, ◌&&◌, ◌==◌, append-nil, true≢false, arith, IsTrue, length-append, Option, Some, None, slice_get}
+use Rattle.std.proofs.Common.{refl, sym, ◌∙◌, ap, subst, ◌≡◌, ℕ, ◌+◌, ◌≤◌, List, [], ◌∷◌, ◌++◌, length, Bool, true, false, cond, ◌||◌, ◌&&◌, ◌==◌, append-nil, arith, IsTrue, length-append, Option, Some, None}
 use Rattle.std.specs.List.{list_any, before_first}
 use Rattle.std.specs.Option.{option_map}
-use Rattle.std.proofs.lemmas.Bool.{and_parts}
 use Rattle.pres_wire.specs.declared.id.SessionId.{SessionId}
 use Rattle.pres_wire.specs.Ids.{ClientId, same_client, same_session}
 use Rattle.pres_log.specs.declared.entry.Entry.{Entry}
@@ -10,8 +9,8 @@ use Rattle.pres_log.specs.declared.entry.Entry.TheVariants as entry
 use Rattle.pres_server.specs.Sessions.{session_of, opened, opens, ends, is_open, is_newest, open_sessions_of}
 use Rattle.pres_server.specs.Outcomes.{ops}
 use Rattle.pres_server.specs.Listening.{touched}
-use Rattle.pres_server.specs.Streams.{Unnumbered, push_of, own_answer, sent_for, sent_from, numbered_from, stream}
-use Rattle.pres_server.specs.Parts.{LivePart, live_in, listed, sent_in, sent_of, Sound}
+use Rattle.pres_server.specs.Streams.{Unnumbered, push_of, own_answer, sent_from, numbered_from, stream}
+use Rattle.pres_server.specs.Parts.{sent_in, sent_of, Sound}
 use Rattle.pres_server.specs.Invariants.{MayComeUncounted}
 use Rattle.pres_server.proofs.Since.{client_same, client_itself, client_sym, session_itself}
 use Rattle.pres_server.proofs.StreamSteps.{stream_step, length-numbered_from}

@@ -1,5 +1,5 @@
 -- What the index says after one entry more.
-use Rattle.std.proofs.Common.{refl, sym, ◌∙◌, ap, subst, ◌≡◌, ℕ, ◌+◌, ◌-◌, ◌*◌, ◌^◌, ◌<◌, ◌≤◌, List, [], ◌∷◌, ◌++◌, length, fold, filter, Bool, true, false, not, cond, ◌||◌, ◌&&◌, true≢false, append-nil, arith, IsTrue, length-append, Option, Some, None, slice_get, ◌==◌, unwrap_or, All}
+use Rattle.std.proofs.Common.{refl, sym, ◌∙◌, ap, subst, ◌≡◌, ℕ, ◌+◌, ◌-◌, ◌^◌, ◌<◌, ◌≤◌, List, [], ◌∷◌, ◌++◌, length, fold, filter, Bool, true, false, not, cond, ◌||◌, ◌&&◌, true≢false, append-nil, arith, IsTrue, length-append, Option, Some, None, slice_get, ◌==◌, unwrap_or, All}
 use Rattle.std.specs.Option.{option_map}
 use Rattle.std.specs.BTreeMap.{get, Updates}
 use Rattle.std.proofs.lemmas.Bool.Decides.{nat_tests}

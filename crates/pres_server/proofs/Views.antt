@@ -1,5 +1,5 @@
 -- What streams tell is what the tree holds.
-use Rattle.std.proofs.Common.{refl, sym, ◌∙◌, ap, subst, ◌≡◌, ℕ, ◌+◌, zero, suc, List, [], ◌∷◌, ◌++◌, map, length, take, fold, filter, filter_map, Bool, true, false, not, cond, ◌||◌, ◌&&◌, ◌⊎◌, inl, inr, Option, Some, None, unwrap_or, append_assoc, append-nil, true≢false, IsTrue, Ordering, Less, Equal, Greater}
+use Rattle.std.proofs.Common.{refl, sym, ◌∙◌, ap, subst, ◌≡◌, ℕ, ◌+◌, zero, suc, List, [], ◌∷◌, ◌++◌, map, length, take, fold, filter, filter_map, Bool, true, false, not, cond, ◌||◌, ◌&&◌, ◌⊎◌, inl, inr, Option, Some, None, unwrap_or, append_assoc, append-nil, true≢false, Ordering, Less, Equal, Greater}
 use Rattle.std.specs.List.{list_any, last_or, cons_option, before_first, AllByRecursion}
 use Rattle.std.specs.Ordering.{match_ordering}
 use Rattle.std.proofs.lemmas.Bool.{and_parts, not-true, or_parts}
@@ -9,7 +9,7 @@ use Rattle.pres_tree.specs.declared.scalar.Scalar.{Scalar}
 use Rattle.pres_tree.specs.Paths.{Path, path_cmp, meet}
 use Rattle.pres_tree.specs.Rows.{Rows, value_at}
 use Rattle.pres_tree.specs.Writes.{tree_after}
-use Rattle.pres_write.specs.Basics.{BasicWrite, write_of}
+use Rattle.pres_write.specs.Basics.{write_of}
 use Rattle.pres_wire.specs.declared.id.SessionId.{SessionId}
 use Rattle.pres_wire.specs.declared.down.Down.{Down}
 use Rattle.pres_wire.specs.declared.down.Down.TheVariants as down
@@ -22,11 +22,11 @@ use Rattle.pres_fan.proofs.Orders.{path_decides, path_apart}
 use Rattle.pres_log.specs.declared.entry.Entry.{Entry}
 use Rattle.pres_log.specs.declared.entry.Entry.TheVariants as entry
 use Rattle.pres_log.specs.Logs.{tree, writes, writes_of}
-use Rattle.pres_server.specs.Sessions.{session_of, opens, ends, is_open, since_open}
+use Rattle.pres_server.specs.Sessions.{session_of, opens, ends, since_open}
 use Rattle.pres_server.specs.Listening.{listens_after, listened, touched}
 use Rattle.pres_server.specs.Streams.{Unnumbered, shown, push_of, repeated_reply, own_answer, sent_for, sent_from, numbered_from, stream}
 use Rattle.pres_server.specs.Views.{value_in, told, seen, seen_in}
-use Rattle.pres_server.specs.Laws.{TellsTheTree, StreamTells, unlistens, snap_of, ViewIsTrue, ViewsAreTrue}
+use Rattle.pres_server.specs.Laws.{TellsTheTree, StreamTells, unlistens, snap_of, ViewsAreTrue}
 use Rattle.pres_server.proofs.Since.{session_itself, not_ended_since, any-append, split_at_open}
 use Rattle.pres_server.proofs.StreamSteps.{stream-append, stream_unopened, numbered_from-append}
 use Rattle.pres_server.proofs.ListenSteps.{listened_own, listened_other}
