@@ -1,16 +1,19 @@
 -- Pushes one after another.
-use Rattle.std.proofs.Common.{refl, sym, ◌∙◌, ap, subst, ◌≡◌, ℕ, List, [], ◌∷◌, ◌++◌, map, Bool, true, false, cond, append_assoc}
+use Rattle.std.proofs.Common.{refl, sym, ◌∙◌, ap, subst, ◌≡◌, ℕ, List, [], ◌∷◌, ◌++◌, map, filter, length, Bool, true, false, cond, ◌==◌, append_assoc, arith}
 use Rattle.std.specs.List.Sorted.{IsStrictlySortedBy}
 use Rattle.std.specs.Ordering.{is_lt, eq_by_cmp}
 use Rattle.std.specs.BTreeMap.{get, Updates}
-use Rattle.std.proofs.lemmas.Bool.{and_from}
+use Rattle.std.proofs.lemmas.Bool.{and_from, eqb-true}
 use Rattle.std.proofs.lemmas.Map.Keys.{sorted_head, sorted_tail}
 use Rattle.pres_tree.specs.declared.scalar.Scalar.{Scalar}
 use Rattle.pres_tree.specs.Paths.{Path, path_cmp}
 use Rattle.pres_tree.specs.Rows.{Rows}
+use Rattle.pres_write.specs.Basics.{BasicWrite}
 use Rattle.pres_wire.specs.declared.down.Down.{Down}
 use Rattle.pres_wire.specs.Ids.{ClientId, client_cmp, same_client}
 use Rattle.pres_wire.specs.Values.{Rising}
+use Rattle.pres_fan.specs.declared.listeners.Listener.{Listener}
+use Rattle.pres_fan.specs.Listeners.{is_touched, by_session, touched}
 use Rattle.pres_server.specs.declared.places.Places.{Places}
 use Rattle.pres_server.specs.Streams.{shown}
 use Rattle.pres_server.specs.Places.{sent_one}
@@ -44,3 +47,17 @@ pub pushed_next : (z : ℕ) (tree : Rows Scalar) (live : Standing) (t : Reached)
 pushed_next z tree live t more outs next m k e =
     let rest : List Down = pushes z tree (after_push live t) more in
     subst (λ l. l ++ rest ≡ outs ++ (push_to z tree live t ++ rest)) (sym (e ∙ ap (λ l. outs ++ l) (sym k))) (append_assoc outs (push_to z tree live t) rest)
+
+-- no writes touch nobody
+none_hit : (listeners : List Listener) → filter (λ l. is_touched [] l.path) listeners ≡ []
+none_hit [] = refl
+none_hit (l ∷ listeners) = none_hit listeners
+
+pub nobody_touched : (writes : List BasicWrite) (listeners : List Listener) → writes ≡ [] → touched writes listeners ≡ []
+nobody_touched writes listeners e = ap (λ ws. touched ws listeners) e ∙ ap by_session (none_hit listeners)
+
+pub no_writes : (writes : List BasicWrite) → (length writes == 0) ≡ true → writes ≡ []
+no_writes writes h = by writes (eqb-true (length writes) 0 h) where
+  by : (ws : List BasicWrite) → length ws ≡ 0 → ws ≡ []
+  by [] e = refl
+  by (w ∷ ws) e = absurd (omega (arith, e))

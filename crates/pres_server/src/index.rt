@@ -115,6 +115,9 @@ impl Index {
         let Ok(()) = apply(alloc, &mut self.tree, writes) else {
             return Err(Reopen);
         };
+        if writes.is_empty() {
+            return Ok(());
+        }
         let Ok(touched) = self.listeners.touched(alloc, writes) else {
             return Err(Reopen);
         };
