@@ -6,11 +6,11 @@ use Rattle.std.specs.Cmp.{IsTotalOrder, then_total, on_total, nat_cmp_total, tie
 use Rattle.std.specs.Cmp.Lexicographic.{nat_list_cmp_total, lists_total, bytes_decides, pointwise_decides}
 use Rattle.std.specs.FinMap.{IsAntisymmetric, slice_cmp-IsAntisymmetric, nat_cmp-IsAntisymmetric}
 use Rattle.std.proofs.lemmas.Bool.{and_parts, and_from, eqb-true, eq-eqb, false_from_ne_true}
-use Rattle.pres_tree.specs.Paths.{Path, path_cmp}
+use Rattle.pres_tree.specs.Paths.{Path, path_cmp, same_path}
 use Rattle.pres_wire.specs.Ids.{same_client, same_session, client_cmp}
 use Rattle.pres_wire.specs.declared.id.SessionId.{SessionId}
 use Rattle.pres_fan.specs.declared.listeners.Listener.{Listener}
-use Rattle.pres_fan.specs.Listeners.{session_cmp, listener_cmp, same_path, same_listener}
+use Rattle.pres_fan.specs.Listeners.{session_cmp, listener_cmp, same_listener}
 
 -- two orders one after the other tie what both tie
 then_ties : (a b : Ordering) → ordering_then a b ≡ Equal → (a ≡ Equal) × (b ≡ Equal)

@@ -9,11 +9,11 @@ use Rattle.std.proofs.lemmas.Bool.{le-leb, ltb-true, ltb-false, leb-true, leb-fa
 use Rattle.std.proofs.lemmas.List.{length-map}
 use Rattle.std.proofs.lemmas.List.Kept.{IsStrictlySortedBy-filter}
 use Rattle.std.proofs.lemmas.Map.Keys.{sorted_head, sorted_tail}
-use Rattle.pres_tree.specs.Paths.{Path, path_cmp}
+use Rattle.pres_tree.specs.Paths.{Path, path_cmp, same_path}
 use Rattle.pres_wire.specs.Ids.{same_session}
 use Rattle.pres_wire.specs.declared.id.SessionId.{SessionId}
 use Rattle.pres_fan.specs.declared.listeners.Listener.{Listener}
-use Rattle.pres_fan.specs.Listeners.{session_cmp, listener_cmp, same_path, same_listener, listener_of, paths_of, IsListeners, add_path, with_listener, without, without_session}
+use Rattle.pres_fan.specs.Listeners.{session_cmp, listener_cmp, same_listener, listener_of, paths_of, IsListeners, add_path, with_listener, without, without_session}
 use Rattle.pres_fan.proofs.Orders.{session_total, session_apart, session_same, session_itself, listener_total, listener_apart, listener_same, listener_itself}
 use Rattle.pres_fan.proofs.Lists.{under, all_kept, none_kept, filter_map_later, passes, all_then, filter_none, filter_put_other, length_put_new, put_again}
 

@@ -2,12 +2,12 @@
 use Rattle.std.specs.Prelude.{◌≡◌, not, List, [], ◌∷◌, Option, Some, None, filter, IsTrue, if◌then◌else◌}
 use Rattle.std.specs.List.Sorted.{IsStrictlySortedBy}
 use Rattle.std.specs.FinMap.Entries.{find, is_sorted}
-use Rattle.pres_tree.specs.Paths.{Path, path_cmp}
+use Rattle.pres_tree.specs.Paths.{Path, path_cmp, same_path}
 use Rattle.pres_write.specs.Basics.{BasicWrite}
 use Rattle.pres_wire.specs.Ids.{same_session}
 use Rattle.pres_wire.specs.declared.id.SessionId.{SessionId}
 use Rattle.pres_fan.specs.declared.listeners.Listener.{Listener}
-use Rattle.pres_fan.specs.Listeners.{session_cmp, same_path, paths_of, IsListeners, add_path, with_listener, without, without_session, touched_of, touched}
+use Rattle.pres_fan.specs.Listeners.{session_cmp, paths_of, IsListeners, add_path, with_listener, without, without_session, touched_of, touched}
 
 -- The session has the place among its own, and the others keep theirs.
 abbrev pub OnSteps : SessionId → Path → List Listener → Type 0

@@ -1,12 +1,11 @@
 -- Listeners: which sessions listen to which places, and whom writes touch.
-use Rattle.std.specs.Prelude.{◌≤◌, ◌&&◌, ◌==◌, ℕ, Bool, not, List, [], ◌∷◌, map, length, filter}
+use Rattle.std.specs.Prelude.{◌≤◌, ◌&&◌, ℕ, Bool, not, List, [], ◌∷◌, map, length, filter}
 use Rattle.std.specs.List.{list_any}
 use Rattle.std.specs.List.Sorted.{IsStrictlySortedBy}
 use Rattle.std.specs.Ordering.{nat_cmp, ordering_then}
-use Rattle.std.specs.Cmp.Lexicographic.{pointwise}
 use Rattle.std.specs.declared.cmp.Ordering.{Ordering}
 use Rattle.std.specs.BTreeSet.{insert_key}
-use Rattle.pres_tree.specs.Paths.{Path, path_cmp, meet}
+use Rattle.pres_tree.specs.Paths.{Path, path_cmp, same_path, meet}
 use Rattle.pres_write.specs.Basics.{BasicWrite}
 use Rattle.pres_wire.specs.Ids.{client_cmp, same_session}
 use Rattle.pres_wire.specs.declared.id.SessionId.{SessionId}
@@ -21,10 +20,6 @@ session_cmp s t = ordering_then (client_cmp s.client t.client) (ordering_then (n
 -- listeners are ordered by session, then by path
 abbrev pub listener_cmp : Listener → Listener → Ordering
 listener_cmp k l = ordering_then (session_cmp k.session l.session) (path_cmp k.path l.path)
-
--- the same keys
-abbrev pub same_path : Path → Path → Bool
-same_path = pointwise (pointwise ◌==◌)
 
 -- the same session and the same place
 abbrev pub same_listener : Listener → Listener → Bool

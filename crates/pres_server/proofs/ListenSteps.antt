@@ -3,10 +3,10 @@ use Rattle.std.proofs.Common.{refl, sym, ◌∙◌, ap, ◌≡◌, List, [], ◌
 use Rattle.std.specs.List.{list_any}
 use Rattle.std.specs.List.Sorted.{IsStrictlySortedBy}
 use Rattle.std.proofs.lemmas.List.Kept.{IsStrictlySortedBy-filter}
-use Rattle.pres_tree.specs.Paths.{Path, path_cmp}
+use Rattle.pres_tree.specs.Paths.{Path, path_cmp, same_path}
 use Rattle.pres_wire.specs.declared.id.SessionId.{SessionId}
 use Rattle.pres_wire.specs.Ids.{same_session}
-use Rattle.pres_fan.specs.Listeners.{same_path, add_path, is_touched}
+use Rattle.pres_fan.specs.Listeners.{add_path, is_touched}
 use Rattle.pres_fan.proofs.Orders.{path_total}
 use Rattle.pres_log.specs.declared.entry.Entry.{Entry}
 use Rattle.pres_log.specs.declared.entry.Entry.TheVariants as entry

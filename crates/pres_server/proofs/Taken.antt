@@ -7,7 +7,7 @@ use Rattle.std.specs.List.{list_any}
 use Rattle.std.proofs.lemmas.Bool.{and_parts}
 use Rattle.std.proofs.lemmas.List.Kept.{IsStrictlySortedBy-filter}
 use Rattle.pres_tree.specs.declared.scalar.Scalar.{Scalar}
-use Rattle.pres_tree.specs.Paths.{Path}
+use Rattle.pres_tree.specs.Paths.{Path, same_path}
 use Rattle.pres_tree.specs.Rows.{Rows}
 use Rattle.pres_write.specs.declared.basic.Basic.{Basic}
 use Rattle.pres_plan.specs.declared.row.PlanRow.{PlanRow}
@@ -24,7 +24,7 @@ use Rattle.pres_retry.specs.Tables.{Table, row, rows_of}
 use Rattle.pres_retry.specs.Verdicts.{verdict, told_row, again, fresh, gap}
 use Rattle.pres_retry.proofs.Records.{rows_of_recorded}
 use Rattle.pres_fan.specs.declared.listeners.Listener.{Listener}
-use Rattle.pres_fan.specs.Listeners.{IsListeners, most_paths, listener_cmp, listener_of, paths_of, add_path, same_path, with_listener, without, without_session}
+use Rattle.pres_fan.specs.Listeners.{IsListeners, most_paths, listener_cmp, listener_of, paths_of, add_path, with_listener, without, without_session}
 use Rattle.pres_fan.specs.Listeners as fan
 use Rattle.pres_fan.proofs.Orders.{listener_total}
 use Rattle.pres_fan.proofs.Places.{with_step, without_step, without_session_step}

@@ -6,7 +6,7 @@ use Rattle.std.proofs.lemmas.Bool.{and_parts, not-true, or_parts}
 use Rattle.std.proofs.lemmas.List.{take_at, map-append}
 use Rattle.std.proofs.lemmas.Grind.{flat_map-append}
 use Rattle.pres_tree.specs.declared.scalar.Scalar.{Scalar}
-use Rattle.pres_tree.specs.Paths.{Path, path_cmp, meet}
+use Rattle.pres_tree.specs.Paths.{Path, path_cmp, meet, same_path}
 use Rattle.pres_tree.specs.Rows.{Rows, value_at}
 use Rattle.pres_tree.specs.Writes.{tree_after}
 use Rattle.pres_write.specs.Basics.{write_of}
@@ -17,7 +17,7 @@ use Rattle.pres_wire.specs.Ids.{same_session}
 use Rattle.pres_wire.specs.Messages.{number_in}
 use Rattle.pres_retry.specs.declared.table.Row.{Row}
 use Rattle.pres_plan.proofs.Kept.{value_kept}
-use Rattle.pres_fan.specs.Listeners.{same_path, add_path, is_touched}
+use Rattle.pres_fan.specs.Listeners.{add_path, is_touched}
 use Rattle.pres_fan.proofs.Orders.{path_decides, path_apart}
 use Rattle.pres_log.specs.declared.entry.Entry.{Entry}
 use Rattle.pres_log.specs.declared.entry.Entry.TheVariants as entry
@@ -25,7 +25,7 @@ use Rattle.pres_log.specs.Logs.{tree, writes, writes_of}
 use Rattle.pres_server.specs.Sessions.{session_of, opens, ends, since_open}
 use Rattle.pres_server.specs.Listening.{listens_after, listened, touched}
 use Rattle.pres_server.specs.Streams.{Unnumbered, shown, push_of, repeated_reply, own_answer, sent_for, sent_from, numbered_from, stream}
-use Rattle.pres_server.specs.Views.{value_in, told, seen, seen_in}
+use Rattle.pres_wire.specs.Views.{value_in, told, seen, seen_in}
 use Rattle.pres_server.specs.Laws.{TellsTheTree, StreamTells, unlistens, snap_of, ViewsAreTrue}
 use Rattle.pres_server.proofs.Since.{session_itself, not_ended_since, any-append, split_at_open}
 use Rattle.pres_server.proofs.StreamSteps.{stream-append, stream_unopened, numbered_from-append}

@@ -2,14 +2,13 @@
 use Rattle.std.specs.Prelude.{◌≡◌, ◌+◌, ◌&&◌, ℕ, Bool, false, List, [], ◌∷◌, ◌++◌, length, take, IsTrue, Option, Some}
 use Rattle.std.specs.List.{list_any, AllByRecursion}
 use Rattle.pres_tree.specs.declared.scalar.Scalar.{Scalar}
-use Rattle.pres_tree.specs.Paths.{Path}
+use Rattle.pres_tree.specs.Paths.{Path, same_path}
 use Rattle.pres_tree.specs.Rows.{Rows, value_at}
 use Rattle.pres_wire.specs.declared.id.SessionId.{SessionId}
 use Rattle.pres_wire.specs.declared.down.Down.{Down}
 use Rattle.pres_wire.specs.declared.down.Down.TheVariants.{Snap}
 use Rattle.pres_wire.specs.Ids.{same_session}
 use Rattle.pres_wire.specs.Messages.{number_in}
-use Rattle.pres_fan.specs.Listeners.{same_path}
 use Rattle.pres_wire.specs.declared.id.Why.{Why}
 use Rattle.pres_write.specs.declared.basic.Basic.{Basic}
 use Rattle.pres_log.specs.declared.entry.Batch.{Batch}
@@ -21,7 +20,7 @@ use Rattle.pres_server.specs.Heard.{State}
 use Rattle.pres_server.specs.Sessions.{is_open}
 use Rattle.pres_server.specs.SessionPlans.{due_at}
 use Rattle.pres_server.specs.Streams.{stream, sent_for, numbered_from}
-use Rattle.pres_server.specs.Views.{told, seen_in}
+use Rattle.pres_wire.specs.Views.{told, seen_in}
 use Rattle.pres_server.specs.LegalLog.{IsLegal}
 use Rattle.pres_server.specs.Turns.{moment_of, turn, log_after}
 use Rattle.pres_server.specs.Parts.{Sound}

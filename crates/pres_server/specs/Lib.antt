@@ -11,5 +11,4 @@ pub mod Places
 pub mod Pushes
 pub mod Index
 pub mod Invariants
-pub mod Views
 pub mod Laws

@@ -1,9 +1,9 @@
 -- What a session listens to, read off the log, and what an entry touches of it. A listener gets the whole value at its
 -- path, as a value listener of Firebase Realtime Database does.
 use Rattle.std.specs.Prelude.{not, List, [], fold, filter}
-use Rattle.pres_tree.specs.Paths.{Path}
+use Rattle.pres_tree.specs.Paths.{Path, same_path}
 use Rattle.pres_wire.specs.declared.id.SessionId.{SessionId}
-use Rattle.pres_fan.specs.Listeners.{same_path, add_path, is_touched}
+use Rattle.pres_fan.specs.Listeners.{add_path, is_touched}
 use Rattle.pres_log.specs.declared.entry.Entry.{Entry}
 use Rattle.pres_log.specs.declared.entry.Entry.TheVariants as entry
 use Rattle.pres_log.specs.Logs.{writes_of}

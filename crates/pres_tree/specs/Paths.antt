@@ -4,7 +4,7 @@ use Rattle.std.specs.Prelude.{◌≤◌, ◌==◌, ◌||◌, ℕ, Bool, false, I
 use Rattle.std.specs.List.{list_any, list_all, slice_split}
 use Rattle.std.specs.Option.{option_or}
 use Rattle.std.specs.declared.cmp.Ordering.{Ordering}
-use Rattle.std.specs.Cmp.Lexicographic.{slice_cmp}
+use Rattle.std.specs.Cmp.Lexicographic.{slice_cmp, pointwise}
 use Rattle.std.specs.FinMap.Entries.{put}
 use Rattle.pres_tree.specs.Keys.{Key, key_cmp, same_key, key_fault, is_key}
 use Rattle.pres_tree.specs.declared.fault.TreeFault.{TreeFault}
@@ -23,6 +23,10 @@ IsPath p = (length p ≤ max_depth) × IsTrue (list_all is_key p)
 
 abbrev pub path_cmp : Path → Path → Ordering
 path_cmp = slice_cmp key_cmp
+
+-- the same keys
+abbrev pub same_path : Path → Path → Bool
+same_path = pointwise (pointwise ◌==◌)
 
 -- what is left of x below p, where p is a prefix of x
 abbrev pub below : Path → Path → Option Path

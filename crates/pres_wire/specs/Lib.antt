@@ -7,3 +7,4 @@ pub mod Messages
 pub mod Numbers
 pub mod UpForms
 pub mod Values
+pub mod Views

@@ -90,6 +90,14 @@ impl Values {
         self.items.as_slice()
     }
 
+    /// The list of them, which is moved.
+    pub fn into_vec(self) -> Vec<PathValue>
+        ensures values { result.items ≡ self }
+        ensures rising { Rising self }
+    {
+        self.items
+    }
+
     /// Equal values.
     pub fn copy(&self, alloc: Global) -> Result<Values, AllocError>
         ensures { IfOk result (λ made. made ≡ self.now) }

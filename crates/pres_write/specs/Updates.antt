@@ -1,10 +1,14 @@
 -- Updates: drafts at places below one path, of which no place is at or above another.
-use Rattle.std.specs.Prelude.{◌≡◌, ◌≤◌, ◌++◌, ℕ, List, All, false, length, map}
+use Rattle.std.specs.Prelude.{◌≡◌, ◌≤◌, ◌+◌, ◌++◌, ℕ, Bool, List, All, false, length, map, nat_lt, Option, Some, None, if◌then◌else◌}
+use Rattle.std.specs.List.{list_any}
 use Rattle.std.specs.Map.{keys_of}
 use Rattle.std.specs.List.Sorted.{IsStrictlySortedBy}
-use Rattle.pres_tree.specs.Paths.{Path, IsPath, path_cmp, overlap}
-use Rattle.pres_tree.specs.Rows.{Rows, Fits}
+use Rattle.pres_tree.specs.Paths.{Path, IsPath, max_depth, path_cmp, sorted_by, overlap}
+use Rattle.pres_tree.specs.Rows.{Rows, Fits, depth_of}
+use Rattle.pres_tree.specs.declared.fault.TreeFault.TheVariants.{TooDeep}
 use Rattle.pres_write.specs.declared.basic.Basic.{Basic}
+use Rattle.pres_write.specs.declared.fault.WriteFault.{WriteFault}
+use Rattle.pres_write.specs.declared.fault.WriteFault.TheVariants.{Tree, Overlap, ManyPaths}
 use Rattle.pres_write.specs.declared.draft.Slot.{Slot}
 use Rattle.pres_write.specs.Basics.{basic}
 use Rattle.pres_write.specs.Drafts.{settled}
@@ -33,6 +37,25 @@ pub record IsUpdate (u : PlacesBelow) : Type 0 where
   pub apart : overlap (keys_of u.places) ≡ false
   pub few : length u.places ≤ most_places
   pub fit : All (FitsBelow u.path) u.places
+
+-- ---- updates of given drafts
+
+-- a place that is no path below the path, or whose draft is nested too deep there
+abbrev pub is_deep_below : Path → Path × Rows Slot → Bool
+is_deep_below p place = nat_lt max_depth (length p + length place.0 + depth_of place.1)
+
+-- why drafts at places below a path are no update
+abbrev pub update_fault : Path → Places → Option WriteFault
+update_fault p places =
+    if nat_lt most_places (length places) then Some ManyPaths
+    else (if list_any (is_deep_below p) places then Some (Tree TooDeep)
+    else (if overlap (keys_of places) then Some Overlap else None))
+
+-- their update
+abbrev pub update_of : Path → Places → PlacesBelow
+update_of p places = record { path = p; places = sorted_by path_cmp places }
+
+-- ---- what updates write
 
 -- the writes of an update, in path order, its placeholders made the moment
 abbrev pub update_writes : ℕ → PlacesBelow → List Basic

@@ -2,13 +2,12 @@
 use Rattle.std.specs.Prelude.{ℕ, List, [], ◌∷◌, Option, Some, None, if◌then◌else◌}
 use Rattle.std.specs.List.{filter_map, last_or}
 use Rattle.pres_tree.specs.declared.scalar.Scalar.{Scalar}
-use Rattle.pres_tree.specs.Paths.{Path}
+use Rattle.pres_tree.specs.Paths.{Path, same_path}
 use Rattle.pres_tree.specs.Rows.{Rows}
 use Rattle.pres_wire.specs.declared.values.PathValue.{PathValue}
 use Rattle.pres_wire.specs.declared.down.Down.{Down}
 use Rattle.pres_wire.specs.declared.down.Down.TheVariants.{Snap, Push}
 use Rattle.pres_wire.specs.Messages.{number_in}
-use Rattle.pres_fan.specs.Listeners.{same_path}
 
 -- the value at the path
 abbrev pub value_in : Path → List PathValue → Option (Rows Scalar)

@@ -1,0 +1,26 @@
+-- What happens to one incarnation of a client, step by step.
+use Rattle.std.specs.Prelude.{List, [], ◌∷◌, if◌then◌else◌}
+use Rattle.std.specs.Option.{is_none}
+use Rattle.pres_wire.specs.declared.down.Down.{Down}
+use Rattle.pres_client.specs.declared.call.Call.{Call}
+use Rattle.pres_client.specs.Clients.{State}
+use Rattle.pres_client.specs.Calls.{refusal, after_call}
+use Rattle.pres_client.specs.Receiving.{after_receive}
+
+pub data Step : Type 0 where
+  calls : Call → Step
+  receives : Down → Step
+  -- what it has to send, and what it noted, is handed out
+  hands_out_sends : Step
+  hands_out_notices : Step
+
+-- a call that is refused changes nothing
+abbrev pub after : State → Step → State
+after c (calls k) = if is_none (refusal c k) then after_call c k else c
+after c (receives m) = after_receive c m
+after c hands_out_sends = record c { sends = [] }
+after c hands_out_notices = record c { notices = [] }
+
+abbrev pub run : State → List Step → State
+run c [] = c
+run c (s ∷ steps) = run (after c s) steps

@@ -1,0 +1,77 @@
+-- What a client shows of a path, by the list of the messages that it took: the number of the last one, and the value in
+-- the last Snap or Push that names the path, from the Snap on that answers the last listen to it.
+use Rattle.std.specs.Prelude.{◌≡◌, ◌&&◌, ℕ, Bool, true, false, List, [], ◌∷◌, ◌++◌, drop, Option, Some, None, if◌then◌else◌}
+use Rattle.std.specs.Option.{is_some}
+use Rattle.pres_tree.specs.Paths.{Path, same_path}
+use Rattle.pres_wire.specs.declared.down.Down.{Down}
+use Rattle.pres_wire.specs.declared.down.Down.TheVariants as down
+use Rattle.pres_wire.specs.declared.id.SessionId.{SessionId}
+use Rattle.pres_wire.specs.Ids.{ClientId}
+use Rattle.pres_wire.specs.Views.{seen_in}
+use Rattle.pres_client.specs.declared.queued.Queued.{Queued}
+use Rattle.pres_client.specs.Clients.{State, start, is_online, watch_of, view}
+use Rattle.pres_client.specs.Receiving.{is_next, fits, first_listen, is_last}
+use Rattle.pres_client.specs.Steps.{Step, calls, receives, hands_out_sends, hands_out_notices, after, run}
+
+-- the messages that a view is made of, and whether more of them count
+pub record Trail : Type 0 where
+  pub messages : List Down
+  pub counts : Bool
+
+abbrev pub nothing : Trail
+nothing = record { messages = []; counts = false }
+
+abbrev pub more : Trail → Down → Trail
+more t m = if t.counts then record t { messages = t.messages ++ m ∷ [] } else t
+
+-- a message of the session's stream that is taken
+abbrev pub takes : State → Down → Bool
+takes c (down.Welcome s z ops) = false
+takes c (down.Reply s r z q n done out) = is_next c s r
+takes c (down.Gone s r z why) = is_next c s r
+takes c (down.Fault session code) = false
+takes c (down.Armed s r z q) = is_next c s r
+takes c (down.Denied s r z q why) = is_next c s r
+takes c (down.Snap s r z q p v) = is_next c s r
+takes c (down.Push s r z values) = is_next c s r
+takes c (down.OffDone s r z q) = is_next c s r
+
+-- the oldest message without an answer listens to the path, and no later one does
+abbrev pub is_last_listen : Path → Option (ℕ × Path) → List Queued → Bool
+is_last_listen p None rest = false
+is_last_listen p (Some f) rest = same_path f.1 p && is_last p rest
+
+-- the Snap that answers the last listen to the path
+abbrev pub starts : Path → State → Down → Bool
+starts p c (down.Snap s r z q x v) = is_next c s r && (fits c q && (same_path x p && is_last_listen x (first_listen c.queue) (drop 1 c.queue)))
+starts p c (down.Welcome s z ops) = false
+starts p c (down.Reply s r z q n done out) = false
+starts p c (down.Gone s r z why) = false
+starts p c (down.Fault session code) = false
+starts p c (down.Armed s r z q) = false
+starts p c (down.Denied s r z q why) = false
+starts p c (down.Push s r z values) = false
+starts p c (down.OffDone s r z q) = false
+
+abbrev pub with_message : Path → State → Trail → Down → Trail
+with_message p c t m = if starts p c m then record { messages = m ∷ []; counts = true } else (if takes c m then more t m else t)
+
+abbrev pub trail_step : Path → State → Trail → Step → Trail
+trail_step p c t (receives m) = with_message p c t m
+trail_step p c t (calls k) = t
+trail_step p c t hands_out_sends = t
+trail_step p c t hands_out_notices = t
+
+-- nothing of a path that isn't listened to, and no more messages count once the session is left
+abbrev pub kept_for : Path → State → Trail → Trail
+kept_for p d t = if is_some (watch_of p d.watches) then (if is_online d.phase then t else record t { counts = false }) else nothing
+
+abbrev pub trail : Path → State → Trail → List Step → Trail
+trail p c t [] = t
+trail p c t (s ∷ steps) = trail p (after c s) (kept_for p (after c s) (trail_step p c t s)) steps
+
+-- After any steps the view of a path is what its trail tells: the number of the last message, and the last value told.
+abbrev pub ViewsHold : Type 0
+ViewsHold =
+    (client : ClientId) (incarnation : ℕ) (p : Path) (steps : List Step) →
+    view p (run (start client incarnation) steps) ≡ seen_in p (trail p (start client incarnation) nothing steps).messages

@@ -1,0 +1,192 @@
+//! The client: what it leaves for its disconnection, and the paths that it listens to.
+
+ghost use Rattle.std.specs.Prelude.{◌≡◌, ◌+◌, IfOk, IfErr, OnOk, false};
+ghost use Rattle.pres_client.specs.Clients.{no_request, no_message, is_online, is_write, watch_of};
+ghost use Rattle.pres_client.specs.Calls.{enqueue, with_request, after_listen, after_unlisten, Answers, Does, Refuses, IsFew};
+ghost use Rattle.pres_client.specs.declared.fault.ClientFault.TheVariants.{Memory};
+
+use crate::call::Call;
+use crate::client::Client;
+use crate::fault::ClientFault;
+use crate::queued::Queued;
+use crate::writes::{cleared, placed, updated};
+use pres_tree::Path;
+use pres_wire::Count;
+use pres_write::{Draft, Unconditional};
+
+impl Client {
+    // Why nothing can be left for the end of the session now.
+    fn action_fault(&self) -> Option<ClientFault>
+        ensures { result ≡ action_refusal self.now None }
+    {
+        if !self.phase.is_online() {
+            return Some(ClientFault::Offline);
+        }
+        if self.no_request() || self.no_message() {
+            return Some(ClientFault::Spent);
+        }
+        None
+    }
+
+    // The next request's message, which is no write.
+    fn request(&mut self, queued: Queued) -> Result<u64, ClientFault>
+        requires request { no_request self.old ≡ false }
+        requires message { no_message self.old ≡ false }
+        requires no_write { is_write queued ≡ false }
+        ensures ok { IfOk result (λ k. (k ≡ self.old.requests + 1)
+            × (self.new ≡ with_request (enqueue self.old queued))) }
+        ensures err { IfErr result (λ e. (e ≡ Memory) × (self.new ≡ self.old)) }
+    {
+        let next = self.next_request();
+        self.enqueue(queued)?;
+        self.requests = Count::up_to(next);
+        Ok(next.get())
+    }
+
+    // The next request leaves the operation for the end of the session.
+    fn leave(&mut self, op: Unconditional) -> Result<u64, ClientFault>
+        requires request { no_request self.old ≡ false }
+        requires message { no_message self.old ≡ false }
+        ensures ok { IfOk result (λ k. (k ≡ self.old.requests + 1)
+            × (self.new ≡ after_action self.old op)) }
+        ensures err { IfErr result (λ e. (e ≡ Memory) × (self.new ≡ self.old)) }
+    {
+        let request = self.next_request().get();
+        self.request(Queued::Left { request, op })
+    }
+
+    /// Leaves a set for the end of the session. Answers the request, which Armed names once it
+    /// stands. Refused, in this order: Offline while no session is open, Spent, TooDeep (as
+    /// Write), Memory.
+    pub fn on_disconnect_set(&mut self, path: Path, draft: Draft) -> Result<u64, ClientFault>
+        ensures ok { IfOk result (Answers self.old (Call.OnDisconnectSet path draft) self.new) }
+        ensures err { IfErr result (Refuses self.old (Call.OnDisconnectSet path draft) self.new) }
+        ensures few { IsFew self.old self.new }
+    {
+        if let Some(fault) = self.action_fault() {
+            return Err(fault);
+        }
+        let placement = placed(path, draft)?;
+        self.leave(Unconditional::Set(placement))
+    }
+
+    /// Leaves an update for the end of the session. Refused, in this order: Offline while no
+    /// session is open, Spent, then as Write ManyPaths (above 256), TooDeep and Overlap (a place
+    /// at or above another), Memory.
+    pub fn on_disconnect_update(
+        &mut self,
+        path: Path,
+        places: Vec<(Path, Draft)>,
+    ) -> Result<u64, ClientFault>
+        ensures ok { IfOk result
+            (Answers self.old (Call.OnDisconnectUpdate path places) self.new) }
+        ensures err { IfErr result
+            (Refuses self.old (Call.OnDisconnectUpdate path places) self.new) }
+        ensures few { IsFew self.old self.new }
+    {
+        if let Some(fault) = self.action_fault() {
+            return Err(fault);
+        }
+        let update = updated(self.alloc, path, places)?;
+        self.leave(Unconditional::Update(update))
+    }
+
+    /// Leaves a remove for the end of the session. Refused, in this order: Offline while no
+    /// session is open, Spent, Memory.
+    pub fn on_disconnect_remove(&mut self, path: Path) -> Result<u64, ClientFault>
+        ensures ok { IfOk result (Answers self.old (Call.OnDisconnectRemove path) self.new) }
+        ensures err { IfErr result (Refuses self.old (Call.OnDisconnectRemove path) self.new) }
+        ensures few { IsFew self.old self.new }
+    {
+        if let Some(fault) = self.action_fault() {
+            return Err(fault);
+        }
+        self.leave(Unconditional::Set(cleared(path)))
+    }
+
+    /// Takes back what was left at the path and below it. Where something is left above it, the
+    /// place keeps what it holds at the end of the session. Refused, in this order: Offline while
+    /// no session is open, Spent, Memory.
+    pub fn on_disconnect_cancel(&mut self, path: Path) -> Result<u64, ClientFault>
+        ensures ok { IfOk result (Answers self.old (Call.OnDisconnectCancel path) self.new) }
+        ensures err { IfErr result (Refuses self.old (Call.OnDisconnectCancel path) self.new) }
+        ensures few { IsFew self.old self.new }
+    {
+        if let Some(fault) = self.action_fault() {
+            return Err(fault);
+        }
+        let request = self.next_request().get();
+        self.request(Queued::Cancel { request, path })
+    }
+
+    // The path is listened to from now on.
+    fn watch(&mut self, path: Path) -> Result<u64, ClientFault>
+        requires request { no_request self.old ≡ false }
+        requires message { no_message self.old ≡ false }
+        ensures ok { IfOk result (λ k. (k ≡ self.old.requests + 1)
+            × (self.new ≡ after_listen self.old path None)) }
+        ensures err { IfErr result (λ e. (e ≡ Memory) × (self.new ≡ self.old)) }
+    {
+        let next = self.next_request();
+        let request = next.get();
+        if !self.phase.is_online() {
+            self.watches.add(path, request)?;
+            self.requests = Count::up_to(next);
+            return Ok(request);
+        }
+        let queued = Queued::On {
+            request,
+            path: path.copy(self.alloc)?,
+        };
+        let sends = self.outgoing_of(&queued)?;
+        self.mail.reserve(1, sends.len(), 0)?;
+        self.watches.add(path, request)?;
+        self.mail.put(queued, sends, Vec::new(self.alloc));
+        self.requests = Count::up_to(next);
+        Ok(request)
+    }
+
+    /// Listens to the path: the notice Value tells its value, and each value after a write that
+    /// touches it. A path that is listened to already is answered with a new request, and
+    /// nothing else is done. Refused, in this order: Spent, Memory. The server denies a
+    /// session's 257th path.
+    pub fn listen(&mut self, path: Path) -> Result<u64, ClientFault>
+        ensures ok { IfOk result (Answers self.old (Call.Listen path) self.new) }
+        ensures err { IfErr result (Refuses self.old (Call.Listen path) self.new) }
+        ensures few { IsFew self.old self.new }
+    {
+        if self.no_request() {
+            return Err(ClientFault::Spent);
+        }
+        if self.watches.get(&path).is_some() {
+            let next = self.next_request();
+            self.requests = Count::up_to(next);
+            return Ok(next.get());
+        }
+        if self.no_message() {
+            return Err(ClientFault::Spent);
+        }
+        self.watch(path)
+    }
+
+    /// Listens no more to the path, and shows nothing of it. Of a path that isn't listened to it
+    /// does nothing. Refused, in this order: Spent, Memory.
+    pub fn unlisten(&mut self, path: &Path) -> Result<(), ClientFault>
+        ensures ok { OnOk result (Does self.old (Call.Unlisten path.now) self.new) }
+        ensures err { IfErr result (Refuses self.old (Call.Unlisten path.now) self.new) }
+        ensures few { IsFew self.old self.new }
+    {
+        if self.watches.get(path).is_none() {
+            return Ok(());
+        }
+        if self.phase.is_online() {
+            if self.no_message() {
+                return Err(ClientFault::Spent);
+            }
+            let path = path.copy(self.alloc)?;
+            self.enqueue(Queued::Off { path })?;
+        }
+        self.watches.remove(path);
+        Ok(())
+    }
+}

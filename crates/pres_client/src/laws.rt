@@ -1,0 +1,1 @@
+//! Laws of clients, over every list of what may happen to one.
