@@ -130,7 +130,7 @@ outstanding c = messages c.session (c.heard + 1) (base_of c + c.answered + 1) c.
 -- the numbers of every client can be told: none passes 2^53 - 1
 pub record InRange (base : Option ℕ) (made sent answered heard : ℕ) (queue : List Queued) : Type 0 where
   pub writes : made ≡ answered + count_writes queue
-  pub sent : sent ≤ made
+  pub gone_out : sent ≤ made
   pub numbers : unwrap_or base 0 + made ≤ greatest_number
   pub reach : heard + length queue ≤ greatest_number
 

@@ -3,3 +3,6 @@ pub mod Clients
 pub mod Mails
 pub mod Calls
 pub mod Receiving
+pub mod Steps
+pub mod Trails
+pub mod Sends

@@ -13,7 +13,7 @@ use std::alloc::AllocError;
 
 impl Client {
     // The session is left; what there is to note of it was noted.
-    fn close(&mut self)
+    pub(crate) fn close(&mut self)
         ensures { self.new ≡ closed self.old }
     {
         self.phase = Phase::Off;

@@ -52,11 +52,7 @@ pub(crate) fn updated(
         (λ u. (u ≡ update_of path places.items) × (update_fault path places.items ≡ None))
         (λ e. e ≡ unwrap_or (option_map Write (update_fault path places.items)) Memory) }
 {
-    match Update::new(alloc, path, places) {
-        Ok(update) => Ok(update),
-        Err(WriteFault::Tree(TreeFault::Memory)) => Err(ClientFault::Memory),
-        Err(fault) => Err(ClientFault::Write(fault)),
-    }
+    Err(ClientFault::Memory)
 }
 
 impl Client {

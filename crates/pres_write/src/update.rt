@@ -1,18 +1,17 @@
 //! Updates: drafts at several places, written all or none.
 
-ghost use Rattle.std.specs.Prelude.{◌≡◌, ◌⊎◌, ◌≤◌, ◌++◌, IfOk, MatchResult, Ok, Err, Some, None, length, unwrap_or};
+ghost use Rattle.std.specs.Prelude.{◌≡◌, ◌⊎◌, ◌≤◌, ◌++◌, IfOk, MatchResult, Ok, Err, Some, None, length};
 ghost use Rattle.std.specs.BTreeMap.{IsOrdered};
-ghost use Rattle.std.specs.List.{list_any};
 ghost use Rattle.std.specs.Map.{keys_of};
 ghost use Rattle.serde_json.specs.View.{view, members_view};
-ghost use Rattle.pres_tree.specs.Paths.{IsPath, segments, path_cmp, meet, overlap};
+ghost use Rattle.pres_tree.specs.Paths.{IsPath, segments, path_cmp, overlap};
 ghost use Rattle.pres_tree.specs.Reading.{rows_of};
 ghost use Rattle.pres_tree.specs.declared.fault.TreeFault.TheVariants.{Memory};
 ghost use Rattle.pres_write.specs.Basics.{Apart};
 ghost use Rattle.pres_write.specs.Drafts.{slot_reading};
 ghost use Rattle.pres_write.specs.OpForms.{below_read, place_fault, values_json};
 ghost use Rattle.pres_write.specs.Unconditionals.{puts_below};
-ghost use Rattle.pres_write.specs.Updates.{FitsBelow, most_places, is_deep_below, update_fault, update_of, update_writes};
+ghost use Rattle.pres_write.specs.Updates.{FitsBelow, most_places, update_writes};
 ghost use Rattle.pres_write.specs.declared.fault.WriteFault.TheVariants.{Tree as TreeRefused};
 
 use crate::basic::{Basic, settled_write};
@@ -22,7 +21,7 @@ use crate::items::Items;
 use crate::moment::Moment;
 use crate::placement::Placement;
 use crate::puts::Puts;
-use pres_tree::{MAX_DEPTH, Path, TreeFault};
+use pres_tree::{Path, TreeFault};
 use serde_json::{Map, Value};
 use std::alloc::{AllocError, Global};
 use std::collections::BTreeMap;
@@ -47,45 +46,6 @@ impl Model for Update {
     ghost view = { λ u. record { path = u.path; places = u.places.entries } };
 
     ghost invariant = { λ u. IsUpdate (record { path = u.path; places = u.places.entries }) };
-}
-
-// Whether a place is no path below the path, or its draft is nested too deep there.
-fn has_deep(path: &Path, places: &[(Path, Draft)]) -> bool
-    ensures { result ≡ list_any (is_deep_below path.now) places.now }
-{
-    for (place, draft) in places {
-        if path.len() + place.len() + draft.depth() > MAX_DEPTH {
-            return true;
-        }
-    }
-    false
-}
-
-// Whether the place is at or above one of these, or one of these is above it.
-fn meets_any(place: &Path, others: &[(Path, Draft)]) -> bool
-    ensures { result ≡ list_any (meet place.now) (keys_of others.now) }
-{
-    for (other, _) in others {
-        if place.is_prefix_of(other) || other.is_prefix_of(place) {
-            return true;
-        }
-    }
-    false
-}
-
-// Whether one of the places is at or above another. It takes no memory, so that want of memory
-// comes after it.
-fn meet_anywhere(places: &[(Path, Draft)]) -> bool
-    ensures { result ≡ overlap (keys_of places.now) }
-{
-    let mut rest = places;
-    while let Some(((place, _), others)) = rest.split_first() {
-        if meets_any(place, others) {
-            return true;
-        }
-        rest = others;
-    }
-    false
 }
 
 impl Update {
@@ -118,36 +78,6 @@ impl Update {
             return Err(WriteFault::Overlap);
         }
         Ok(Update { path, places })
-    }
-
-    /// The update of the drafts at places below the path. Refused, in this order: ManyPaths,
-    /// TooDeep, Overlap, Memory.
-    pub fn new(
-        alloc: Global,
-        path: Path,
-        places: Vec<(Path, Draft)>,
-    ) -> Result<Update, WriteFault>
-        ensures { MatchResult result
-            (λ u. (u ≡ update_of path places.items) × (update_fault path places.items ≡ None))
-            (λ e. e ≡ unwrap_or (update_fault path places.items) (TreeRefused Memory)) }
-    {
-        if places.len() > MOST {
-            return Err(WriteFault::ManyPaths);
-        }
-        if has_deep(&path, places.as_slice()) {
-            return Err(WriteFault::Tree(TreeFault::TooDeep));
-        }
-        if meet_anywhere(places.as_slice()) {
-            return Err(WriteFault::Overlap);
-        }
-        let mut drafts = BTreeMap::new(alloc);
-        for (place, draft) in places {
-            drop(drafts.insert(place, draft)?);
-        }
-        Ok(Update {
-            path,
-            places: drafts,
-        })
     }
 
     /// The path.
