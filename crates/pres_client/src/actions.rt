@@ -1,8 +1,8 @@
 //! The client: what it leaves for its disconnection, and the paths that it listens to.
 
-ghost use Rattle.std.specs.Prelude.{◌≡◌, ◌+◌, IfOk, IfErr, OnOk, false};
+ghost use Rattle.std.specs.Prelude.{◌≡◌, ◌+◌, IfOk, IfErr, OnOk, None, false};
 ghost use Rattle.pres_client.specs.Clients.{no_request, no_message, is_online, is_write, watch_of};
-ghost use Rattle.pres_client.specs.Calls.{enqueue, with_request, after_listen, after_unlisten, Answers, Does, Refuses, IsFew};
+ghost use Rattle.pres_client.specs.Calls.{action_refusal, after_action, enqueue, with_request, after_listen, after_unlisten, Answers, Does, Refuses, IsFew};
 ghost use Rattle.pres_client.specs.declared.fault.ClientFault.TheVariants.{Memory};
 
 use crate::call::Call;

@@ -1,8 +1,9 @@
 //! The client: its sessions.
 
-ghost use Rattle.std.specs.Prelude.{◌≡◌, ◌++◌, [], IfOk, IfErr, OnOk, OnErr, Some, None};
-ghost use Rattle.pres_client.specs.Clients.{is_online, outstanding};
-ghost use Rattle.pres_client.specs.Calls.{closed, end_session, drop_session, outgoing, Does, Refuses, IsFew};
+ghost use Rattle.std.specs.Prelude.{◌≡◌, IfOk, IfErr, OnOk, OnErr, true, false};
+ghost use Rattle.pres_client.specs.Clients.{is_online, no_message};
+ghost use Rattle.pres_client.specs.Calls.{closed, end_session, outgoing, after_go_offline, Does, Refuses, IsFew};
+ghost use Rattle.pres_client.specs.declared.fault.ClientFault.TheVariants.{Memory};
 
 use crate::call::Call;
 use crate::client::{Client, Phase};

@@ -1,6 +1,6 @@
 //! What waits for an answer, and what waits to be handed out.
 
-ghost use Rattle.std.specs.Prelude.{◌≡◌, ◌+◌, ◌-◌, ◌++◌, ◌∷◌, ◌≤◌, ◌<◌, [], true, false, length, drop, filter, map, IfOk, OnOk, OnErr, Some};
+ghost use Rattle.std.specs.Prelude.{List, ◌≡◌, ◌+◌, ◌-◌, ◌++◌, ◌∷◌, ◌≤◌, ◌<◌, [], true, false, length, drop, filter, map, IfOk, OnOk, OnErr, Some};
 ghost use Rattle.std.specs.List.{list_any};
 ghost use Rattle.std.specs.VecDeque.{deque_len, deque_capacity};
 ghost use Rattle.pres_wire.specs.Numbers.{greatest_number};
