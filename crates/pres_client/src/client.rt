@@ -166,7 +166,7 @@ impl Client {
     {
         match self.phase {
             Phase::Online => self.mail.waiting().max(1),
-            Phase::Opening => (self.watches.len() + self.mail.waiting()).max(1),
+            Phase::Opening => self.watches.len().saturating_add(self.mail.waiting()).max(1),
             Phase::Off => 1,
         }
     }
@@ -281,7 +281,8 @@ impl Client {
         ensures err { OnErr result (self.new ≡ self.old) }
     {
         let sends = self.outgoing_of(&queued)?;
-        self.mail.push(queued, sends)
+        self.mail.push(queued, sends)?;
+        Ok(())
     }
 
     // One write more.

@@ -1,6 +1,6 @@
 //! The paths that a client listens to, and what it shows of them.
 
-ghost use Rattle.std.specs.Prelude.{◌≡◌, [], map, length, IfOk, OnOk, OnErr, MatchOption, option_copied, Some, None};
+ghost use Rattle.std.specs.Prelude.{◌≡◌, ◌<◌, ◌^◌, [], map, length, IfOk, OnOk, OnErr, MatchOption, option_copied, Some, None};
 ghost use Rattle.pres_client.specs.Clients.{kept, frozen, watch_of, with_watch, without_watch, tell, is_shown_live, is_live, shown_at, fresh};
 ghost use Rattle.pres_client.specs.Receiving.{on_of};
 
@@ -98,7 +98,8 @@ impl Watches {
 
     /// How many paths.
     pub fn len(&self) -> usize
-        ensures { result ≡ length self.now }
+        ensures len { result ≡ length self.now }
+        ensures fits { length self.now < 2 ^ 63 }
     {
         self.by_path.len()
     }
