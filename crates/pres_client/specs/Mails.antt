@@ -15,10 +15,10 @@ pub record Letters : Type 0 where
   pub notices_room : ℕ
 
 -- so many more go in without memory
-pub record HasRoom (m : Letters) (queue sends notices : ℕ) : Type 0 where
-  pub queue : queue ≤ m.queue_room
-  pub sends : sends ≤ m.sends_room
-  pub notices : notices ≤ m.notices_room
+pub record HasRoom (m : Letters) (queued sent noted : ℕ) : Type 0 where
+  pub queue : queued ≤ m.queue_room
+  pub sends : sent ≤ m.sends_room
+  pub notices : noted ≤ m.notices_room
 
 -- so many numbers can be told from the first one on
 abbrev pub MayNumber : ℕ → ℕ → Type 0
