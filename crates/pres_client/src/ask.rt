@@ -26,8 +26,8 @@ impl Ask {
     pub fn is_too_deep(&self, draft: &Draft) -> bool
         ensures { result ≡ is_too_deep self.now draft.now }
     {
-        let keys = self.path.len();
-        keys + self.value.depth() > MAX_DEPTH || keys + draft.depth() > MAX_DEPTH
+        let room = MAX_DEPTH - self.path.len();
+        self.value.depth() > room || draft.depth() > room
     }
 
     /// The transaction that puts the draft in the place of the value.
@@ -64,11 +64,16 @@ pub struct Asks {
 }
 
 impl Model for Asks {
+    ghost use Rattle.std.specs.List.Sorted.{IsStrictlySortedBy};
+    ghost use Rattle.std.specs.Map.{keys_of};
+    ghost use Rattle.std.specs.Ordering.{nat_cmp};
     ghost use Rattle.pres_client.specs.Clients.{Asks};
 
     ghost Value = { Asks };
 
     ghost view = { λ a. a.by_request.entries };
+
+    ghost invariant = { λ a. IsStrictlySortedBy nat_cmp (keys_of a.by_request.entries) };
 }
 
 impl Asks {

@@ -107,12 +107,7 @@ impl Mail {
     }
 
     /// Makes room for so many more of each.
-    pub fn reserve(
-        &mut self,
-        queue: usize,
-        sends: usize,
-        notices: usize,
-    ) -> Result<(), AllocError>
+    pub fn reserve(&mut self, queue: usize, sends: usize, notices: usize) -> Result<(), AllocError>
         ensures queue { self.new.queue ≡ self.old.queue }
         ensures sends { self.new.sends ≡ self.old.sends }
         ensures notices { self.new.notices ≡ self.old.notices }

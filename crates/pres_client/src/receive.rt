@@ -217,11 +217,13 @@ impl Client {
                     Kept::Stale(_) => self.unfit(z),
                 };
             }
-            Some(Queued::Try {
-                request,
-                attempt,
-                transaction,
-            }) => (*request, *attempt, transaction.path().copy(self.alloc)?),
+            Some(
+                Queued::Try {
+                    request,
+                    attempt,
+                    transaction,
+                },
+            ) => (*request, *attempt, transaction.path().copy(self.alloc)?),
             _ => return self.unfit(z),
         };
         match out {
@@ -450,11 +452,7 @@ impl Client {
     }
 
     // The server refused a message.
-    fn receive_fault(
-        &mut self,
-        session: Option<SessionId>,
-        code: Code,
-    ) -> Result<(), AllocError>
+    fn receive_fault(&mut self, session: Option<SessionId>, code: Code) -> Result<(), AllocError>
         ensures ok { OnOk result (self.new ≡ after_fault self.old session code) }
         ensures err { OnErr result (self.new ≡ self.old) }
     {
@@ -492,7 +490,8 @@ impl Client {
         }
         let base = self.base.unwrap_or(ops.get());
         let listens = self.watches.listens()?;
-        self.mail.open(&self.session, base + self.answered + 1, listens)?;
+        self.mail
+            .open(&self.session, base + self.answered + 1, listens)?;
         self.phase = Phase::Online;
         self.base = Some(base);
         self.sent = self.made;

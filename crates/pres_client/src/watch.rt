@@ -17,14 +17,9 @@ pub enum Shown {
     /// Nothing yet.
     Nothing,
     /// The value of an earlier session, and the server's number at which that session was left.
-    Kept {
-        number: Count,
-        value: Tree,
-    },
+    Kept { number: Count, value: Tree },
     /// The value that this session was told last. It holds at the number of the last message.
-    Live {
-        value: Tree,
-    },
+    Live { value: Tree },
 }
 
 impl Shown {
@@ -78,11 +73,16 @@ pub struct Watches {
 }
 
 impl Model for Watches {
+    ghost use Rattle.std.specs.List.Sorted.{IsStrictlySortedBy};
+    ghost use Rattle.std.specs.Map.{keys_of};
+    ghost use Rattle.pres_tree.specs.Paths.{path_cmp};
     ghost use Rattle.pres_client.specs.Clients.{Watches};
 
     ghost Value = { Watches };
 
     ghost view = { λ w. w.by_path.entries };
+
+    ghost invariant = { λ w. IsStrictlySortedBy path_cmp (keys_of w.by_path.entries) };
 }
 
 impl Watches {
