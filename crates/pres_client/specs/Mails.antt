@@ -15,17 +15,10 @@ pub record Letters : Type 0 where
   pub notices_room : ℕ
 
 -- so many more go in without memory
-<<<<<<< HEAD
-pub record HasRoom (m : Letters) (q s n : ℕ) : Type 0 where
-  pub queue : q ≤ m.queue_room
-  pub sends : s ≤ m.sends_room
-  pub notices : n ≤ m.notices_room
-=======
 pub record HasRoom (m : Letters) (queued sent noted : ℕ) : Type 0 where
   pub queue : queued ≤ m.queue_room
   pub sends : sent ≤ m.sends_room
   pub notices : noted ≤ m.notices_room
->>>>>>> 0ddf5dbf33a1ce0110cd8af45c394cb942e00141
 
 -- so many numbers can be told from the first one on
 abbrev pub MayNumber : ℕ → ℕ → Type 0
