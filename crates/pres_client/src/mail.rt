@@ -1,13 +1,12 @@
 //! What waits for an answer, and what waits to be handed out.
 
-ghost use Rattle.std.specs.Prelude.{List, ◌≡◌, ◌+◌, ◌-◌, ◌++◌, ◌∷◌, ◌≤◌, ◌<◌, [], true, false, length, drop, filter, map, IfOk, OnOk, OnErr, Some};
-ghost use Rattle.std.specs.List.{list_any};
-ghost use Rattle.std.specs.VecDeque.{deque_len, deque_capacity};
+ghost use Rattle.std.specs.Prelude.{◌≡◌, ◌+◌, ◌-◌, ◌++◌, ◌∷◌, ◌≤◌, [], length, drop, filter, IfOk, OnOk, OnErr, List, Some, true};
+ghost use Rattle.std.specs.List.{list_any, filter_map};
 ghost use Rattle.pres_wire.specs.Numbers.{greatest_number};
 ghost use Rattle.pres_client.specs.Clients.{is_write, is_on, messages, count_writes};
-ghost use Rattle.pres_client.specs.Calls.{farewell};
+ghost use Rattle.pres_client.specs.Calls.{farewell, lost_action};
 ghost use Rattle.pres_client.specs.Mails.{HasRoom, MayNumber};
-ghost use Rattle.pres_client.specs.declared.queued.Queued.{Queued as QueuedModel};
+ghost use Rattle.pres_client.specs.declared.queued.Queued.{Queued as Message};
 
 use crate::notice::Notice;
 use crate::queued::{Queued, number};
@@ -89,6 +88,19 @@ fn all_messages(
     let q = 1 + first.len() as u64;
     add_messages(&mut sends, alloc, session, q, n, rest)?;
     Ok(sends)
+}
+
+// Adds a notice for each of the messages that were left for the end of a session, or taken back.
+fn add_lost(notices: &mut Vec<Notice>, queue: &VecDeque<Queued>) -> Result<(), AllocError>
+    ensures { OnOk result (notices.new.items
+        ≡ notices.old.items ++ filter_map lost_action queue.now.items) }
+{
+    for queued in queue.iter() {
+        if let Some(request) = queued.action() {
+            notices.push(Notice::ActionLost { request })?;
+        }
+    }
+    Ok(())
 }
 
 impl Mail {
@@ -185,7 +197,7 @@ impl Mail {
 
     /// The oldest of them leaves.
     pub fn pop(&mut self) -> Option<Queued>
-        ensures head { (m : Queued) → (rest : List Queued) → self.old.queue ≡ m ∷ rest → result ≡ Some m }
+        ensures head { (m : Message) → (rest : List Message) → self.old.queue ≡ m ∷ rest → result ≡ Some m }
         ensures queue { self.new.queue ≡ drop 1 self.old.queue }
         ensures sends { self.new.sends ≡ self.old.sends }
         ensures notices { self.new.notices ≡ self.old.notices }
@@ -208,12 +220,7 @@ impl Mail {
     pub fn listens_later(&self, path: &Path) -> bool
         ensures { result ≡ list_any (is_on path.now) (drop 1 self.now.queue) }
     {
-        for queued in self.queue.range(1..) {
-            if queued.is_on(path) {
-                return true;
-            }
-        }
-        false
+        self.queue.iter().skip(1).any(|queued| queued.is_on(path))
     }
 
     /// The notices of a session that is left, with the fault that ends it.
@@ -222,11 +229,7 @@ impl Mail {
     {
         let mut notices = Vec::new(self.alloc);
         notices.push(Notice::Connected(false))?;
-        for queued in self.queue.iter() {
-            if let Some(request) = queued.action() {
-                notices.push(Notice::ActionLost { request })?;
-            }
-        }
+        add_lost(&mut notices, &self.queue)?;
         if let Some(code) = fault {
             notices.push(Notice::Faulted(code))?;
         }

@@ -145,9 +145,11 @@ impl Watches {
     pub fn tell(&mut self, path: &Path, value: Tree)
         ensures { self.new ≡ tell path.now value self.old }
     {
-        if let Some(watch) = self.by_path.get_mut(path) {
-            watch.shown = Shown::Live { value };
-        }
+        let Some(watch) = self.by_path.get_mut(path) else {
+            drop(value);
+            return;
+        };
+        drop(std::mem::replace(&mut watch.shown, Shown::Live { value }));
     }
 
     /// The session is left at the number: what it showed stays.
