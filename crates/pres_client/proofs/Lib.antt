@@ -3,3 +3,5 @@ pub mod Few
 pub mod Maps
 pub mod Queues
 pub mod Watched
+pub mod Found
+pub mod Trails

@@ -1,7 +1,9 @@
 -- What happens to one incarnation of a client, step by step.
-use Rattle.std.specs.Prelude.{List, [], ◌∷◌, if◌then◌else◌}
+use Rattle.std.specs.Prelude.{List, [], ◌∷◌, All, ⊤, if◌then◌else◌}
 use Rattle.std.specs.Option.{is_none}
 use Rattle.pres_wire.specs.declared.down.Down.{Down}
+use Rattle.pres_wire.specs.declared.down.Down.TheVariants as down
+use Rattle.pres_wire.specs.Values.{Rising}
 use Rattle.pres_client.specs.declared.call.Call.{Call}
 use Rattle.pres_client.specs.Clients.{State}
 use Rattle.pres_client.specs.Calls.{refusal, after_call}
@@ -24,3 +26,16 @@ after c hands_out_notices = record c { notices = [] }
 abbrev pub run : State → List Step → State
 run c [] = c
 run c (s ∷ steps) = run (after c s) steps
+
+-- a Push tells values at paths that rise, as every one does that is made or read
+abbrev pub IsMessage : Down → Type 0
+IsMessage (down.Push s r z values) = Rising values
+IsMessage _ = ⊤
+
+abbrev pub IsStep : Step → Type 0
+IsStep (receives m) = IsMessage m
+IsStep _ = ⊤
+
+-- what the steps receive are messages
+abbrev pub AreMessages : List Step → Type 0
+AreMessages steps = All IsStep steps

@@ -2,7 +2,9 @@
 -- the last Snap or Push that names the path, from the Snap on that answers the last listen to it.
 use Rattle.std.specs.Prelude.{◌≡◌, ◌&&◌, ℕ, Bool, true, false, List, [], ◌∷◌, ◌++◌, drop, Option, Some, None, if◌then◌else◌}
 use Rattle.std.specs.Option.{is_some}
+use Rattle.pres_tree.specs.declared.scalar.Scalar.{Scalar}
 use Rattle.pres_tree.specs.Paths.{Path, same_path}
+use Rattle.pres_tree.specs.Rows.{Rows}
 use Rattle.pres_wire.specs.declared.down.Down.{Down}
 use Rattle.pres_wire.specs.declared.down.Down.TheVariants as down
 use Rattle.pres_wire.specs.declared.id.SessionId.{SessionId}
@@ -11,7 +13,7 @@ use Rattle.pres_wire.specs.Views.{seen_in}
 use Rattle.pres_client.specs.declared.queued.Queued.{Queued}
 use Rattle.pres_client.specs.Clients.{State, start, is_online, watch_of, view}
 use Rattle.pres_client.specs.Receiving.{is_next, fits, first_listen, is_last}
-use Rattle.pres_client.specs.Steps.{Step, calls, receives, hands_out_sends, hands_out_notices, after, run}
+use Rattle.pres_client.specs.Steps.{Step, AreMessages, calls, receives, hands_out_sends, hands_out_notices, after, run}
 
 -- the messages that a view is made of, and whether more of them count
 pub record Trail : Type 0 where
@@ -36,25 +38,36 @@ takes c (down.Snap s r z q p v) = is_next c s r
 takes c (down.Push s r z values) = is_next c s r
 takes c (down.OffDone s r z q) = is_next c s r
 
--- the oldest message without an answer listens to the path, and no later one does
-abbrev pub is_last_listen : Path → Option (ℕ × Path) → List Queued → Bool
-is_last_listen p None rest = false
-is_last_listen p (Some f) rest = same_path f.1 p && is_last p rest
+-- the oldest message without an answer listens to the path
+abbrev pub listens_to : Path → Option (ℕ × Path) → Bool
+listens_to p None = false
+listens_to p (Some f) = same_path f.1 p
 
--- the Snap that answers the last listen to the path
-abbrev pub starts : Path → State → Down → Bool
-starts p c (down.Snap s r z q x v) = is_next c s r && (fits c q && (same_path x p && is_last_listen x (first_listen c.queue) (drop 1 c.queue)))
-starts p c (down.Welcome s z ops) = false
-starts p c (down.Reply s r z q n done out) = false
-starts p c (down.Gone s r z why) = false
-starts p c (down.Fault session code) = false
-starts p c (down.Armed s r z q) = false
-starts p c (down.Denied s r z q why) = false
-starts p c (down.Push s r z values) = false
-starts p c (down.OffDone s r z q) = false
+-- a Snap with this number and path answers the oldest message without an answer
+abbrev pub is_asked : State → ℕ → Path → Bool
+is_asked c q x = fits c q && listens_to x (first_listen c.queue)
+
+-- The Snap that answers the last listen to the path is the first message. Of a Snap that answers nothing the server's
+-- number alone counts, as in an OffDone.
+abbrev pub with_snap : Path → State → Trail → SessionId → ℕ → ℕ → ℕ → Path → Rows Scalar → Trail
+with_snap p c t s r z q x v =
+    if is_asked c q x
+    then (if same_path x p && is_last x (drop 1 c.queue) then record { messages = down.Snap s r z q x v ∷ []; counts = true } else more t (down.Snap s r z q x v))
+    else more t (down.OffDone s r z q)
+
+abbrev pub with_taken : Path → State → Trail → Down → Trail
+with_taken p c t (down.Welcome s z ops) = t
+with_taken p c t (down.Reply s r z q n done out) = more t (down.Reply s r z q n done out)
+with_taken p c t (down.Gone s r z why) = more t (down.Gone s r z why)
+with_taken p c t (down.Fault session code) = t
+with_taken p c t (down.Armed s r z q) = more t (down.Armed s r z q)
+with_taken p c t (down.Denied s r z q why) = more t (down.Denied s r z q why)
+with_taken p c t (down.Snap s r z q x v) = with_snap p c t s r z q x v
+with_taken p c t (down.Push s r z values) = more t (down.Push s r z values)
+with_taken p c t (down.OffDone s r z q) = more t (down.OffDone s r z q)
 
 abbrev pub with_message : Path → State → Trail → Down → Trail
-with_message p c t m = if starts p c m then record { messages = m ∷ []; counts = true } else (if takes c m then more t m else t)
+with_message p c t m = if takes c m then with_taken p c t m else t
 
 abbrev pub trail_step : Path → State → Trail → Step → Trail
 trail_step p c t (receives m) = with_message p c t m
@@ -73,5 +86,5 @@ trail p c t (s ∷ steps) = trail p (after c s) (kept_for p (after c s) (trail_s
 -- After any steps the view of a path is what its trail tells: the number of the last message, and the last value told.
 abbrev pub ViewsHold : Type 0
 ViewsHold =
-    (client : ClientId) (incarnation : ℕ) (p : Path) (steps : List Step) →
+    (client : ClientId) (incarnation : ℕ) (p : Path) (steps : List Step) → AreMessages steps →
     view p (run (start client incarnation) steps) ≡ seen_in p (trail p (start client incarnation) nothing steps).messages

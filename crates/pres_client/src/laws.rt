@@ -1,1 +1,21 @@
 //! Laws of clients, over every list of what may happen to one.
+
+ghost use Rattle.pres_client.specs.Trails.{ViewsHold};
+ghost use Rattle.pres_client.specs.Sends.{SendsHold, StepSends};
+
+/// After any steps the view of a path is what the messages that count for it tell: the number of
+/// the last one, and the last value told.
+pub fn views_hold()
+    ensures { ViewsHold }
+{}
+
+/// After any steps the messages without an answer are those of the session's list that come after
+/// the answered ones.
+pub fn sends_hold()
+    ensures { SendsHold }
+{}
+
+/// What a step sends is a Hello or a Beat of its session, or stands in the session's list.
+pub fn steps_send()
+    ensures { StepSends }
+{}
