@@ -1,2 +1,4 @@
 pub mod Watched
 pub mod Trails
+pub mod Sent
+pub mod SentSteps
