@@ -2,3 +2,4 @@ pub mod Watched
 pub mod Trails
 pub mod Sent
 pub mod SentSteps
+pub mod SentOut

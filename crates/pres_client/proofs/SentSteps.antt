@@ -102,7 +102,7 @@ goes_other c t m f none plain is on h =
 
 -- ---- calls
 
-accepted_online : (c : State) (fault : Option WriteFault) → is_none (action_refusal c fault) ≡ true → is_online c.phase ≡ true
+pub accepted_online : (c : State) (fault : Option WriteFault) → is_none (action_refusal c fault) ≡ true → is_online c.phase ≡ true
 accepted_online c fault h = by (is_online c.phase) h where
   by : (b : Bool) → is_none (if not b then Some Offline else (if no_request c || no_message c then Some Spent else option_map Write fault)) ≡ true → b ≡ true
   by true k = refl
@@ -235,7 +235,7 @@ goes_off_done c d t ms q h g = choose c t (fits d q && first_is_off ms) _ _ (λ 
   by (queued.Off x ∷ rest) e g = hears (queued.Off x) rest g
   by [] e g = absurd (true≢false (sym e))
 
-opening_off : (c : State) → is_opening c.phase ≡ true → is_online c.phase ≡ false
+pub opening_off : (c : State) → is_opening c.phase ≡ true → is_online c.phase ≡ false
 opening_off c e = by c.phase e where
   by : (f : Phase) → is_opening f ≡ true → is_online f ≡ false
   by phase.Online k = absurd (true≢false (sym k))
