@@ -1,3 +1,4 @@
+pub mod Phases
 pub mod Watched
 pub mod Trails
 pub mod Sent

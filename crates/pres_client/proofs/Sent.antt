@@ -1,28 +1,21 @@
 -- The messages that a client makes, after any steps.
-use Rattle.std.proofs.Common.{refl, sym, ◌∙◌, ap, subst, ◌≡◌, ℕ, suc, ◌+◌, ◌≤◌, arith, List, [], ◌∷◌, ◌++◌, map, length, drop, length-append, drop-drop, append-nil, Bool, true, false, not, cond, ◌&&◌, ◌||◌, if◌then◌else◌, true≢false, Option, Some, None, unwrap_or}
-use Rattle.std.specs.Option.{is_some, is_none}
+use Rattle.std.proofs.Common.{refl, sym, ◌∙◌, ap, ◌≡◌, ℕ, suc, ◌+◌, ◌≤◌, arith, List, [], ◌∷◌, ◌++◌, map, length, drop, length-append, drop-drop, Bool, true, false, cond, ◌&&◌, if◌then◌else◌, true≢false, Option, Some, None}
 use Rattle.std.specs.List.{filter, filter_map, list_all}
 use Rattle.std.proofs.lemmas.Bool.{and_parts}
 use Rattle.std.proofs.lemmas.List.{drop-append-le}
 use Rattle.std.proofs.lemmas.List.Elements.{filter_map-append}
 use Rattle.std.proofs.lemmas.List.Folds.{list_all-append}
-use Rattle.pres_tree.specs.declared.scalar.Scalar.{Scalar}
 use Rattle.pres_tree.specs.Paths.{Path}
-use Rattle.pres_tree.specs.Rows.{Rows, rows_in}
 use Rattle.pres_write.specs.declared.op.Op.{Op}
 use Rattle.pres_write.specs.declared.op.Op.TheVariants as op
-use Rattle.pres_write.specs.declared.outcome.Kept.{Kept}
-use Rattle.pres_write.specs.declared.outcome.Kept.TheVariants.{Wrote, Stale}
-use Rattle.pres_write.specs.Transactions.{Comparison}
 use Rattle.pres_wire.specs.declared.id.SessionId.{SessionId}
-use Rattle.pres_wire.specs.declared.up.Up.{Up}
 use Rattle.pres_wire.specs.declared.up.Up.TheVariants as up
 use Rattle.pres_client.specs.declared.queued.Queued.{Queued}
 use Rattle.pres_client.specs.declared.queued.Queued.TheVariants as queued
 use Rattle.pres_client.specs.declared.watch.Watch.{Watch}
 use Rattle.pres_client.specs.Clients.{is_write, message, next_write, messages, count_writes}
-use Rattle.pres_client.specs.Receiving.{head_is_write, on_of}
-use Rattle.pres_client.specs.Sends.{Made, Unnumbered, numbered, on_messages, op_messages}
+use Rattle.pres_client.specs.Receiving.{on_of}
+use Rattle.pres_client.specs.Sends.{Made, numbered, on_messages, op_messages}
 
 -- ---- the writes of a queue
 
@@ -118,24 +111,27 @@ pushes {was} {on} {s} {base} {made} {answered} {heard} {queue} {t} m u ws ms off
   counted = ap (λ k. next_write k m) h.counted ∙ sym (shift answered (count_writes queue)) ∙ ap (λ k. answered + k) (sym (count-push queue m));
   left = ap (drop answered) ws ∙ drop-append-le answered t.writes (ops_of (m ∷ [])) reach ∙ ap (λ r. r ++ ops_of (m ∷ [])) h.left ∙ sym (filter_map-append op_of queue (m ∷ []));
   online = λ e.
-    let o = h.online e in
-    let q : length t.messages + 1 ≡ heard + 1 + length queue = omega (arith, o.count) in
-    let n : base + length t.writes + 1 ≡ base + answered + 1 + count_writes queue = omega (arith, h.writes, h.counted) in
-    record {
-      rest = ap (drop heard) (ms e) ∙ drop-append-le heard t.messages _ (omega (arith, o.count)) ∙ (λ i. o.rest i ++ message s (q i) (n i) m ∷ []) ∙ sym (messages-push s (heard + 1) (base + answered + 1) queue m);
-      count = ap length (ms e) ∙ length-append t.messages _ ∙ ap (λ k. k + 1) o.count ∙ longer;
-    };
+      let o = h.online e in
+      let q : length t.messages + 1 ≡ heard + 1 + length queue = omega (arith, o.count) in
+      let n : base + length t.writes + 1 ≡ base + answered + 1 + count_writes queue = omega (arith, h.writes, h.counted) in
+      record {
+        rest = ap (drop heard) (ms e) ∙ drop-append-le heard t.messages _ (omega (arith, o.count)) ∙ (λ i. o.rest i ++ message s (q i) (n i) m ∷ []) ∙ sym (messages-push s (heard + 1) (base + answered + 1) queue m);
+        count = ap length (ms e) ∙ length-append t.messages _ ∙ ap (λ k. k + 1) o.count ∙ longer;
+      };
   offline = λ e. list_all-append is_write queue (m ∷ []) ∙ (λ i. h.offline e i && (off e i && true));
 } where
   reach : answered ≤ length t.writes
   reach = omega (arith, h.writes, h.counted)
+
   more : (k : ℕ) → k + next_write 0 m ≡ next_write k m
   more k = next_more m k 0 ∙ omega arith
+
   shift : (a k : ℕ) → a + next_write k m ≡ next_write (a + k) m
   shift a k = by (is_write m) where
     by : (b : Bool) → a + (if b then k + 1 else k) ≡ (if b then (a + k) + 1 else a + k)
     by true = omega arith
     by false = refl
+
   longer : heard + length queue + 1 ≡ heard + length (queue ++ m ∷ [])
   longer = omega (arith, length-append queue (m ∷ []))
 
@@ -165,15 +161,16 @@ hears {was} {on} {s} {base} {made} {answered} {heard} {t} m rest h = record {
   counted = h.counted ∙ next_more m answered (count_writes rest);
   left = fewer m h.left;
   online = λ e.
-    let o = h.online e in
-    record {
-      rest = sym (drop-drop 1 heard t.messages) ∙ ap (drop 1) o.rest ∙ ap (λ n. messages s (heard + 1 + 1) n rest) (next_between m base answered);
-      count = o.count ∙ one_less;
-    };
+      let o = h.online e in
+      record {
+        rest = sym (drop-drop 1 heard t.messages) ∙ ap (drop 1) o.rest ∙ ap (λ n. messages s (heard + 1 + 1) n rest) (next_between m base answered);
+        count = o.count ∙ one_less;
+      };
   offline = λ e. (and_parts (is_write m) _ (h.offline e)).1;
 } where
   one_less : heard + length (m ∷ rest) ≡ heard + 1 + length rest
   one_less = omega arith
+
   fewer : (m : Queued) → drop answered t.writes ≡ ops_of (m ∷ rest) → drop (next_write answered m) t.writes ≡ ops_of rest
   fewer (queued.Write k o) l = sym (drop-drop 1 answered t.writes) ∙ ap (drop 1) l
   fewer (queued.Try k attempt x) l = sym (drop-drop 1 answered t.writes) ∙ ap (drop 1) l

@@ -1,10 +1,10 @@
 -- What a step sends.
-use Rattle.std.proofs.Common.{refl, sym, ◌∙◌, ap, subst, ◌≡◌, ℕ, ◌+◌, ◌<◌, arith, List, [], ◌∷◌, ◌++◌, length, take, drop, append-nil, append_assoc, Bool, true, false, not, cond, ◌&&◌, if◌then◌else◌, true≢false, ◌⊎◌, inl, inr, Option, Some, None}
+use Rattle.std.proofs.Common.{refl, sym, ◌∙◌, ap, subst, ◌≡◌, ℕ, ◌+◌, arith, List, [], ◌∷◌, ◌++◌, length, take, drop, append-nil, append_assoc, Bool, true, false, ◌&&◌, if◌then◌else◌, true≢false, inl, inr, Option, Some, None}
 use Rattle.std.specs.List.{All, Contains}
 use Rattle.std.specs.Option.{is_some, is_none}
 use Rattle.std.proofs.lemmas.Bool.{and_parts}
 use Rattle.std.proofs.lemmas.List.{append_cancel_left, take-append-drop}
-use Rattle.std.proofs.lemmas.List.Elements.{All-nil, All-cons, All-head, All-tail, Contains-append_right}
+use Rattle.std.proofs.lemmas.List.Elements.{All-nil, All-cons, Contains-append_right}
 use Rattle.pres_tree.specs.declared.scalar.Scalar.{Scalar}
 use Rattle.pres_tree.specs.Paths.{Path, same_path}
 use Rattle.pres_tree.specs.Rows.{Rows}
@@ -24,7 +24,7 @@ use Rattle.pres_wire.specs.declared.down.Down.{Down}
 use Rattle.pres_wire.specs.declared.down.Down.TheVariants as down
 use Rattle.pres_wire.specs.declared.up.Up.{Up}
 use Rattle.pres_wire.specs.declared.up.Up.TheVariants as up
-use Rattle.pres_wire.specs.Ids.{ClientId, same_session}
+use Rattle.pres_wire.specs.Ids.{same_session}
 use Rattle.pres_client.specs.declared.ask.Ask.{Ask}
 use Rattle.pres_client.specs.declared.call.Answer.{Answer}
 use Rattle.pres_client.specs.declared.call.Answer.TheVariants as answer
@@ -42,8 +42,9 @@ use Rattle.pres_client.specs.Receiving as receiving
 use Rattle.pres_client.specs.Receiving.{is_next, fits, fits_write, bring, is_last, first_listen, first_action, first_is_off, after_receive, after_welcome, after_fault, own_fault, ends_session, is_fit, judge_reply, write_outcome, try_outcome, ask_again, action_answered, judge_denied, listen_denied, listen_answered, armed, denied}
 use Rattle.pres_client.specs.Steps.{Step, calls, receives, hands_out_sends, hands_out_notices, after, run}
 use Rattle.pres_client.specs.Sends.{Made, none_made, Unnumbered, opening, made_one, wrote_one, answered_one, made_by, made_step, kept_while, made, MayGoOut, StepSends}
+use Rattle.pres_client.proofs.Phases.{opening_off}
 use Rattle.pres_client.proofs.Sent.{Fits, opens}
-use Rattle.pres_client.proofs.SentSteps.{Keeps, kept_same, made_messages, opening_off, keeps_run, keeps_start}
+use Rattle.pres_client.proofs.SentSteps.{Keeps, kept_same, made_messages, keeps_run, keeps_start}
 
 -- ---- lists
 
@@ -96,8 +97,10 @@ one_more : (c d : State) (t u : Made) (m : Queued) → Keeps c t → d.sends ≡
 one_more c d t u m h e on ms = subst (Says c d) (sym (still c d u on)) (says c d u.messages (sent_now c m) e (by (is_online c.phase) refl)) where
   q : ℕ
   q = c.heard + length c.queue + 1
+
   n : ℕ
   n = base_of c + c.made + 1
+
   by : (b : Bool) → is_online c.phase ≡ b → All (MayGoOut d u.messages) (if b then message c.session q n m ∷ [] else [])
   by true k =
       let made : u.messages ≡ t.messages ++ message c.session q n m ∷ [] = ms k ∙ λ i. t.messages ++ message c.session ((h.online k).count i + 1) (base_of c + h.writes i + 1) m ∷ [] in
@@ -123,10 +126,13 @@ tells_listen c t x (Some w) h = quiet c (with_request c) _ refl
 tells_listen c t x None h = by (is_online c.phase) refl where
   k : ℕ
   k = c.requests + 1
+
   f : Unnumbered
   f = λ q. up.On c.session q x
+
   listening : Bool → State
   listening b = let d = (if b then enqueue c (queued.On k x) else c) in let e = with_request d in record e { watches = with_watch x (fresh k) c.watches }
+
   by : (b : Bool) → is_online c.phase ≡ b → Tells c (made_one c t f) (listening b)
   by true e = one_more c (listening true) t (made_one c t f) (queued.On k x) h refl (λ e. e) (λ e. made_messages c t f e)
   by false e = quiet c (listening false) _ refl
@@ -136,8 +142,10 @@ tells_unlisten c t x None h = quiet c c _ refl
 tells_unlisten c t x (Some w) h = by (is_online c.phase) refl where
   f : Unnumbered
   f = λ q. up.Off c.session q x
+
   unlistening : Bool → State
   unlistening b = let d = (if b then enqueue c (queued.Off x) else c) in record d { watches = without_watch x c.watches }
+
   by : (b : Bool) → is_online c.phase ≡ b → Tells c (made_one c t f) (unlistening b)
   by true e = one_more c (unlistening true) t (made_one c t f) (queued.Off x) h refl (λ e. e) (λ e. made_messages c t f e)
   by false e = quiet c (unlistening false) _ refl
@@ -146,12 +154,16 @@ tells_offline : (c : State) (t : Made) → Keeps c t → Tells c (made_one c t (
 tells_offline c t h = choose c (made_one c t f) (is_online c.phase) left stays leaves (λ _. quiet c stays _ refl) where
   f : Unnumbered
   f = λ q. up.Bye c.session q
+
   bye : Up
   bye = up.Bye c.session (c.heard + length c.queue + 1)
+
   left : State
   left = let d = end_session c None in record d { sends = c.sends ++ bye ∷ [] }
+
   stays : State
   stays = record c { phase = phase.Off }
+
   leaves : is_online c.phase ≡ true → Tells c (made_one c t f) left
   leaves e =
       let made : (made_one c t f).messages ≡ t.messages ++ bye ∷ [] = made_messages c t f e ∙ λ i. t.messages ++ up.Bye c.session ((h.online e).count i + 1) ∷ [] in
@@ -161,8 +173,10 @@ tells_beat : (c : State) (t : Made) → Tells c t (after_call c call.Beat)
 tells_beat c t = says c d ms (if is_online c.phase then up.Beat c.session ∷ [] else []) refl (by (is_online c.phase)) where
   d : State
   d = after_call c call.Beat
+
   ms : List Up
   ms = (kept_while c d t).messages
+
   by : (b : Bool) → All (MayGoOut d ms) (if b then up.Beat c.session ∷ [] else [])
   by true = All-cons (MayGoOut d ms) (up.Beat c.session) [] (inr (inl refl)) (none (MayGoOut d ms))
   by false = none (MayGoOut d ms)
@@ -171,9 +185,11 @@ tells_again : (c : State) (t : Made) → Keeps c t → Tells c t (after_call c c
 tells_again c t h = subst (Says c d) (sym (still c d t (λ e. e))) (says c d t.messages (outgoing c) refl (by (is_online c.phase) refl)) where
   d : State
   d = after_call c call.Resend
+
   hello : (b : Bool) → All (MayGoOut d t.messages) (if b then up.Hello c.session ∷ [] else [])
   hello true = All-cons (MayGoOut d t.messages) (up.Hello c.session) [] (inl refl) (none (MayGoOut d t.messages))
   hello false = none (MayGoOut d t.messages)
+
   by : (b : Bool) → is_online c.phase ≡ b → All (MayGoOut d t.messages) (if b then outstanding c else (if is_opening c.phase then up.Hello c.session ∷ [] else []))
   by true e = subst (All (MayGoOut d t.messages)) (h.online e).rest (all_listed d t.messages c.heard)
   by false e = hello (is_opening c.phase)
@@ -182,8 +198,10 @@ tells_online : (c : State) (t : Made) → Tells c t (after_call c call.GoOnline)
 tells_online c t = choose c t (is_some (session_of c)) c d (λ _. quiet c c _ refl) (λ _. says c d ms (up.Hello s ∷ []) refl (All-cons (MayGoOut d ms) (up.Hello s) [] (inl refl) (none (MayGoOut d ms)))) where
   s : SessionId
   s = record c.session { attempt = c.attempts + 1 }
+
   d : State
   d = record c { session = s; attempts = c.attempts + 1; phase = phase.Opening; sends = c.sends ++ up.Hello s ∷ [] }
+
   ms : List Up
   ms = (kept_while c d t).messages
 
@@ -262,10 +280,13 @@ tells_welcome : (c : State) (t : Made) (ops : ℕ) → is_opening c.phase ≡ tr
 tells_welcome c t ops e h = choose c t (is_fit c ops) d refused (λ _. opened (is_online c.phase) (opening_off c e) h) (λ _. quiet c refused _ refl) where
   o : State
   o = receiving.opened c ops
+
   d : State
   d = let n = note o (notice.Connected true) in record n { sends = c.sends ++ outstanding o }
+
   refused : State
   refused = let n = note c (notice.Faulted code.Bad) in record n { phase = phase.Off }
+
   opened : (b : Bool) → b ≡ false → Fits b c.session (base_of c) c.made c.answered c.heard b c.queue t → Says c d (if b then t else opening d t).messages
   opened true k g = absurd (true≢false k)
   opened false k g =

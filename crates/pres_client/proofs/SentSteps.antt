@@ -1,16 +1,15 @@
 -- What a client made, step by step.
-use Rattle.std.proofs.Common.{refl, sym, ◌∙◌, ap, subst, ◌≡◌, ℕ, ◌+◌, List, [], ◌∷◌, ◌++◌, map, length, drop, append-nil, Bool, true, false, not, cond, ◌&&◌, ◌||◌, if◌then◌else◌, true≢false, Option, Some, None}
+use Rattle.std.proofs.Common.{refl, sym, ◌∙◌, ap, subst, ◌≡◌, ℕ, ◌+◌, List, [], ◌∷◌, ◌++◌, length, drop, append-nil, Bool, true, false, not, ◌&&◌, ◌||◌, if◌then◌else◌, true≢false, Option, Some, None}
 use Rattle.std.specs.Option.{is_some, is_none, option_map}
 use Rattle.std.proofs.lemmas.Bool.{and_parts}
 use Rattle.pres_tree.specs.declared.scalar.Scalar.{Scalar}
 use Rattle.pres_tree.specs.Paths.{Path, same_path}
-use Rattle.pres_tree.specs.Rows.{Rows, rows_in}
+use Rattle.pres_tree.specs.Rows.{Rows}
 use Rattle.pres_write.specs.declared.fault.WriteFault.{WriteFault}
 use Rattle.pres_write.specs.declared.op.Op.{Op}
 use Rattle.pres_write.specs.declared.op.Op.TheVariants as op
 use Rattle.pres_write.specs.declared.outcome.Kept.{Kept}
 use Rattle.pres_write.specs.declared.outcome.Kept.TheVariants.{Wrote, Stale}
-use Rattle.pres_write.specs.declared.unconditional.Unconditional.{Unconditional}
 use Rattle.pres_write.specs.declared.unconditional.Unconditional.TheVariants as unconditional
 use Rattle.pres_write.specs.Transactions.{Comparison, comparison}
 use Rattle.pres_write.specs.Updates.{update_of, update_fault}
@@ -28,7 +27,6 @@ use Rattle.pres_client.specs.declared.call.Answer.{Answer}
 use Rattle.pres_client.specs.declared.call.Answer.TheVariants as answer
 use Rattle.pres_client.specs.declared.call.Call.{Call}
 use Rattle.pres_client.specs.declared.call.Call.TheVariants as call
-use Rattle.pres_client.specs.declared.client.Phase.{Phase}
 use Rattle.pres_client.specs.declared.client.Phase.TheVariants as phase
 use Rattle.pres_client.specs.declared.fault.ClientFault.TheVariants.{Offline, Spent, Write}
 use Rattle.pres_client.specs.declared.notice.Notice.{Notice}
@@ -36,12 +34,13 @@ use Rattle.pres_client.specs.declared.notice.Notice.TheVariants as notice
 use Rattle.pres_client.specs.declared.queued.Queued.{Queued}
 use Rattle.pres_client.specs.declared.queued.Queued.TheVariants as queued
 use Rattle.pres_client.specs.declared.watch.Watch.{Watch}
-use Rattle.pres_client.specs.Clients.{State, start, is_online, is_opening, is_write, session_of, base_of, message, next_write, watch_of, without_watch, with_watch, fresh, ask_of, no_request, no_message}
-use Rattle.pres_client.specs.Calls.{refusal, action_refusal, set_fault, after_call, end_session, with_request, enqueue, after_answer, after_listen, after_unlisten, try_of, note}
+use Rattle.pres_client.specs.Clients.{State, start, is_online, is_opening, is_write, session_of, base_of, message, watch_of, without_watch, with_watch, fresh, ask_of, no_request, no_message}
+use Rattle.pres_client.specs.Calls.{refusal, action_refusal, set_fault, after_call, end_session, with_request, enqueue, after_answer, after_listen, after_unlisten, note}
 use Rattle.pres_client.specs.Receiving as receiving
 use Rattle.pres_client.specs.Receiving.{is_next, fits, fits_write, bring, is_last, first_listen, first_is_off, after_receive, after_welcome, after_fault, own_fault, ends_session, is_fit, judge_reply, write_outcome, try_outcome, ask_again, write_answered, judge_action, judge_denied, judge_snap, judge_off_done, after_push, armed, denied}
 use Rattle.pres_client.specs.Steps.{Step, calls, receives, hands_out_sends, hands_out_notices, after, run}
 use Rattle.pres_client.specs.Sends.{Made, none_made, Unnumbered, opening, made_one, wrote_one, answered_one, made_by, made_step, kept_while, made, SendsHold}
+use Rattle.pres_client.proofs.Phases.{not_open, opening_off}
 use Rattle.pres_client.proofs.Sent.{Fits, ops_of, pushes, closes, waits, hears, opens}
 
 -- a client and what it made, and one after a step from another
@@ -118,8 +117,10 @@ goes_listen c t x (Some w) h = h
 goes_listen c t x None h = by (is_online c.phase) refl where
   k : ℕ
   k = c.requests + 1
+
   f : Unnumbered
   f = λ q. up.On c.session q x
+
   by : (b : Bool) → is_online c.phase ≡ b → Goes c (let d = (if b then enqueue c (queued.On k x) else c) in let e = with_request d in record e { watches = with_watch x (fresh k) c.watches }) (made_one c t f)
   by true e = goes_other c t (queued.On k x) f refl refl (λ q n. refl) e h
   by false e = subst (Keeps c) (sym (made_off c t f e)) h
@@ -129,15 +130,10 @@ goes_unlisten c t x None h = h
 goes_unlisten c t x (Some w) h = by (is_online c.phase) refl where
   f : Unnumbered
   f = λ q. up.Off c.session q x
+
   by : (b : Bool) → is_online c.phase ≡ b → Goes c (let d = (if b then enqueue c (queued.Off x) else c) in record d { watches = without_watch x c.watches }) (made_one c t f)
   by true e = goes_other c t (queued.Off x) f refl refl (λ q n. refl) e h
   by false e = subst (Keeps c) (sym (made_off c t f e)) h
-
-pub not_open : (c : State) → is_some (session_of c) ≡ false → is_online c.phase ≡ false
-not_open c e = by (is_online c.phase) e where
-  by : (b : Bool) → is_some (if b then Some c.session else (if is_opening c.phase then Some c.session else None)) ≡ false → b ≡ false
-  by true k = absurd (true≢false k)
-  by false k = refl
 
 goes_call : (c : State) (t : Made) (k : Call) → is_none (refusal c k) ≡ true → Keeps c t → Goes c (after_call c k) (made_by c t k)
 goes_call c t (call.Set x draft) a h = goes_write c t (c.requests + 1) (op.Set (x, draft)) h
@@ -235,13 +231,6 @@ goes_off_done c d t ms q h g = choose c t (fits d q && first_is_off ms) _ _ (λ 
   by (queued.Off x ∷ rest) e g = hears (queued.Off x) rest g
   by [] e g = absurd (true≢false (sym e))
 
-pub opening_off : (c : State) → is_opening c.phase ≡ true → is_online c.phase ≡ false
-opening_off c e = by c.phase e where
-  by : (f : Phase) → is_opening f ≡ true → is_online f ≡ false
-  by phase.Online k = absurd (true≢false (sym k))
-  by phase.Opening k = refl
-  by phase.Off k = refl
-
 goes_own_fault : (c : State) (t : Made) (reason : Code) → Keeps c t → Goes c (own_fault c reason) t
 goes_own_fault c t reason h =
     choose c t (is_opening c.phase) _ _ (λ e. waits (opening_off c e) h) (λ _. choose c t (is_online c.phase) _ c (λ _. choose c t (ends_session reason) _ _ (λ _. goes_end c c t (Some reason) h) (λ _. h)) (λ _. h))
@@ -264,8 +253,10 @@ next_welcome c t ops e h =
     next_if c t (is_fit c ops) _ _ (λ _. welcomed (is_online c.phase) (opening_off c e) h) (λ _. settled c refused t (waits (opening_off c e) h)) where
       refused : State
       refused = let d = note c (notice.Faulted code.Bad) in record d { phase = phase.Off }
+
       d : State
       d = receiving.opened c ops
+
       welcomed : (b : Bool) → b ≡ false → Fits b c.session (base_of c) c.made c.answered c.heard b c.queue t
           → Fits true d.session (base_of d) c.made c.answered 0 true d.queue (if b then t else opening d t)
       welcomed true e h = absurd (true≢false e)
