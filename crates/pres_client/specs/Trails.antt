@@ -58,15 +58,8 @@ with_snap p c t s r z q x v =
 
 -- a message that is taken
 abbrev pub with_taken : Path → State → Trail → Down → Trail
-with_taken p c t (down.Welcome s z ops) = t
-with_taken p c t (down.Reply s r z q n done out) = more t (down.Reply s r z q n done out)
-with_taken p c t (down.Gone s r z why) = more t (down.Gone s r z why)
-with_taken p c t (down.Fault session code) = t
-with_taken p c t (down.Armed s r z q) = more t (down.Armed s r z q)
-with_taken p c t (down.Denied s r z q why) = more t (down.Denied s r z q why)
 with_taken p c t (down.Snap s r z q x v) = with_snap p c t s r z q x v
-with_taken p c t (down.Push s r z values) = more t (down.Push s r z values)
-with_taken p c t (down.OffDone s r z q) = more t (down.OffDone s r z q)
+with_taken p c t m = more t m
 
 -- a message that came
 abbrev pub with_message : Path → State → Trail → Down → Trail
