@@ -3,5 +3,9 @@ pub mod Few
 pub mod Maps
 pub mod Queues
 pub mod Watched
+pub mod Phases
 pub mod Found
 pub mod Trails
+pub mod Sent
+pub mod SentSteps
+pub mod SentOut
