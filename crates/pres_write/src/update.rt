@@ -1,11 +1,11 @@
 //! Updates: drafts at several places, written all or none.
 
-ghost use Rattle.std.specs.Prelude.{◌≡◌, ◌⊎◌, ◌≤◌, ◌++◌, IfOk, MatchResult, Ok, Err, Some, None, length, unwrap_or};
+ghost use Rattle.std.specs.Prelude.{◌≡◌, ◌⊎◌, ◌≤◌, ◌++◌, All, IfOk, MatchResult, Ok, Err, Some, None, false, length, unwrap_or};
 ghost use Rattle.std.specs.BTreeMap.{IsOrdered};
 ghost use Rattle.std.specs.List.{list_any};
 ghost use Rattle.std.specs.Map.{keys_of};
 ghost use Rattle.serde_json.specs.View.{view, members_view};
-ghost use Rattle.pres_tree.specs.Paths.{IsPath, segments, path_cmp, meet, overlap};
+ghost use Rattle.pres_tree.specs.Paths.{IsPath, segments, path_cmp, sorted_by, meet, overlap};
 ghost use Rattle.pres_tree.specs.Reading.{rows_of};
 ghost use Rattle.pres_tree.specs.declared.fault.TreeFault.TheVariants.{Memory};
 ghost use Rattle.pres_write.specs.Basics.{Apart};
@@ -51,26 +51,29 @@ impl Model for Update {
 
 // Whether a place is no path below the path, or its draft is nested too deep there.
 fn has_deep(path: &Path, places: &[(Path, Draft)]) -> bool
-    ensures { result ≡ list_any (is_deep_below path.now) places.now }
+    ensures deep { result ≡ list_any (is_deep_below path.now) places.now }
+    ensures fit { result ≡ false → All (FitsBelow path.now) places.now }
 {
-    for (place, draft) in places {
-        if path.len() + place.len() + draft.depth() > MAX_DEPTH {
-            return true;
-        }
+    let Some(((place, draft), rest)) = places.split_first() else {
+        return false;
+    };
+    if path.len() + place.len() + draft.depth() > MAX_DEPTH {
+        return true;
     }
-    false
+    has_deep(path, rest)
 }
 
 // Whether the place is at or above one of these, or one of these is above it.
 fn meets_any(place: &Path, others: &[(Path, Draft)]) -> bool
     ensures { result ≡ list_any (meet place.now) (keys_of others.now) }
 {
-    for (other, _) in others {
-        if place.is_prefix_of(other) || other.is_prefix_of(place) {
-            return true;
-        }
+    let Some(((other, _), rest)) = others.split_first() else {
+        return false;
+    };
+    if place.is_prefix_of(other) || other.is_prefix_of(place) {
+        return true;
     }
-    false
+    meets_any(place, rest)
 }
 
 // Whether one of the places is at or above another. It takes no memory, so that want of memory
@@ -78,14 +81,28 @@ fn meets_any(place: &Path, others: &[(Path, Draft)]) -> bool
 fn meet_anywhere(places: &[(Path, Draft)]) -> bool
     ensures { result ≡ overlap (keys_of places.now) }
 {
-    let mut rest = places;
-    while let Some(((place, _), others)) = rest.split_first() {
-        if meets_any(place, others) {
-            return true;
-        }
-        rest = others;
+    let Some(((place, _), rest)) = places.split_first() else {
+        return false;
+    };
+    if meets_any(place, rest) {
+        return true;
     }
-    false
+    meet_anywhere(rest)
+}
+
+// The drafts in the order of their places, of which none is at another.
+fn in_order(
+    alloc: Global,
+    mut places: Vec<(Path, Draft)>,
+) -> Result<BTreeMap<Path, Draft>, AllocError>
+    ensures { IfOk result (λ drafts. (drafts.entries ≡ sorted_by path_cmp places.items)
+        × IsOrdered path_cmp drafts) }
+{
+    let mut drafts = BTreeMap::new(alloc);
+    while let Some((place, draft)) = places.pop() {
+        drop(drafts.insert(place, draft)?);
+    }
+    Ok(drafts)
 }
 
 impl Update {
@@ -122,11 +139,7 @@ impl Update {
 
     /// The update of the drafts at places below the path. Refused, in this order: ManyPaths,
     /// TooDeep, Overlap, Memory.
-    pub fn new(
-        alloc: Global,
-        path: Path,
-        places: Vec<(Path, Draft)>,
-    ) -> Result<Update, WriteFault>
+    pub fn new(alloc: Global, path: Path, places: Vec<(Path, Draft)>) -> Result<Update, WriteFault>
         ensures { MatchResult result
             (λ u. (u ≡ update_of path places.items) × (update_fault path places.items ≡ None))
             (λ e. e ≡ unwrap_or (update_fault path places.items) (TreeRefused Memory)) }
@@ -140,14 +153,8 @@ impl Update {
         if meet_anywhere(places.as_slice()) {
             return Err(WriteFault::Overlap);
         }
-        let mut drafts = BTreeMap::new(alloc);
-        for (place, draft) in places {
-            drop(drafts.insert(place, draft)?);
-        }
-        Ok(Update {
-            path,
-            places: drafts,
-        })
+        let places = in_order(alloc, places)?;
+        Ok(Update { path, places })
     }
 
     /// The path.
