@@ -9,3 +9,4 @@ pub mod Trails
 pub mod Sent
 pub mod SentSteps
 pub mod SentOut
+pub mod Tried
