@@ -3,5 +3,7 @@ pub mod Few
 pub mod Maps
 pub mod Queues
 pub mod Watched
+pub mod Welcomes
+pub mod Denials
 pub mod Found
 pub mod Trails

@@ -316,15 +316,16 @@ impl Client {
             return self.unfit(z);
         }
         let path = asked.copy(self.alloc)?;
-        let is_last = !self.mail.listens_later(&path);
+        let is_later = self.mail.listens_later(&path);
         self.note(Notice::Denied {
             request,
             why: Limit::Listens,
         })?;
         self.settle(z);
-        if is_last {
-            self.watches.remove(&path);
+        if is_later {
+            return Ok(());
         }
+        self.watches.remove(&path);
         Ok(())
     }
 
