@@ -1,5 +1,5 @@
 -- The watch of a path, in lists that change.
-use Rattle.std.proofs.Common.{refl, sym, ◌∙◌, ap, subst, ◌≡◌, ℕ, List, [], ◌∷◌, map, fold, Bool, true, false, not, cond, ◌&&◌, true≢false, Option, Some, None, Ordering, Less, Equal, Greater, is_eq}
+use Rattle.std.proofs.Common.{refl, sym, ◌∙◌, ap, ◌≡◌, ℕ, List, [], ◌∷◌, map, fold, Bool, true, false, not, cond, ◌&&◌, true≢false, Option, Some, None, Ordering, Less, Equal, Greater, is_eq}
 use Rattle.std.specs.Bool.{Decides}
 use Rattle.std.specs.Option.{option_map}
 use Rattle.std.specs.Ordering.{eq_by_cmp, is_lt}

@@ -5,5 +5,9 @@ pub mod Queues
 pub mod Watched
 pub mod Welcomes
 pub mod Denials
+pub mod Phases
 pub mod Found
 pub mod Trails
+pub mod Sent
+pub mod SentSteps
+pub mod SentOut

@@ -1,8 +1,8 @@
 -- The views of a client after any steps.
 use Rattle.std.proofs.Common.{refl, sym, ◌∙◌, ap, subst, ◌≡◌, ℕ, ◌+◌, List, [], ◌∷◌, ◌++◌, drop, fold, Bool, true, false, not, cond, ◌&&◌, ◌||◌, if◌then◌else◌, true≢false, Option, Some, None}
 use Rattle.std.specs.Option.{is_some, is_none, option_map}
-use Rattle.std.specs.List.{list_any, filter, filter_map, last_or, cons_option, All}
-use Rattle.std.proofs.lemmas.Bool.{and_parts, and_from}
+use Rattle.std.specs.List.{list_any, filter, filter_map, last_or, cons_option}
+use Rattle.std.proofs.lemmas.Bool.{and_parts}
 use Rattle.std.proofs.lemmas.List.Elements.{filter_map-append, All-head, All-tail}
 use Rattle.std.proofs.lemmas.List.Folds.{list_any-append}
 use Rattle.pres_tree.specs.declared.scalar.Scalar.{Scalar}
@@ -22,7 +22,7 @@ use Rattle.pres_wire.specs.declared.down.Limit.TheVariants as limit
 use Rattle.pres_wire.specs.declared.down.Down.{Down}
 use Rattle.pres_wire.specs.declared.down.Down.TheVariants as down
 use Rattle.pres_wire.specs.declared.values.PathValue.{PathValue}
-use Rattle.pres_wire.specs.Ids.{ClientId, same_session}
+use Rattle.pres_wire.specs.Ids.{same_session}
 use Rattle.pres_wire.specs.Messages.{number_in}
 use Rattle.pres_wire.specs.Values.{Rising}
 use Rattle.pres_wire.specs.Views.{value_in, told, seen, seen_in}
@@ -31,8 +31,6 @@ use Rattle.pres_client.specs.declared.call.Answer.{Answer}
 use Rattle.pres_client.specs.declared.call.Answer.TheVariants as answer
 use Rattle.pres_client.specs.declared.call.Call.{Call}
 use Rattle.pres_client.specs.declared.call.Call.TheVariants as call
-use Rattle.pres_client.specs.declared.client.Phase.{Phase}
-use Rattle.pres_client.specs.declared.client.Phase.TheVariants as phase
 use Rattle.pres_client.specs.declared.notice.Notice.{Notice}
 use Rattle.pres_client.specs.declared.notice.Notice.TheVariants as notice
 use Rattle.pres_client.specs.declared.queued.Queued.{Queued}
@@ -41,11 +39,12 @@ use Rattle.pres_client.specs.declared.watch.Watch.{Watch}
 use Rattle.pres_client.specs.declared.watch.Shown.{Shown}
 use Rattle.pres_client.specs.declared.watch.Shown.TheVariants as shown
 use Rattle.pres_client.specs.Clients.{State, start, is_online, is_opening, is_on, is_write, session_of, watch_of, without_watch, with_watch, fresh, kept, is_shown_live, is_live, shown_at, watched_at}
-use Rattle.pres_client.specs.Calls.{refusal, after_call, end_session, with_request, enqueue, note, try_of, make_write, after_answer, after_listen, after_unlisten}
+use Rattle.pres_client.specs.Calls.{refusal, after_call, end_session, with_request, enqueue, note, try_of, after_answer, after_listen, after_unlisten}
 use Rattle.pres_client.specs.Receiving as receiving
 use Rattle.pres_client.specs.Receiving.{is_next, fits, fits_write, bring, unfit, is_last, first_listen, first_action, first_is_off, after_receive, after_welcome, after_fault, own_fault, ends_session, is_fit, judge_reply, write_outcome, try_outcome, ask_again, answered, write_answered, action_answered, judge_action, judge_denied, listen_denied, listen_answered, judge_off_done, after_push, armed, denied, tell_live}
 use Rattle.pres_client.specs.Steps.{Step, calls, receives, hands_out_sends, hands_out_notices, after, run, IsMessage, IsStep, AreMessages}
-use Rattle.pres_client.specs.Trails.{Trail, nothing, more, takes, listens_to, with_snap, with_taken, with_message, trail_step, kept_for, trail, ViewsHold}
+use Rattle.pres_client.specs.Trails.{Trail, nothing, more, listens_to, with_snap, with_message, trail_step, kept_for, trail, ViewsHold}
+use Rattle.pres_client.proofs.Phases.{not_open, opening_off}
 use Rattle.pres_client.proofs.Found.{path_same, path_itself, path_flip, watch_of-with, watch_of-without, left, watch_of-frozen, now, told_there, told_elsewhere, push_passed, push_elsewhere, push_there}
 
 -- ---- what is seen, one message more
@@ -201,13 +200,6 @@ offline p c t h e = by t.counts refl where
   by true k = absurd (true≢false (sym (h.online k) ∙ e))
   by false k = k
 
-opening_off : (c : State) → is_opening c.phase ≡ true → is_online c.phase ≡ false
-opening_off c e = by c.phase e where
-  by : (f : Phase) → is_opening f ≡ true → is_online f ≡ false
-  by phase.Online k = absurd (true≢false (sym k))
-  by phase.Opening k = refl
-  by phase.Off k = refl
-
 -- ---- calls
 
 -- one message more, which doesn't listen to p
@@ -233,13 +225,16 @@ next_listening : (p : Path) (c : State) (t : Trail) (x : Path) (b : Bool) → wa
 next_listening p c t x b none h = by (same_path p x) refl b where
   k : ℕ
   k = c.requests + 1
+
   fresh_here : (asked : Bool) → p ≡ x → Agrees p c.seen (Some (fresh k)) (is_online c.phase) asked t
   fresh_here asked is =
       let o : watch_of p c.watches ≡ None = ap (λ y. watch_of y c.watches) is ∙ none in
       let dead : t.counts ≡ false = h.live ∙ ap is_live o in
       record { shows = sym (ap (watched_at c.seen) o) ∙ h.shows; live = dead; online = λ e. absurd (true≢false (sym e ∙ dead)); unasked = λ e. absurd (true≢false (sym e ∙ dead)) }
+
   watched : (s : Bool) → same_path p x ≡ s → watch_of p (with_watch x (fresh k) c.watches) ≡ cond s (Some (fresh k)) (watch_of p c.watches)
   watched s e = watch_of-with p x (fresh k) c.watches ∙ ap (λ s. cond s (Some (fresh k)) (watch_of p c.watches)) e
+
   by : (s : Bool) → same_path p x ≡ s → (b : Bool) → Next p t (listening b c x)
   by true e true =
       let asked : Bool = list_any (is_on p) (c.queue ++ queued.On k x ∷ []) in
@@ -261,6 +256,7 @@ next_unlistening : (p : Path) (c : State) (t : Trail) (x : Path) (b : Bool) → 
 next_unlistening p c t x b h = by (same_path x p) refl b where
   watched : (s : Bool) → same_path x p ≡ s → watch_of p (without_watch x c.watches) ≡ cond (not s) (watch_of p c.watches) None
   watched s e = watch_of-without p x c.watches ∙ ap (λ s. cond (not s) (watch_of p c.watches) None) e
+
   by : (s : Bool) → same_path x p ≡ s → (b : Bool) → Next p t (unlistening b c x)
   by true e true = lost p (unlistening true c x) t (watched true e)
   by true e false = lost p (unlistening false c x) t (watched true e)
@@ -270,12 +266,6 @@ next_unlistening p c t x b h = by (same_path x p) refl b where
 next_unlisten : (p : Path) (c : State) (t : Trail) (x : Path) (o : Option Watch) → Holds p c t → Next p t (after_unlisten c x o)
 next_unlisten p c t x None h = stays p c t h
 next_unlisten p c t x (Some w) h = next_unlistening p c t x (is_online c.phase) h
-
-not_open : (c : State) → is_some (session_of c) ≡ false → is_online c.phase ≡ false
-not_open c e = by (is_online c.phase) e where
-  by : (b : Bool) → is_some (if b then Some c.session else (if is_opening c.phase then Some c.session else None)) ≡ false → b ≡ false
-  by true k = absurd (true≢false k)
-  by false k = refl
 
 next_call : (p : Path) (c : State) (t : Trail) (k : Call) → Holds p c t → Next p t (after_call c k)
 next_call p c t (call.Set x draft) h = sends_one p c (after_call c (call.Set x draft)) t (queued.Write (c.requests + 1) (op.Set (x, draft))) refl refl refl refl refl h
@@ -344,6 +334,7 @@ next_dropped : (p : Path) (d : State) (u : Trail) (rest : List Queued) (f : ℕ 
 next_dropped p d u rest f b a h = by b (same_path f.1 p) refl where
   watched : (s : Bool) → same_path f.1 p ≡ s → watch_of p (without_watch f.1 d.watches) ≡ cond (not s) (watch_of p d.watches) None
   watched s e = watch_of-without p f.1 d.watches ∙ ap (λ s. cond (not s) (watch_of p d.watches) None) e
+
   by : (b s : Bool) → same_path f.1 p ≡ s → Next p u (dropped b d rest f)
   by false s e = next p d u refl refl refl a h
   by true true e = lost p (dropped true d rest f) u (watched true e)
@@ -394,18 +385,25 @@ holds-push : (p : Path) (c : State) (t : Trail) (s : SessionId) (r z : ℕ) (vs 
 holds-push p c t s r z vs rises h = by (watch_of p c.watches) refl (value_in p vs) refl where
   m : Down
   m = down.Push s r z vs
+
   asked : Bool
   asked = list_any (is_on p) c.queue
+
   on : Bool
   on = is_online c.phase
+
   watched : Option Watch
   watched = watch_of p (fold tell_live c.watches vs)
+
   unchanged : watched ≡ watch_of p c.watches → (t.counts ≡ true → value_in p vs ≡ None) → Agrees p z watched on asked (more t m)
   unchanged e k = same_watch p z on asked (more t m) e (passes p c.seen (watch_of p c.watches) on asked t m k h)
+
   dead : is_live (watch_of p c.watches) ≡ false → Agrees p z watched on asked (more t m)
   dead d = unchanged (push_passed p c.watches vs d) (λ e. absurd (true≢false (sym e ∙ h.live ∙ d)))
+
   told_one : (w : Watch) (y : Rows Scalar) → watch_of p c.watches ≡ Some w → value_in p vs ≡ Some y → is_shown_live w.shown ≡ true → Agrees p z watched on asked (more t m)
   told_one w y o k l = same_watch p z on asked (more t m) (push_there p c.watches vs w y rises k o l) (tells p c.seen w on asked t m y k l (same_watch p c.seen on asked t (sym o) h))
+
   by : (o : Option Watch) → watch_of p c.watches ≡ o → (v : Option (Rows Scalar)) → value_in p vs ≡ v → Agrees p z watched on asked (more t m)
   by None o v k = dead (ap is_live o)
   by (Some w) o None k = unchanged (push_elsewhere p c.watches vs k) (λ _. k)
@@ -440,17 +438,23 @@ next_answered : (p : Path) (c : State) (t : Trail) (s : SessionId) (r z q : ℕ)
 next_answered p c t s r z q x v on apart h = by (same_path x p) refl (is_last x rest) refl where
   rest : List Queued
   rest = drop 1 c.queue
+
   m : Down
   m = down.Snap s r z q x v
+
   d : State
   d = answered (bring c z) rest
+
   first : Trail
   first = record { messages = m ∷ []; counts = true }
+
   asked : Bool
   asked = list_any (is_on p) rest
+
   -- what is told of another path, or of p while its messages don't count
   silent : (t.counts ≡ true → told p m ≡ None) → Holds p d (more t m)
   silent e = rest_holds p (bring c z) (more t m) rest (silent_rest p c.queue) (takes_silent p c t m e h)
+
   first_there : p ≡ x → is_last x rest ≡ true → (o : Option Watch) → watch_of x c.watches ≡ o → Next p first (receiving.told d x z v o)
   first_there is l None e = lost p d first (ap (λ a. watch_of a c.watches) is ∙ e)
   first_there is l (Some w) e =
@@ -458,10 +462,12 @@ next_answered p c t s r z q x v on apart h = by (same_path x p) refl (is_last x 
       let there : watch_of p d'.watches ≡ Some (now v w) = ap (λ a. watch_of a d'.watches) is ∙ told_there x v c.watches w e in
       let heard : told p m ≡ Some v = ap (λ b. cond b (Some v) None) (ap (same_path p) (sym is) ∙ path_itself p) in
       stays p d' first (same_watch p z (is_online c.phase) asked first there (subst (λ b. Agrees p z (Some (now v w)) b asked first) (sym on) (starts p w asked m v heard (last_unasked p x rest is l))))
+
   elsewhere : same_path x p ≡ false → (o : Option Watch) → Next p (more t m) (receiving.told d x z v o)
   elsewhere n None = stays p d (more t m) (silent (λ _. ap (λ b. cond b (Some v) None) (path_flip x p n)))
   elsewhere n (Some w) =
       next p d (more t m) refl (told_elsewhere p x v c.watches (path_flip x p n)) refl (λ a. a) (silent (λ _. ap (λ b. cond b (Some v) None) (path_flip x p n)))
+
   by : (a : Bool) → same_path x p ≡ a → (l : Bool) → is_last x rest ≡ l → Next p (if a && l then first else more t m) (if l then receiving.told d x z v (watch_of x c.watches) else d)
   by true e true k = first_there (sym (path_same x p e)) k (watch_of x c.watches) refl
   by true e false k = stays p d (more t m) (silent (λ g. absurd (true≢false (sym e ∙ apart g))))
@@ -476,8 +482,10 @@ next_snap : (p : Path) (c : State) (t : Trail) (s : SessionId) (r z q : ℕ) (x 
 next_snap p c t s r z q x v on h = by (first_listen c.queue) (λ l g. asked_apart p x c.queue l (h.unasked g)) where
   rest : List Queued
   rest = drop 1 c.queue
+
   over : Next p (more t (down.OffDone s r z q)) (unfit (bring c z))
   over = ended p (bring c z) (more t (down.OffDone s r z q)) (Some code.Bad) (takes_silent p c t (down.OffDone s r z q) (λ _. refl) h)
+
   by : (o : Option (ℕ × Path)) → (listens_to x o ≡ true → t.counts ≡ true → same_path x p ≡ false)
       → Next p (if fits c q && listens_to x o then snap_trail p t rest (down.Snap s r z q x v) x else more t (down.OffDone s r z q)) (listen_answered (bring c z) rest z q x v o)
   by None apart = none (fits c q) where

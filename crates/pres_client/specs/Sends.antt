@@ -1,18 +1,15 @@
 -- What a client sends: in each session one list of messages, the k-th with q = k, and the k-th write of an incarnation
 -- with n = k counted on from the writes that the server had before.
-use Rattle.std.specs.Prelude.{◌≡◌, ◌+◌, ℕ, Bool, true, false, List, [], ◌∷◌, ◌++◌, All, map, length, drop, Option, Some, None, ◌⊎◌, if◌then◌else◌}
+use Rattle.std.specs.Prelude.{◌≡◌, ◌+◌, ℕ, true, List, [], ◌∷◌, ◌++◌, All, map, length, drop, Option, Some, None, ◌⊎◌, if◌then◌else◌}
 use Rattle.std.specs.List.{Contains}
 use Rattle.std.specs.Option.{is_none}
 use Rattle.pres_tree.specs.Paths.{Path}
 use Rattle.pres_write.specs.declared.op.Op.{Op}
 use Rattle.pres_write.specs.declared.op.Op.TheVariants as op
-use Rattle.pres_write.specs.declared.unconditional.Unconditional.{Unconditional}
 use Rattle.pres_write.specs.declared.unconditional.Unconditional.TheVariants as unconditional
 use Rattle.pres_write.specs.Transactions.{comparison}
 use Rattle.pres_write.specs.Updates.{update_of}
 use Rattle.pres_wire.specs.declared.id.SessionId.{SessionId}
-use Rattle.pres_wire.specs.declared.down.Down.{Down}
-use Rattle.pres_wire.specs.declared.down.Down.TheVariants as down
 use Rattle.pres_wire.specs.declared.up.Up.{Up}
 use Rattle.pres_wire.specs.declared.up.Up.TheVariants as up
 use Rattle.pres_wire.specs.Ids.{ClientId}
@@ -30,6 +27,7 @@ pub record Made : Type 0 where
   pub writes : List Op
   pub messages : List Up
 
+-- nothing was made
 abbrev pub none_made : Made
 none_made = record { writes = []; messages = [] }
 
@@ -47,6 +45,7 @@ abbrev pub op_messages : SessionId → ℕ → List Op → List Unnumbered
 op_messages s n [] = []
 op_messages s n (o ∷ os) = (λ q. up.Op s q n o) ∷ op_messages s (n + 1) os
 
+-- a listen for each of the paths
 abbrev pub on_messages : SessionId → List Path → List Unnumbered
 on_messages s ps = map (λ p. let m : Unnumbered = λ q. up.On s q p in m) ps
 
@@ -63,6 +62,7 @@ made_one c t m = if is_online c.phase then record t { messages = t.messages ++ m
 abbrev pub wrote_one : State → Made → Op → Made
 wrote_one c t o = let u = made_one c t (λ q. up.Op c.session q (base_of c + length t.writes + 1) o) in record u { writes = t.writes ++ o ∷ [] }
 
+-- the try of a transaction that its caller answered with a new value
 abbrev pub answered_one : State → Made → Answer → Option Ask → Made
 answered_one c t given None = t
 answered_one c t answer.Abort (Some a) = t
@@ -87,6 +87,7 @@ made_by c t call.Lost = t
 made_by c t call.Beat = t
 made_by c t call.Resend = t
 
+-- a call that is refused makes nothing
 abbrev pub made_step : State → Made → Step → Made
 made_step c t (calls k) = if is_none (refusal c k) then made_by c t k else t
 made_step c t (receives m) = t
@@ -97,6 +98,7 @@ made_step c t hands_out_notices = t
 abbrev pub kept_while : State → State → Made → Made
 kept_while c d t = if is_online d.phase then (if is_online c.phase then t else opening d t) else t
 
+-- what was made after the steps, from t on
 abbrev pub made : State → Made → List Step → Made
 made c t [] = t
 made c t (s ∷ steps) = made (after c s) (kept_while c (after c s) (made_step c t s)) steps

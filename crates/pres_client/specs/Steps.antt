@@ -9,6 +9,7 @@ use Rattle.pres_client.specs.Clients.{State}
 use Rattle.pres_client.specs.Calls.{refusal, after_call}
 use Rattle.pres_client.specs.Receiving.{after_receive}
 
+-- one thing that happens to it
 pub data Step : Type 0 where
   calls : Call → Step
   receives : Down → Step
@@ -23,6 +24,7 @@ after c (receives m) = after_receive c m
 after c hands_out_sends = record c { sends = [] }
 after c hands_out_notices = record c { notices = [] }
 
+-- the client after the steps
 abbrev pub run : State → List Step → State
 run c [] = c
 run c (s ∷ steps) = run (after c s) steps
@@ -32,10 +34,11 @@ abbrev pub IsMessage : Down → Type 0
 IsMessage (down.Push s r z values) = Rising values
 IsMessage _ = ⊤
 
+-- a step that may happen: what is received is a message
 abbrev pub IsStep : Step → Type 0
 IsStep (receives m) = IsMessage m
 IsStep _ = ⊤
 
--- what the steps receive are messages
+-- every step may happen
 abbrev pub AreMessages : List Step → Type 0
 AreMessages steps = All IsStep steps

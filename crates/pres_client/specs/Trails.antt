@@ -10,7 +10,6 @@ use Rattle.pres_wire.specs.declared.down.Down.TheVariants as down
 use Rattle.pres_wire.specs.declared.id.SessionId.{SessionId}
 use Rattle.pres_wire.specs.Ids.{ClientId}
 use Rattle.pres_wire.specs.Views.{seen_in}
-use Rattle.pres_client.specs.declared.queued.Queued.{Queued}
 use Rattle.pres_client.specs.Clients.{State, start, is_online, watch_of, view}
 use Rattle.pres_client.specs.Receiving.{is_next, fits, first_listen, is_last}
 use Rattle.pres_client.specs.Steps.{Step, AreMessages, calls, receives, hands_out_sends, hands_out_notices, after, run}
@@ -20,9 +19,11 @@ pub record Trail : Type 0 where
   pub messages : List Down
   pub counts : Bool
 
+-- no message
 abbrev pub nothing : Trail
 nothing = record { messages = []; counts = false }
 
+-- one message more, where they count
 abbrev pub more : Trail → Down → Trail
 more t m = if t.counts then record t { messages = t.messages ++ m ∷ [] } else t
 
@@ -55,20 +56,16 @@ with_snap p c t s r z q x v =
     then (if same_path x p && is_last x (drop 1 c.queue) then record { messages = down.Snap s r z q x v ∷ []; counts = true } else more t (down.Snap s r z q x v))
     else more t (down.OffDone s r z q)
 
+-- a message that is taken
 abbrev pub with_taken : Path → State → Trail → Down → Trail
-with_taken p c t (down.Welcome s z ops) = t
-with_taken p c t (down.Reply s r z q n done out) = more t (down.Reply s r z q n done out)
-with_taken p c t (down.Gone s r z why) = more t (down.Gone s r z why)
-with_taken p c t (down.Fault session code) = t
-with_taken p c t (down.Armed s r z q) = more t (down.Armed s r z q)
-with_taken p c t (down.Denied s r z q why) = more t (down.Denied s r z q why)
 with_taken p c t (down.Snap s r z q x v) = with_snap p c t s r z q x v
-with_taken p c t (down.Push s r z values) = more t (down.Push s r z values)
-with_taken p c t (down.OffDone s r z q) = more t (down.OffDone s r z q)
+with_taken p c t m = more t m
 
+-- a message that came
 abbrev pub with_message : Path → State → Trail → Down → Trail
 with_message p c t m = if takes c m then with_taken p c t m else t
 
+-- messages alone tell something
 abbrev pub trail_step : Path → State → Trail → Step → Trail
 trail_step p c t (receives m) = with_message p c t m
 trail_step p c t (calls k) = t
@@ -79,6 +76,7 @@ trail_step p c t hands_out_notices = t
 abbrev pub kept_for : Path → State → Trail → Trail
 kept_for p d t = if is_some (watch_of p d.watches) then (if is_online d.phase then t else record t { counts = false }) else nothing
 
+-- the trail of the path after the steps, from t on
 abbrev pub trail : Path → State → Trail → List Step → Trail
 trail p c t [] = t
 trail p c t (s ∷ steps) = trail p (after c s) (kept_for p (after c s) (trail_step p c t s)) steps

@@ -52,7 +52,11 @@ pub(crate) fn updated(
         (λ u. (u ≡ update_of path places.items) × (update_fault path places.items ≡ None))
         (λ e. e ≡ unwrap_or (option_map Write (update_fault path places.items)) Memory) }
 {
-    Err(ClientFault::Memory)
+    match Update::new(alloc, path, places) {
+        Ok(update) => Ok(update),
+        Err(WriteFault::Tree(TreeFault::Memory)) => Err(ClientFault::Memory),
+        Err(fault) => Err(ClientFault::Write(fault)),
+    }
 }
 
 impl Client {

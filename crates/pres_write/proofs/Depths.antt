@@ -1,5 +1,5 @@
 -- How deep the rows of a value go.
-use Rattle.std.proofs.Common.{◌≡◌, ℕ, ◌+◌, ◌-◌, ◌<◌, ◌≤◌, [], ◌∷◌, length, length-append, Bool, true, false, true≢false, cond, ◌&&◌, Some, is_some, IsTrue, refl, sym, ap, arith}
+use Rattle.std.proofs.Common.{◌≡◌, ℕ, ◌+◌, ◌-◌, ◌<◌, ◌≤◌, [], ◌∷◌, ◌++◌, length, length-append, Bool, true, false, true≢false, cond, ◌&&◌, Some, is_some, IsTrue, refl, sym, ap, arith}
 use Rattle.std.proofs.lemmas.List.Folds.{list_all-append}
 use Rattle.std.specs.Ordering.{is_eq, eq_by_cmp}
 use Rattle.std.specs.declared.cmp.Ordering.TheVariants.{Less, Equal, Greater}
@@ -57,3 +57,8 @@ both false b h k = h
 
 pub depth_fits : {A : Type 0} (p : Path) (v : Rows A) → IsPath p → IsValue v → length p + depth_of v ≤ 32 → Fits p v
 depth_fits p v path value low x h = (omega (arith, length-append p x, holds_depth v x h), rw (list_all-append is_key p x) (both _ _ path.1 (value.paths x h).1))
+
+pub fits_joined : {A : Type 0} (p q : Path) (v : Rows A) → IsPath p → IsPath q → IsValue v → length p + length q + depth_of v ≤ 32 → IsPath (p ++ q) × Fits (p ++ q) v
+fits_joined p q v first second value low =
+    let whole : IsPath (p ++ q) = (omega (arith, length-append p q), rw (list_all-append is_key p q) (both _ _ first.1 second.1)) in
+    (whole, depth_fits (p ++ q) v whole value (omega (arith, length-append p q)))

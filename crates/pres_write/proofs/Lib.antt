@@ -7,6 +7,7 @@ pub mod Members
 pub mod Named
 pub mod Ordered
 pub mod Overlaps
+pub mod Placed
 pub mod Printed
 pub mod Putting
 pub mod Slots

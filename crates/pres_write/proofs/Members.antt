@@ -48,7 +48,7 @@ keys-append : (es : Places) (e : Path × Rows Slot) → keys_of (es ++ e ∷ [])
 keys-append [] e = refl
 keys-append (f ∷ es) e = ap (λ ks. f.0 ∷ ks) (keys-append es e)
 
-fit-put : (p : Path) (k : Path) (v : Rows Slot) (es : Places) → FitsBelow p (k, v) → All (FitsBelow p) es → All (FitsBelow p) (insert_entry path_cmp es k v)
+pub fit-put : (p : Path) (k : Path) (v : Rows Slot) (es : Places) → FitsBelow p (k, v) → All (FitsBelow p) es → All (FitsBelow p) (insert_entry path_cmp es k v)
 fit-put p k v [] here h = All-cons (FitsBelow p) (k, v) [] here h
 fit-put p k v (e ∷ es) here h = elim (path_cmp k e.0) as (λ r. path_cmp k e.0 ≡ r → All (FitsBelow p) (match_ordering r ((k, v) ∷ e ∷ es) ((e.0, v) ∷ es) (e ∷ insert_entry path_cmp es k v))) [
   | Less ↦ λ t. All-cons (FitsBelow p) (k, v) (e ∷ es) here h
@@ -57,7 +57,7 @@ fit-put p k v (e ∷ es) here h = elim (path_cmp k e.0) as (λ r. path_cmp k e.0
 ] refl
 
 -- a place that stands in the list meets one there
-found-meets : (q : Path) (es : Places) → is_some (find path_cmp q es) ≡ true → list_any (meet q) (keys_of es) ≡ true
+pub found-meets : (q : Path) (es : Places) → is_some (find path_cmp q es) ≡ true → list_any (meet q) (keys_of es) ≡ true
 found-meets q [] h = absurd (false≢true h)
 found-meets q (e ∷ es) h = elim (eq_by_cmp path_cmp q e.0) as (λ b. eq_by_cmp path_cmp q e.0 ≡ b → is_some (cond b (Some e.1) (find path_cmp q es)) ≡ true → (meet q e.0 || list_any (meet q) (keys_of es)) ≡ true) [
   | true ↦ λ t g. ap (λ b. b || list_any (meet q) (keys_of es)) (ap (meet q) (sym (tied path_cmp path_same q e.0 t)) ∙ meet-itself q)

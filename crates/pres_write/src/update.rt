@@ -1,17 +1,18 @@
 //! Updates: drafts at several places, written all or none.
 
-ghost use Rattle.std.specs.Prelude.{◌≡◌, ◌⊎◌, ◌≤◌, ◌++◌, IfOk, MatchResult, Ok, Err, Some, None, length};
+ghost use Rattle.std.specs.Prelude.{◌≡◌, ◌⊎◌, ◌≤◌, ◌++◌, All, IfOk, MatchResult, Ok, Err, Some, None, false, length, unwrap_or};
 ghost use Rattle.std.specs.BTreeMap.{IsOrdered};
+ghost use Rattle.std.specs.List.{list_any};
 ghost use Rattle.std.specs.Map.{keys_of};
 ghost use Rattle.serde_json.specs.View.{view, members_view};
-ghost use Rattle.pres_tree.specs.Paths.{IsPath, segments, path_cmp, overlap};
+ghost use Rattle.pres_tree.specs.Paths.{IsPath, segments, path_cmp, sorted_by, meet, overlap};
 ghost use Rattle.pres_tree.specs.Reading.{rows_of};
 ghost use Rattle.pres_tree.specs.declared.fault.TreeFault.TheVariants.{Memory};
 ghost use Rattle.pres_write.specs.Basics.{Apart};
 ghost use Rattle.pres_write.specs.Drafts.{slot_reading};
 ghost use Rattle.pres_write.specs.OpForms.{below_read, place_fault, values_json};
 ghost use Rattle.pres_write.specs.Unconditionals.{puts_below};
-ghost use Rattle.pres_write.specs.Updates.{FitsBelow, most_places, update_writes};
+ghost use Rattle.pres_write.specs.Updates.{FitsBelow, most_places, is_deep_below, update_fault, update_of, update_writes};
 ghost use Rattle.pres_write.specs.declared.fault.WriteFault.TheVariants.{Tree as TreeRefused};
 
 use crate::basic::{Basic, settled_write};
@@ -21,7 +22,7 @@ use crate::items::Items;
 use crate::moment::Moment;
 use crate::placement::Placement;
 use crate::puts::Puts;
-use pres_tree::{Path, TreeFault};
+use pres_tree::{MAX_DEPTH, Path, TreeFault};
 use serde_json::{Map, Value};
 use std::alloc::{AllocError, Global};
 use std::collections::BTreeMap;
@@ -46,6 +47,62 @@ impl Model for Update {
     ghost view = { λ u. record { path = u.path; places = u.places.entries } };
 
     ghost invariant = { λ u. IsUpdate (record { path = u.path; places = u.places.entries }) };
+}
+
+// Whether a place is no path below the path, or its draft is nested too deep there.
+fn has_deep(path: &Path, places: &[(Path, Draft)]) -> bool
+    ensures deep { result ≡ list_any (is_deep_below path.now) places.now }
+    ensures fit { result ≡ false → All (FitsBelow path.now) places.now }
+{
+    let Some(((place, draft), rest)) = places.split_first() else {
+        return false;
+    };
+    if path.len() + place.len() + draft.depth() > MAX_DEPTH {
+        return true;
+    }
+    has_deep(path, rest)
+}
+
+// Whether the place is at or above one of these, or one of these is above it.
+fn meets_any(place: &Path, others: &[(Path, Draft)]) -> bool
+    ensures { result ≡ list_any (meet place.now) (keys_of others.now) }
+{
+    let Some(((other, _), rest)) = others.split_first() else {
+        return false;
+    };
+    if place.is_prefix_of(other) || other.is_prefix_of(place) {
+        return true;
+    }
+    meets_any(place, rest)
+}
+
+// Whether one of the places is at or above another. It takes no memory, so that want of memory
+// comes after it.
+fn meet_anywhere(places: &[(Path, Draft)]) -> bool
+    ensures { result ≡ overlap (keys_of places.now) }
+{
+    let Some(((place, _), rest)) = places.split_first() else {
+        return false;
+    };
+    if meets_any(place, rest) {
+        return true;
+    }
+    meet_anywhere(rest)
+}
+
+// The drafts in the order of their places, of which none is at another.
+fn in_order(
+    alloc: Global,
+    mut places: Vec<(Path, Draft)>,
+) -> Result<BTreeMap<Path, Draft>, AllocError>
+    ensures { IfOk result (λ drafts. (drafts.entries ≡ sorted_by path_cmp places.items)
+        × IsOrdered path_cmp drafts) }
+{
+    let mut drafts = BTreeMap::new(alloc);
+    while let Some((place, draft)) = places.pop() {
+        drop(drafts.insert(place, draft)?);
+    }
+    Ok(drafts)
 }
 
 impl Update {
@@ -77,6 +134,26 @@ impl Update {
         if is_twice || overlaps(&places) {
             return Err(WriteFault::Overlap);
         }
+        Ok(Update { path, places })
+    }
+
+    /// The update of the drafts at places below the path. Refused, in this order: ManyPaths,
+    /// TooDeep, Overlap, Memory.
+    pub fn new(alloc: Global, path: Path, places: Vec<(Path, Draft)>) -> Result<Update, WriteFault>
+        ensures { MatchResult result
+            (λ u. (u ≡ update_of path places.items) × (update_fault path places.items ≡ None))
+            (λ e. e ≡ unwrap_or (update_fault path places.items) (TreeRefused Memory)) }
+    {
+        if places.len() > MOST {
+            return Err(WriteFault::ManyPaths);
+        }
+        if has_deep(&path, places.as_slice()) {
+            return Err(WriteFault::Tree(TreeFault::TooDeep));
+        }
+        if meet_anywhere(places.as_slice()) {
+            return Err(WriteFault::Overlap);
+        }
+        let places = in_order(alloc, places)?;
         Ok(Update { path, places })
     }
 
