@@ -57,7 +57,7 @@ few-welcome c ops h =
     let d = opened c ops in
     let most : length c.watches + length c.queue ≤ most_sends c = at c.phase h in
     let long : length (c.sends ++ outstanding d) ≤ length c.sends + most_sends c =
-        omega (arith, length-append c.sends (outstanding d), length-messages c.session 1 (base_of d + c.answered + 1) d.queue, length-opened c.watches c.queue, most) in
+    omega (arith, length-append c.sends (outstanding d), length-messages c.session 1 (base_of d + c.answered + 1) d.queue, length-opened c.watches c.queue, most) in
     few-if (is_fit c ops) (let e = note d (notice.Connected true) in record e { sends = c.sends ++ outstanding d }) (let e = note c (notice.Faulted code.Bad) in record e { phase = phase.Off })
     (length c.sends + most_sends c) long (omega arith) where
       at : (p : Phase) → is_opening p ≡ true → length c.watches + length c.queue ≤ (if is_online p then max 1 (length c.queue) else (if is_opening p then max 1 (length c.watches + length c.queue) else 1))
