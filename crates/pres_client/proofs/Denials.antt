@@ -1,5 +1,5 @@
 -- A denied listen, by whether a later message listens to its path.
-use Rattle.std.proofs.Common.{ℕ, ◌≡◌, Bool, true, false, drop, Some, refl}
+use Rattle.std.proofs.Common.{ℕ, ◌≡◌, true, false, drop, Some, refl}
 use Rattle.std.specs.List.{list_any}
 use Rattle.pres_tree.specs.Paths.{Path}
 use Rattle.pres_wire.specs.declared.down.Limit.TheVariants as limit

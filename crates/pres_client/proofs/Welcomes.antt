@@ -1,5 +1,5 @@
 -- What a Welcome puts in front of the writes, and that its numbers can be told.
-use Rattle.std.proofs.Common.{ℕ, ◌+◌, ◌≤◌, ◌≡◌, Bool, true, false, ◌&&◌, List, [], ◌∷◌, ◌++◌, length, max, map, Option, Some, refl, ap, ◌∙◌, arith, suc, nat_le, unwrap_or, length-append, Result, Ok, Err, if◌then◌else◌}
+use Rattle.std.proofs.Common.{ℕ, ◌+◌, ◌≤◌, ◌≡◌, Bool, true, false, ◌&&◌, List, [], ◌∷◌, ◌++◌, length, max, map, Some, refl, arith, nat_le, unwrap_or, length-append, Result, Ok, Err, if◌then◌else◌}
 use Rattle.std.specs.Result.{OnOk, OnErr}
 use Rattle.std.proofs.lemmas.Bool.Decides.{nat_tests}
 use Rattle.pres_wire.specs.Numbers.{greatest_number}

@@ -1,5 +1,4 @@
-use Rattle.std.proofs.Common.{◌≡◌, ◌≤◌, ◌+◌, true, ◌++◌, map, sym, ap, ◌∙◌, arith, rules, unwrap_or}
-use Rattle.pres_wire.specs.Numbers.{greatest_number}
+use Rattle.std.proofs.Common.{◌≡◌, true, ◌++◌, map, sym, ap, ◌∙◌, arith, rules, unwrap_or}
 use Rattle.pres_client.specs.Clients.{InRange, count_writes}
 use Rattle.pres_client.specs.Receiving.{is_fit, on_of}
 use Rattle.pres_client.proofs.Welcomes.{count-ons, numbers-opened, in_range-opened}
