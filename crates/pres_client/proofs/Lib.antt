@@ -3,6 +3,8 @@ pub mod Few
 pub mod Maps
 pub mod Queues
 pub mod Watched
+pub mod Welcomes
+pub mod Denials
 pub mod Phases
 pub mod Found
 pub mod Trails

@@ -46,14 +46,22 @@ fn news(
     Ok(notices)
 }
 
+// The path shows the value, where this session told one before.
+fn tell_live(watches: &mut Watches, told: PathValue)
+    ensures { watches.new ≡ tell_live watches.old told }
+{
+    let PathValue { path, value } = told;
+    if watches.is_live(&path) {
+        watches.tell(&path, value);
+    }
+}
+
 // The watches show the values of the paths that this session told before.
 fn tell_all(watches: &mut Watches, values: Vec<PathValue>)
     ensures { watches.new ≡ fold tell_live watches.old values.items }
 {
-    for PathValue { path, value } in values {
-        if watches.is_live(&path) {
-            watches.tell(&path, value);
-        }
+    for told in values {
+        tell_live(watches, told);
     }
 }
 
@@ -308,15 +316,16 @@ impl Client {
             return self.unfit(z);
         }
         let path = asked.copy(self.alloc)?;
-        let is_last = !self.mail.listens_later(&path);
+        let is_later = self.mail.listens_later(&path);
         self.note(Notice::Denied {
             request,
             why: Limit::Listens,
         })?;
         self.settle(z);
-        if is_last {
-            self.watches.remove(&path);
+        if is_later {
+            return Ok(());
         }
+        self.watches.remove(&path);
         Ok(())
     }
 
@@ -474,7 +483,7 @@ impl Client {
         base + self.answered <= ops.get()
             && ops.get() <= base + self.sent
             && base + self.made <= MAX_SAFE_INTEGER
-            && (self.watches.len() + self.mail.waiting()) as u64 <= MAX_SAFE_INTEGER
+            && self.watches.len() as u64 <= MAX_SAFE_INTEGER - self.mail.waiting() as u64
     }
 
     // The session is open.

@@ -1,7 +1,6 @@
-use Rattle.std.proofs.Common.{◌∙◌, ap, sym, subst, ◌≡◌, ◌++◌, ◌∷◌, [], length}
+use Rattle.std.proofs.Common.{◌∙◌, ap, ◌≡◌, ◌++◌, ◌∷◌, []}
 use Rattle.std.specs.VecDeque.Iter.{deque_iter_rest}
-use Rattle.pres_client.specs.Clients.{message, messages, next_write, count_writes}
-use Rattle.pres_client.specs.Mails.{MayNumber}
+use Rattle.pres_client.specs.Clients.{message, messages}
 use Rattle.pres_client.proofs.Queues.{added}
 use Rattle.pres_client.proofs.mail.add_messages.Goals as goal
 

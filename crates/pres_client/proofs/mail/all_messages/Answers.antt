@@ -1,4 +1,4 @@
-use Rattle.std.proofs.Common.{ℕ, ◌∙◌, ap, sym, ◌≡◌, ◌+◌, ◌++◌, [], length, arith, rules}
+use Rattle.std.proofs.Common.{ℕ, ◌∙◌, ap, sym, ◌≡◌, ◌+◌, ◌++◌, length, arith, rules}
 use Rattle.pres_client.specs.Clients.{messages, count_writes}
 use Rattle.pres_client.proofs.Queues.{count-append, messages-append}
 use Rattle.pres_client.proofs.mail.all_messages.Goals as goal
