@@ -1,8 +1,8 @@
-use Rattle.std.proofs.Common.{◌≡◌, false, Some, refl, ap, sym, ◌∙◌, rules}
-use Rattle.pres_client.specs.Clients.{is_online, no_message, no_write, ask_of}
-use Rattle.pres_client.specs.Calls.{is_too_deep}
+use Rattle.std.proofs.Common.{◌≡◌, ◌++◌, [], ◌∷◌, false, Some, refl, ap, sym, ◌∙◌, ◌+◌, append-nil, if◌then◌else◌, rules}
+use Rattle.pres_client.specs.Clients.{State, is_online, no_message, no_write, ask_of, without_ask}
+use Rattle.pres_client.specs.Calls.{is_too_deep, make_write, sent_now, try_of}
 use Rattle.pres_client.proofs.Ranges.{in_range-write, below}
-use Rattle.pres_client.proofs.Tried.{try_accepted, tried}
+use Rattle.pres_client.proofs.Tried.{try_accepted, tried, tried_fields}
 use Rattle.pres_client.proofs.client.Client.attempt.Goals as goal
 
 pub invariant_of-self-2 : goal.invariant_of-self-2
@@ -16,4 +16,20 @@ pub returns-clause-ok : goal.returns-clause-ok
 returns-clause-ok c =
     let found : ask_of c.args.request c.args.self.now.asks ≡ Some c.in-Some-take.ask = search rules in
     let deep : is_too_deep c.in-Some-take.ask c.args.draft ≡ false = search rules in
-    (try_accepted _ _ _ _ found (sym c.no_write.ensures ∙ c.if-no_write.false) (sym c.no_message.ensures ∙ c.if-no_message.false) deep, ? ∙ sym (tried _ _ _ _ _ found))
+    let s = c.args.self.now in
+    let accepted = try_accepted s c.args.draft (ask_of c.args.request s.asks) c.in-Some-take.ask found (sym c.no_write.ensures ∙ c.if-no_write.false) (sym c.no_message.ensures ∙ c.if-no_message.false) deep in
+    let m = try_of c.args.request c.in-Some-take.ask c.args.draft in
+    let same : c.in-Some.ask.now ≡ c.in-Some-take.ask = search rules in
+    let i = c.self.inside in
+    let before : State =
+      record {
+        session = i.session; attempts = i.attempts; phase = i.phase; base = i.base; made = i.made; sent = i.sent; answered = i.answered; heard = i.heard; taken = i.taken; seen = i.seen; requests = i.requests;
+        queue = i.mail.queue; watches = i.watches; asks = i.asks; sends = i.mail.sends; notices = i.mail.notices } in
+    let queue : c.put.new.self.queue ≡ i.mail.queue ++ m ∷ [] = c.put.ensures.queue ∙ rw (c.reserve.ensures.queue, c.into_transaction.ensures) refl in
+    let out : c.in_ok-sends.sends.items ≡ sent_now before m = c.in_ok-sends.ensures c.args.request ∙ (ap (λ a. sent_now s (try_of c.args.request a c.args.draft)) same ∙ ap (λ t. sent_now t m) (sym c.self.view_is)) in
+    let sends : c.put.new.self.sends ≡ i.mail.sends ++ sent_now before m = c.put.ensures.sends ∙ rw (c.reserve.ensures.sends, out) refl in
+    let notices : c.put.new.self.notices ≡ i.mail.notices = c.put.ensures.notices ∙ rw (c.reserve.ensures.notices, c.new.ensures.items) (append-nil i.mail.notices) in
+    let sent : c.sent_with_one-sent.result ≡ (if is_online i.phase then i.made + 1 else i.sent) = c.sent_with_one-sent.ensures ∙ ap (λ t. if is_online t.phase then t.made + 1 else t.sent) (sym c.self.view_is) in
+    let fields = tried_fields before m c.args.request c.sent_with_one-sent.result c.put.new.self.queue c.put.new.self.sends c.put.new.self.notices c.take.new.self queue sends notices c.take.ensures.left sent in
+    (accepted, rw (tried s c.args.request c.args.draft (ask_of c.args.request s.asks) c.in-Some-take.ask found)
+    (fields ∙ ap (λ t. let d = make_write t m in record d { asks = without_ask c.args.request t.asks }) c.self.view_is))
