@@ -170,13 +170,14 @@ after_answer c k given None = c
 after_answer c k answer.Abort (Some a) = let d = note c (notice.Aborted k) in record d { asks = without_ask k c.asks }
 after_answer c k (answer.New new) (Some a) = let d = make_write c (try_of k a new) in record d { asks = without_ask k c.asks }
 
+-- the path is listened to from now on, for the request
+abbrev pub watched : State → Path → ℕ → State
+watched c p k = let d = (if is_online c.phase then enqueue c (queued.On k p) else c) in record d { watches = with_watch p (fresh k) c.watches }
+
 -- a path that is listened to already is answered alone
 abbrev pub after_listen : State → Path → Option Watch → State
 after_listen c p (Some w) = with_request c
-after_listen c p None =
-    let k = c.requests + 1 in
-    let d = (if is_online c.phase then enqueue c (queued.On k p) else c) in
-    let e = with_request d in record e { watches = with_watch p (fresh k) c.watches }
+after_listen c p None = with_request (watched c p (c.requests + 1))
 
 abbrev pub after_unlisten : State → Path → Option Watch → State
 after_unlisten c p None = c

@@ -1,8 +1,8 @@
 //! The client: what it leaves for its disconnection, and the paths that it listens to.
 
-ghost use Rattle.std.specs.Prelude.{◌≡◌, ◌+◌, IfOk, IfErr, OnOk, None, false};
-ghost use Rattle.pres_client.specs.Clients.{no_request, no_message, is_online, is_write, watch_of};
-ghost use Rattle.pres_client.specs.Calls.{action_refusal, after_action, enqueue, with_request, after_listen, after_unlisten, Answers, Does, Refuses, IsFew};
+ghost use Rattle.std.specs.Prelude.{◌≡◌, ◌+◌, IfOk, IfErr, OnOk, OnErr, None, false};
+ghost use Rattle.pres_client.specs.Clients.{no_request, no_message, is_write, with_watch, fresh};
+ghost use Rattle.pres_client.specs.Calls.{action_refusal, after_action, enqueue, with_request, after_listen, watched, Answers, Does, Refuses, IsFew};
 ghost use Rattle.pres_client.specs.declared.fault.ClientFault.TheVariants.{Memory};
 
 use crate::call::Call;
@@ -13,6 +13,7 @@ use crate::writes::{cleared, placed, updated};
 use pres_tree::Path;
 use pres_wire::Count;
 use pres_write::{Draft, Unconditional};
+use std::alloc::AllocError;
 
 impl Client {
     // Why nothing can be left for the end of the session now.
@@ -119,7 +120,38 @@ impl Client {
         self.request(Queued::Cancel { request, path })
     }
 
-    // The path is listened to from now on.
+    // The path is listened to from now on, for the request, and the message says so.
+    fn watch_by(&mut self, path: Path, request: u64, queued: Queued) -> Result<(), AllocError>
+        requires message { no_message self.old ≡ false }
+        requires no_write { is_write queued ≡ false }
+        ensures ok { OnOk result (self.new ≡ record (enqueue self.old queued) {
+            watches = with_watch path (fresh request) self.old.watches }) }
+        ensures err { OnErr result (self.new ≡ self.old) }
+    {
+        let sends = self.outgoing_of(&queued)?;
+        self.mail.reserve(1, sends.len(), 0)?;
+        self.watches.add(path, request)?;
+        self.mail.put(queued, sends, Vec::new(self.alloc));
+        Ok(())
+    }
+
+    // The path is listened to from now on, for the request.
+    fn watch_for(&mut self, path: Path, request: u64) -> Result<(), AllocError>
+        requires { no_message self.old ≡ false }
+        ensures ok { OnOk result (self.new ≡ watched self.old path request) }
+        ensures err { OnErr result (self.new ≡ self.old) }
+    {
+        if !self.phase.is_online() {
+            return self.watches.add(path, request);
+        }
+        let queued = Queued::On {
+            request,
+            path: path.copy(self.alloc)?,
+        };
+        self.watch_by(path, request, queued)
+    }
+
+    // The next request listens to the path.
     fn watch(&mut self, path: Path) -> Result<u64, ClientFault>
         requires request { no_request self.old ≡ false }
         requires message { no_message self.old ≡ false }
@@ -128,22 +160,9 @@ impl Client {
         ensures err { IfErr result (λ e. (e ≡ Memory) × (self.new ≡ self.old)) }
     {
         let next = self.next_request();
-        let request = next.get();
-        if !self.phase.is_online() {
-            self.watches.add(path, request)?;
-            self.requests = Count::up_to(next);
-            return Ok(request);
-        }
-        let queued = Queued::On {
-            request,
-            path: path.copy(self.alloc)?,
-        };
-        let sends = self.outgoing_of(&queued)?;
-        self.mail.reserve(1, sends.len(), 0)?;
-        self.watches.add(path, request)?;
-        self.mail.put(queued, sends, Vec::new(self.alloc));
+        self.watch_for(path, next.get())?;
         self.requests = Count::up_to(next);
-        Ok(request)
+        Ok(next.get())
     }
 
     /// Listens to the path: the notice Value tells its value, and each value after a write that
