@@ -1,16 +1,15 @@
 -- Values at paths that rise, and their JSON.
-use Rattle.std.proofs.Common.{◌≡◌, ℕ, zero, suc, ◌+◌, ◌<◌, Bool, true, false, ◌&&◌, List, [], ◌∷◌, length, map, cond, Option, Some, None, refl, sym, ap, ◌∙◌, arith}
+use Rattle.std.proofs.Common.{◌≡◌, ℕ, zero, suc, ◌+◌, ◌<◌, Bool, true, false, ◌&&◌, List, [], ◌∷◌, length, map, Some, refl, sym, ap, ◌∙◌, arith}
 use native.Mathlib.Nat.{suc-add}
 use Rattle.std.specs.Prelude.{slice_index_or}
 use Rattle.std.specs.List.{AllAdjacentBelow, IsAllAdjacentAnswer}
-use Rattle.std.specs.Option.{SomeIff}
 use Rattle.std.specs.Ordering.{is_lt}
 use Rattle.serde_json.specs.View.{items_of}
 use Rattle.pres_tree.specs.Paths.{path_cmp}
 use Rattle.pres_wire.specs.declared.values.PathValue.{PathValue}
 use Rattle.pres_wire.specs.Values.{rise, Rising}
 use Rattle.pres_wire.specs.DownForms.{path_value_json, values_json}
-use Rattle.pres_wire.specs.DownReads.{path_value_of, values_of_items, if_rising, values_of}
+use Rattle.pres_wire.specs.DownReads.{path_value_of, values_of_items, values_of}
 
 -- whether the path of the first is before that of the second
 abbrev pub before : PathValue → PathValue → Bool
@@ -53,11 +52,3 @@ all_read (v ∷ vs) h = rw (h 0 v (omega arith), all_read vs (λ k d l. h (suc k
 
 pub values_read : (vs : List PathValue) → Rising vs → AllRead vs (length vs) → values_of (values_json vs) ≡ Some vs
 values_read vs up h = rw (all_read vs h, up) refl
-
--- those that rise, as `Values::new` answers
-pub rising_some : (r : Option (List PathValue)) (vs : List PathValue) → SomeIff r (Rising vs) vs → r ≡ if_rising vs
-rising_some None vs h = elim (rise (map (λ v. v.path) vs)) as (λ b. rise (map (λ v. v.path) vs) ≡ b → None ≡ cond b (Some vs) None) [
-  | true ↦ λ e. absurd (h e)
-  | false ↦ λ e. refl
-] refl
-rising_some (Some ws) vs h = ap Some h.1 ∙ sym (λ i. cond (h.0 i) (Some vs) None)

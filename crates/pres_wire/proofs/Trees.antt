@@ -1,5 +1,5 @@
 -- Trees that are values are read again as they are printed, and nest few levels.
-use Rattle.std.proofs.Common.{◌≡◌, ℕ, ◌+◌, ◌≤◌, ◌<◌, [], ◌∷◌, length, Bool, true, false, cond, Option, Some, None, is_none, is_some, refl, sym, ap, ◌∙◌, Result, Ok, Err, arith}
+use Rattle.std.proofs.Common.{◌≡◌, ℕ, ◌≤◌, ◌<◌, [], ◌∷◌, length, true, false, cond, Some, None, is_none, is_some, refl, sym, ap, ◌∙◌, Result, Ok, Err, arith}
 use Rattle.std.specs.Prelude.{IfOk}
 use Rattle.std.specs.declared.alloc.AllocError.{AllocError}
 use Rattle.serde_json.specs.View.{view}
@@ -7,12 +7,11 @@ use Rattle.serde_json.specs.declared.value.Value.{Value}
 use Rattle.std.specs.Ordering.{eq_by_cmp}
 use Rattle.std.specs.Cmp.{eq_by_cmp_equiv}
 use Rattle.serde_json.specs.Data.{Data, null, boolean, number, string, array, object, depth}
-use Rattle.pres_tree.specs.declared.fault.TreeFault.{TreeFault}
 use Rattle.pres_tree.specs.declared.scalar.Scalar.{Scalar}
 use Rattle.pres_tree.specs.Falls.{path_total}
 use Rattle.pres_tree.specs.Paths.{Path, path_cmp}
 use Rattle.pres_tree.specs.Rows.{Rows, IsValue, Holds, leaf_at, height}
-use Rattle.pres_tree.specs.Reading.{leaf, rows_of, fault_of}
+use Rattle.pres_tree.specs.Reading.{leaf, fault_of}
 use Rattle.pres_tree.specs.Printing.{json_of, ReadsBack}
 use Rattle.pres_tree.specs.Scalars.{scalar_printing, scalar_reading}
 use Rattle.pres_wire.specs.DownReads.{value_of}

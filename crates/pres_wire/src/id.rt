@@ -149,11 +149,9 @@ impl Stamp {
         ensures { result ≡ stamp_in (view value.now) }
     {
         let (incarnation, attempt) = pair_of(value)?;
-        let incarnation = Number::from_value(incarnation)?;
-        let attempt = Number::from_value(attempt)?;
         Some(Stamp {
-            incarnation,
-            attempt,
+            incarnation: Number::from_value(incarnation)?,
+            attempt: Number::from_value(attempt)?,
         })
     }
 }
