@@ -33,7 +33,7 @@ use Rattle.pres_wire.proofs.Nesting.{Flat, Solid, rows_low}
 
 -- ---- leaves of values and of drafts
 
-scalar_solid : (s : Scalar) → Solid (scalar_printing s)
+pub scalar_solid : (s : Scalar) → Solid (scalar_printing s)
 scalar_solid (BoolOf b) = tt
 scalar_solid (Int z) = tt
 scalar_solid (Text s) = tt
@@ -46,7 +46,7 @@ range_leaf : {A : Type 0} (b : Bool) (a : A) (e : TreeFault) → is_leaf (cond b
 range_leaf true a e = refl
 range_leaf false a e = refl
 
-number_leaf : (x : Num) → is_leaf (number_reading x) ≡ true
+pub number_leaf : (x : Num) → is_leaf (number_reading x) ≡ true
 number_leaf (unsigned n) = range_leaf (nat_lt n (2 ^ 63)) (Int (pos n)) Range
 number_leaf (negative z) = refl
 number_leaf (float x) = refl

@@ -11,6 +11,16 @@ field_name field.Q = codes "q"
 field_name field.N = codes "n"
 field_name field.Op = codes "op"
 field_name field.Path = codes "path"
+field_name field.R = codes "r"
+field_name field.Z = codes "z"
+field_name field.Done = codes "done"
+field_name field.Ops = codes "ops"
+field_name field.Out = codes "out"
+field_name field.Value = codes "value"
+field_name field.Values = codes "values"
+field_name field.Why = codes "why"
+field_name field.Code = codes "code"
+field_name field.Last = codes "last"
 
 abbrev pub number_of : WireFault → ℕ
 number_of Memory = 1

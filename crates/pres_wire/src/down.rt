@@ -1,24 +1,26 @@
 //! Messages to a client.
 
-ghost use Rattle.std.specs.Prelude.{◌≡◌, ◌∷◌, [], IfOk, Some, option_map, string_bytes, codes};
-ghost use Rattle.serde_json.specs.View.{view, members_view};
+ghost use Rattle.std.specs.Prelude.{◌≡◌, ◌≤◌, ◌⊎◌, IfOk, MatchResult, Ok, Err, Some, option_map, string_bytes};
+ghost use Rattle.serde_json.specs.Data.{depth};
+ghost use Rattle.serde_json.specs.View.{view};
 ghost use Rattle.serde_json.specs.Written.{compact_text};
-ghost use Rattle.pres_tree.specs.Rows.{rows_in};
-ghost use Rattle.pres_tree.specs.Printing.{json_of};
-ghost use Rattle.pres_tree.specs.Reading.{rows_of};
-ghost use Rattle.pres_tree.specs.Scalars.{scalar_reading, scalar_printing};
-ghost use Rattle.pres_wire.specs.Fields.{message, members_of, whole, stamp_json, session_json, path_json, message_number, session_of, path_of};
 ghost use Rattle.pres_wire.specs.Messages.{session_for, number_in};
-ghost use Rattle.pres_wire.specs.DownForms.{why_word, code_number, limit_number, out_json, session_or_null, down_json};
-ghost use Rattle.pres_wire.specs.DownReads.{session_or_none, why_of, one_null, out_of, HasForm};
+ghost use Rattle.pres_wire.specs.DownForms.{code_number, limit_number, down_json};
+ghost use Rattle.pres_wire.specs.DownReads.{with_one_null, decoded, HasForm};
+ghost use Rattle.pres_wire.specs.declared.fault.WireFault.TheVariants.{Memory};
 
-use crate::form::Form;
+use crate::down_form::{
+    answer_value, denied_value, fault_value, gone_value, place_form, push_value, welcome_value,
+    write_form,
+};
+use crate::down_read::read_down;
+use crate::fault::WireFault;
 use crate::id::{SessionId, Stamp, Why};
 use crate::number::{Count, Number};
 use crate::values::Values;
 use pres_tree::{Path, Tree};
 use pres_write::Kept;
-use serde_json::{Value, json};
+use serde_json::Value;
 use std::alloc::{AllocError, Global};
 
 /// Why a message was refused.
@@ -298,18 +300,40 @@ impl Down {
         }
     }
 
-    /// The JSON text of the message. No JSON is two messages' form.
+    /// The message of a text. Refused, in this order: NotJson, NoSuchMessage, Field of the first
+    /// field that is missing or wrong, in the order of the message's table. Names that the
+    /// message has not are ignored.
+    pub fn decode(alloc: Global, text: &str) -> Result<Down, WireFault>
+        ensures { MatchResult result
+            (λ m. decoded text.now ≡ Ok m)
+            (λ e. (e ≡ Memory) ⊎ (decoded text.now ≡ Err e)) }
+    {
+        match Value::from_str(alloc, text) {
+            Ok(value) => read_down(alloc, &value),
+            Err(error) => if error.is_memory() {
+                Err(WireFault::Memory)
+            } else {
+                Err(WireFault::NotJson)
+            },
+        }
+    }
+
+    /// The JSON text of the message. It is decoded as an equal message, a null that was held as
+    /// none: so no JSON is two messages' form.
     pub fn encode(&self, alloc: Global) -> Result<String, AllocError>
         ensures text { IfOk result (λ t. string_bytes t ≡ compact_text (down_json self.now)) }
         ensures form { IfOk result (λ _. HasForm self.now) }
+        ensures reads_back { IfOk result (λ t.
+            decoded (string_bytes t) ≡ Ok (with_one_null self.now)) }
     {
         self.to_value(alloc)?.to_string(alloc)
     }
 
-    // The JSON value of the message, which is the form of no other.
+    // The JSON value of the message, which is the form of no other, and nests few levels.
     fn to_value(&self, alloc: Global) -> Result<Value, AllocError>
         ensures json { IfOk result (λ made. view made ≡ down_json self.now) }
         ensures form { IfOk result (λ _. HasForm self.now) }
+        ensures low { IfOk result (λ _. depth (down_json self.now) ≤ 127) }
     {
         match self {
             Down::Welcome { session, z, ops } => welcome_value(alloc, session, *z, *ops),
@@ -361,37 +385,6 @@ impl Down {
     }
 }
 
-// The JSON value of a Welcome.
-fn welcome_value(
-    alloc: Global,
-    session: &SessionId,
-    z: Number,
-    ops: Count,
-) -> Result<Value, AllocError>
-    ensures json { IfOk result (λ made. view made ≡ down_json (Down.Welcome session.now z ops)) }
-    ensures form { IfOk result (λ _. HasForm (Down.Welcome session.now z ops)) }
-{
-    let form = Form::new(alloc).value(alloc, "ops", Value::from(ops.get()))?;
-    let form = form.number(alloc, "z", z)?;
-    form.message(alloc, "welcome", session)
-}
-
-// The JSON value of a Gone.
-fn gone_value(
-    alloc: Global,
-    session: &SessionId,
-    r: Number,
-    z: Number,
-    why: Why,
-) -> Result<Value, AllocError>
-    ensures json { IfOk result (λ made. view made ≡ down_json (Down.Gone session.now r z why)) }
-    ensures form { IfOk result (λ _. HasForm (Down.Gone session.now r z why)) }
-{
-    let word = Value::try_from_str(alloc, word_of(why))?;
-    let form = Form::new(alloc).value(alloc, "why", word)?;
-    form.sent(alloc, "gone", session, r, z)
-}
-
 fn copied_session(
     alloc: Global,
     session: &Option<SessionId>,
@@ -411,199 +404,4 @@ fn copied_place(alloc: Global, path: &Path, value: &Tree) -> Result<(Path, Tree)
     let path = path.copy(alloc)?;
     let value = value.copy(alloc)?;
     Ok((path, value))
-}
-
-// The word for why a session ended.
-fn word_of(why: Why) -> &'static str
-    ensures word { result.now ≡ why_word why }
-    ensures form { why_of (why_word why) ≡ Some why }
-{
-    match why {
-        Why::Bye => "bye",
-        Why::Lost => "lost",
-        Why::Lease => "lease",
-        Why::Superseded => "superseded",
-        Why::Slow => "slow",
-        Why::Restart => "restart",
-    }
-}
-
-// The JSON value of a value that a place held.
-fn held_value(alloc: Global, held: &Option<Tree>) -> Result<Value, AllocError>
-    ensures json { IfOk result (λ made. view made ≡ json_of scalar_printing (rows_in held.now)) }
-    ensures reads_back { IfOk result (λ _.
-        rows_of scalar_reading (json_of scalar_printing (rows_in held.now)) ≡ rows_in held.now) }
-{
-    match held {
-        Some(value) => value.to_value(alloc),
-        None => Ok(Value::Null),
-    }
-}
-
-// The JSON value of what a write came to.
-fn out_value(alloc: Global, out: &Kept) -> Result<Value, AllocError>
-    ensures json { IfOk result (λ made. view made ≡ out_json out.now) }
-    ensures form { IfOk result (λ _. out_of (out_json out.now) ≡ Some (one_null out.now)) }
-{
-    match out {
-        Kept::Wrote => json!(in alloc; "wrote"),
-        Kept::Stale(held) => {
-            let held = held_value(alloc, held)?;
-            json!(in alloc; {"stale": held})
-        }
-    }
-}
-
-// The fields of a Reply that say which write it answers, and how.
-fn write_form(
-    alloc: Global,
-    q: Number,
-    n: Number,
-    done: Number,
-    out: &Kept,
-) -> Result<Form, AllocError>
-    ensures fields { IfOk result (λ made. members_view made.members.entries
-        ≡ members_of ((codes "q", whole q) ∷ (codes "n", whole n) ∷ (codes "done", whole done)
-        ∷ (codes "out", out_json out.now) ∷ [])) }
-    ensures q { IfOk result (λ _. message_number (whole q) ≡ Some q) }
-    ensures n { IfOk result (λ _. message_number (whole n) ≡ Some n) }
-    ensures done { IfOk result (λ _. message_number (whole done) ≡ Some done) }
-    ensures out { IfOk result (λ _. out_of (out_json out.now) ≡ Some (one_null out.now)) }
-{
-    let out = out_value(alloc, out)?;
-    let form = Form::new(alloc).value(alloc, "out", out)?;
-    let form = form.number(alloc, "done", done)?;
-    let form = form.number(alloc, "n", n)?;
-    form.number(alloc, "q", q)
-}
-
-fn session_or_null(alloc: Global, session: &Option<SessionId>) -> Result<Value, AllocError>
-    ensures json { IfOk result (λ made. view made ≡ session_or_null session.now) }
-    ensures form { IfOk result (λ _.
-        session_or_none (session_or_null session.now) ≡ Some session.now) }
-{
-    match session {
-        Some(session) => session.to_value(alloc),
-        None => Ok(Value::Null),
-    }
-}
-
-// The JSON value of a Fault without a stamp.
-fn plain_fault(alloc: Global, session: &Option<SessionId>, number: u8) -> Result<Value, AllocError>
-    ensures json { IfOk result (λ made. view made ≡ message (codes "fault")
-        ((codes "s", session_or_null session.now) ∷ (codes "code", whole number) ∷ [])) }
-    ensures form { IfOk result (λ _.
-        session_or_none (session_or_null session.now) ≡ Some session.now) }
-{
-    let session = session_or_null(alloc, session)?;
-    let form = Form::new(alloc).value(alloc, "s", session)?;
-    let form = form.value(alloc, "code", Value::from(number))?;
-    form.done(alloc, "fault")
-}
-
-// The JSON value of a Fault with the client's last stamp.
-fn old_fault(
-    alloc: Global,
-    session: &Option<SessionId>,
-    number: u8,
-    last: Stamp,
-) -> Result<Value, AllocError>
-    ensures json { IfOk result (λ made. view made ≡ message (codes "fault")
-        ((codes "s", session_or_null session.now) ∷ (codes "code", whole number)
-        ∷ (codes "last", stamp_json last) ∷ [])) }
-    ensures form { IfOk result (λ _.
-        session_or_none (session_or_null session.now) ≡ Some session.now) }
-{
-    let last = last.to_value(alloc)?;
-    let form = Form::new(alloc).value(alloc, "last", last)?;
-    let form = form.value(alloc, "code", Value::from(number))?;
-    let session = session_or_null(alloc, session)?;
-    let form = form.value(alloc, "s", session)?;
-    form.done(alloc, "fault")
-}
-
-// The JSON value of a Fault.
-fn fault_value(alloc: Global, session: &Option<SessionId>, code: Code) -> Result<Value, AllocError>
-    ensures json { IfOk result (λ made. view made ≡ down_json (Down.Fault session.now code)) }
-    ensures form { IfOk result (λ _. HasForm (Down.Fault session.now code)) }
-{
-    let number = code.number();
-    match &code {
-        Code::Old(last) => old_fault(alloc, session, number, *last),
-        _ => plain_fault(alloc, session, number),
-    }
-}
-
-// The JSON value of a message of this word that answers the message `q`, and tells no more.
-fn answer_value(
-    alloc: Global,
-    word: &str,
-    session: &SessionId,
-    r: Number,
-    z: Number,
-    q: Number,
-) -> Result<Value, AllocError>
-    ensures json { IfOk result (λ made. view made ≡ message word.now
-        ((codes "s", session_json session.now) ∷ (codes "r", whole r) ∷ (codes "z", whole z)
-        ∷ (codes "q", whole q) ∷ [])) }
-    ensures session { IfOk result (λ _.
-        session_of (session_json session.now) ≡ Some session.now) }
-    ensures r { IfOk result (λ _. message_number (whole r) ≡ Some r) }
-    ensures z { IfOk result (λ _. message_number (whole z) ≡ Some z) }
-    ensures q { IfOk result (λ _. message_number (whole q) ≡ Some q) }
-{
-    let form = Form::new(alloc).number(alloc, "q", q)?;
-    form.sent(alloc, word, session, r, z)
-}
-
-// The JSON value of a Denied.
-fn denied_value(
-    alloc: Global,
-    session: &SessionId,
-    r: Number,
-    z: Number,
-    q: Number,
-    why: Limit,
-) -> Result<Value, AllocError>
-    ensures json { IfOk result (λ made.
-        view made ≡ down_json (Down.Denied session.now r z q why)) }
-    ensures form { IfOk result (λ _. HasForm (Down.Denied session.now r z q why)) }
-{
-    let form = Form::new(alloc).value(alloc, "why", Value::from(why.number()))?;
-    let form = form.number(alloc, "q", q)?;
-    form.sent(alloc, "denied", session, r, z)
-}
-
-// The fields of a Snap that say which On it answers, and what stands there.
-fn place_form(alloc: Global, q: Number, path: &Path, value: &Tree) -> Result<Form, AllocError>
-    ensures fields { IfOk result (λ made. members_view made.members.entries
-        ≡ members_of ((codes "q", whole q) ∷ (codes "path", path_json path.now)
-        ∷ (codes "value", json_of scalar_printing value.now) ∷ [])) }
-    ensures q { IfOk result (λ _. message_number (whole q) ≡ Some q) }
-    ensures path { IfOk result (λ _. path_of (path_json path.now) ≡ Some path.now) }
-    ensures value { IfOk result (λ _.
-        rows_of scalar_reading (json_of scalar_printing value.now) ≡ value.now) }
-{
-    let value = value.to_value(alloc)?;
-    let form = Form::new(alloc).value(alloc, "value", value)?;
-    let text = Value::String(path.text(alloc)?);
-    let form = form.value(alloc, "path", text)?;
-    form.number(alloc, "q", q)
-}
-
-// The JSON value of a Push.
-fn push_value(
-    alloc: Global,
-    session: &SessionId,
-    r: Number,
-    z: Number,
-    values: &Values,
-) -> Result<Value, AllocError>
-    ensures json { IfOk result (λ made.
-        view made ≡ down_json (Down.Push session.now r z values.now)) }
-    ensures form { IfOk result (λ _. HasForm (Down.Push session.now r z values.now)) }
-{
-    let values = values.to_value(alloc)?;
-    let form = Form::new(alloc).value(alloc, "values", values)?;
-    form.sent(alloc, "push", session, r, z)
 }

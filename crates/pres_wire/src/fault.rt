@@ -8,7 +8,7 @@ use std::alloc::AllocError;
 use std::fmt;
 use thiserror::Error;
 
-/// A field of a message that the server reads.
+/// A field of a message.
 #[derive(Clone, Copy, Debug, PartialEq, Eq)]
 pub enum Field {
     /// The session: `[client, incarnation, attempt]`.
@@ -21,6 +21,26 @@ pub enum Field {
     Op,
     /// The path.
     Path,
+    /// The number of a message among those that a session is sent.
+    R,
+    /// The server's number.
+    Z,
+    /// The server's number at which a write stands.
+    Done,
+    /// How many writes of the client there are.
+    Ops,
+    /// What a write came to.
+    Out,
+    /// The value at a path.
+    Value,
+    /// Values at paths.
+    Values,
+    /// Why a session ended, or which limit a message met.
+    Why,
+    /// Why a message was refused.
+    Code,
+    /// The client's last stamp.
+    Last,
 }
 
 impl Field {
@@ -34,6 +54,16 @@ impl Field {
             Field::N => "n",
             Field::Op => "op",
             Field::Path => "path",
+            Field::R => "r",
+            Field::Z => "z",
+            Field::Done => "done",
+            Field::Ops => "ops",
+            Field::Out => "out",
+            Field::Value => "value",
+            Field::Values => "values",
+            Field::Why => "why",
+            Field::Code => "code",
+            Field::Last => "last",
         }
     }
 }

@@ -4,10 +4,12 @@ ghost use Rattle.std.specs.Prelude.{◌≡◌, IsTrue, IfOk, MatchResult, Some, 
 ghost use Rattle.std.specs.List.{list_all};
 ghost use Rattle.serde_json.specs.View.{view};
 ghost use Rattle.pres_wire.specs.Fields.{stamp_json, session_json, session_of};
+ghost use Rattle.pres_wire.specs.DownReads.{stamp_in};
 ghost use Rattle.pres_wire.specs.Ids.{is_id_byte, is_client_id, is_earlier, stamp_of};
 ghost use Rattle.pres_wire.specs.declared.id.IdFault.TheVariants.{Memory, NotAnId};
 
 use crate::number::Number;
+use crate::part::pair_of;
 use pres_tree::Text;
 use serde_json::{Value, json};
 use std::alloc::{AllocError, Global};
@@ -136,9 +138,21 @@ impl Stamp {
 
     /// Its JSON value: `[incarnation,attempt]`.
     pub fn to_value(&self, alloc: Global) -> Result<Value, AllocError>
-        ensures { IfOk result (λ made. view made ≡ stamp_json self.now) }
+        ensures json { IfOk result (λ made. view made ≡ stamp_json self.now) }
+        ensures reads_back { IfOk result (λ made. stamp_in (view made) ≡ Some self.now) }
     {
         json!(in alloc; [self.incarnation.get(), self.attempt.get()])
+    }
+
+    // The stamp that a JSON value is.
+    pub(crate) fn from_value(value: &Value) -> Option<Stamp>
+        ensures { result ≡ stamp_in (view value.now) }
+    {
+        let (incarnation, attempt) = pair_of(value)?;
+        Some(Stamp {
+            incarnation: Number::from_value(incarnation)?,
+            attempt: Number::from_value(attempt)?,
+        })
     }
 }
 

@@ -2,11 +2,15 @@
 #![tactic(auto)]
 
 mod down;
+mod down_field;
+mod down_form;
+mod down_read;
 mod fault;
 mod field;
 mod form;
 mod id;
 mod number;
+mod part;
 mod up;
 mod values;
 

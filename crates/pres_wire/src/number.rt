@@ -3,7 +3,7 @@
 ghost use Rattle.std.specs.Prelude.{◌≡◌, ◌+◌, ◌<◌, ◌≤◌, MatchOption};
 ghost use Rattle.std.specs.Option.{SomeIff};
 ghost use Rattle.serde_json.specs.View.{view};
-ghost use Rattle.pres_wire.specs.Fields.{message_number};
+ghost use Rattle.pres_wire.specs.Fields.{message_number, message_count};
 ghost use Rattle.pres_wire.specs.Numbers.{greatest_number, IsNumber};
 
 use pres_write::MAX_SAFE_INTEGER;
@@ -143,6 +143,13 @@ impl Count {
         Some(Number {
             value: self.value + 1,
         })
+    }
+
+    // The count that a JSON value is.
+    pub(crate) fn from_value(value: &Value) -> Option<Count>
+        ensures { result ≡ message_count (view value.now) }
+    {
+        Count::new(value.as_u64()?)
     }
 }
 

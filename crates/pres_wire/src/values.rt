@@ -1,14 +1,16 @@
 //! Values at paths, as a listener is told them.
 
-ghost use Rattle.std.specs.Prelude.{◌≡◌, IfOk, Some};
-ghost use Rattle.std.specs.Option.{SomeIff};
+ghost use Rattle.std.specs.Prelude.{◌≡◌, ◌≤◌, IfOk, Some};
+ghost use Rattle.std.specs.Option.{SomeIff, option_map};
 ghost use Rattle.std.specs.Ordering.{is_lt};
-ghost use Rattle.serde_json.specs.View.{view};
+ghost use Rattle.serde_json.specs.Data.{depth};
+ghost use Rattle.serde_json.specs.View.{view, items_view};
 ghost use Rattle.pres_tree.specs.Paths.{path_cmp};
 ghost use Rattle.pres_wire.specs.Values.{Rising};
 ghost use Rattle.pres_wire.specs.DownForms.{path_value_json, values_json};
-ghost use Rattle.pres_wire.specs.DownReads.{path_value_of, values_of};
+ghost use Rattle.pres_wire.specs.DownReads.{path_value_of, values_of_items, values_of};
 
+use crate::part::{pair_of, path_of, tree_of, tree_value};
 use pres_tree::{Path, Tree};
 use serde_json::Value;
 use std::alloc::{AllocError, Global};
@@ -36,14 +38,46 @@ impl PathValue {
         ensures json { IfOk result (λ made. view made ≡ path_value_json self.now) }
         ensures reads_back { IfOk result (λ _.
             path_value_of (path_value_json self.now) ≡ Some self.now) }
+        ensures low { IfOk result (λ _. depth (path_value_json self.now) ≤ 34) }
     {
         let path = Value::String(self.path.text(alloc)?);
-        let value = self.value.to_value(alloc)?;
+        let value = tree_value(alloc, &self.value)?;
         let mut pair = Vec::new(alloc);
         pair.push(path)?;
         pair.push(value)?;
         Ok(Value::Array(pair))
     }
+
+    // The one that a JSON value is, none where it isn't the value of one.
+    fn from_value(alloc: Global, value: &Value) -> Result<Option<PathValue>, AllocError>
+        ensures { IfOk result (λ found. found ≡ path_value_of (view value.now)) }
+    {
+        let Some((path, value)) = pair_of(value) else {
+            return Ok(None);
+        };
+        let Some(path) = path_of(alloc, path)? else {
+            return Ok(None);
+        };
+        let Some(value) = tree_of(alloc, value)? else {
+            return Ok(None);
+        };
+        Ok(Some(PathValue { path, value }))
+    }
+}
+
+// Those that the items of a list are, none where one item isn't.
+fn read_items(alloc: Global, items: &Vec<Value>) -> Result<Option<Vec<PathValue>>, AllocError>
+    ensures { IfOk result (λ found.
+        option_map (λ made. made.items) found ≡ values_of_items (items_view items.now.items)) }
+{
+    let mut made = Vec::new(alloc);
+    for item in items {
+        let Some(value) = PathValue::from_value(alloc, item)? else {
+            return Ok(None);
+        };
+        made.push(value)?;
+    }
+    Ok(Some(made))
 }
 
 // Whether the first path is before the second.
@@ -113,11 +147,25 @@ impl Values {
     pub(crate) fn to_value(&self, alloc: Global) -> Result<Value, AllocError>
         ensures json { IfOk result (λ made. view made ≡ values_json self.now) }
         ensures reads_back { IfOk result (λ _. values_of (values_json self.now) ≡ Some self.now) }
+        ensures low { IfOk result (λ _. depth (values_json self.now) ≤ 35) }
     {
         let mut items = Vec::new(alloc);
         for item in &self.items {
             items.push(item.to_value(alloc)?)?;
         }
         Ok(Value::Array(items))
+    }
+
+    // Those that a JSON value is, none where it isn't the value of any.
+    pub(crate) fn from_value(alloc: Global, value: &Value) -> Result<Option<Values>, AllocError>
+        ensures { IfOk result (λ found. found ≡ values_of (view value.now)) }
+    {
+        let Some(items) = value.as_array() else {
+            return Ok(None);
+        };
+        let Some(items) = read_items(alloc, items)? else {
+            return Ok(None);
+        };
+        Ok(Values::new(items))
     }
 }

@@ -220,6 +220,8 @@ enum Table {
     Filled,
     RefusedFilled,
     ToClients,
+    Read,
+    Unread,
 }
 
 fn answer(alloc: Global, table: Table, case: &str) -> Result<String, Fail> {
@@ -237,6 +239,8 @@ fn answer(alloc: Global, table: Table, case: &str) -> Result<String, Fail> {
         Table::Filled => message_answer(alloc, filled_text(alloc, case)?.as_str()),
         Table::RefusedFilled => refusal(alloc, filled_text(alloc, case)?.as_str()),
         Table::ToClients => to_client(alloc, case),
+        Table::Read => read_answer(alloc, case),
+        Table::Unread => unread_answer(alloc, case),
     }
 }
 
@@ -689,6 +693,65 @@ fn what_listeners_are_told_is_printed(rt: HostRuntime) -> Result<(), Fail> {
 #[test]
 fn replies_are_printed(rt: HostRuntime) -> Result<(), Fail> {
     let wrong = wrong_in(rt.alloc(), Table::ToClients, REPLIES)?;
+    assert_eq!(rt; wrong.as_str(), "");
+    Ok(())
+}
+
+// ---- messages to clients, read
+
+fn read_text(alloc: Global, text: &str) -> Result<String, Fail> {
+    let message = Down::decode(alloc, text)?;
+    printed(alloc, &message)
+}
+
+// The text that the message to a client of a text is printed as, or `same`.
+fn read_answer(alloc: Global, text: &str) -> Result<String, Fail> {
+    let said = read_text(alloc, text)?;
+    if said.as_str() == text {
+        return Ok(String::from_str(alloc, "same")?);
+    }
+    Ok(said)
+}
+
+// Why the text is refused as a message to a client.
+fn unread_answer(alloc: Global, text: &str) -> Result<String, Fail> {
+    let fault = Down::decode(alloc, text).err().ok_or("accepted")?;
+    Ok(format!(in alloc; "{fault:?}")?)
+}
+
+const READ: &str = r#"{"m":"welcome","ops":0,"s":["alice",1,1],"z":1} => same
+{"done":5,"m":"reply","n":1,"out":"wrote","q":2,"r":2,"s":["alice",1,1],"z":5} => same
+{"done":7,"m":"reply","n":1,"out":{"stale":1},"q":2,"r":3,"s":["bob",1,1],"z":7} => same
+{"m":"gone","r":3,"s":["alice",1,1],"why":"lost","z":6} => same
+{"m":"armed","q":2,"r":3,"s":["alice",1,1],"z":6} => same
+{"m":"denied","q":2,"r":3,"s":["alice",1,1],"why":1,"z":6} => same
+{"m":"snap","path":"/a","q":1,"r":1,"s":["bob",1,1],"value":null,"z":3} => same
+{"m":"push","r":2,"s":["bob",1,1],"values":[["/a/b",null]],"z":4} => same
+{"m":"push","r":2,"s":["bob",1,1],"values":[],"z":4} => same
+{"m":"offdone","q":2,"r":3,"s":["bob",1,1],"z":5} => same
+{"code":4,"m":"fault","s":["alice",1,1]} => same
+{"code":2,"last":[1,1],"m":"fault","s":["alice",1,1]} => same
+{"code":1,"m":"fault","s":null} => same"#;
+
+const UNREAD: &str = r#" => NotJson
+[] => NoSuchMessage
+{} => NoSuchMessage
+{"m":"hi"} => NoSuchMessage
+{"m":"welcome","ops":0,"s":["alice",1,1],"z":0} => Field(Z)
+{"done":5,"m":"reply","n":1,"q":2,"r":2,"s":["alice",1,1],"z":5} => Field(Out)
+{"done":5,"m":"reply","n":1,"out":{"stale":1.5},"q":2,"r":2,"s":["a",1,1],"z":5} => Field(Out)
+{"m":"denied","q":2,"r":3,"s":["alice",1,1],"why":3,"z":6} => Field(Why)
+{"m":"gone","r":3,"s":["alice",1,1],"why":"x","z":6} => Field(Why)
+{"code":9,"m":"fault","s":null} => Field(Code)
+{"code":2,"m":"fault","s":["alice",1,1]} => Field(Last)
+{"code":1,"m":"fault"} => Field(Session)
+{"m":"push","r":2,"s":["bob",1,1],"values":[["/a",1],["/a",2]],"z":4} => Field(Values)
+{"m":"snap","path":"/a.b","q":1,"r":1,"s":["bob",1,1],"value":null,"z":3} => Field(Path)
+{"m":"snap","path":"/a","q":1,"r":1,"s":["bob",1,1],"value":1.5,"z":3} => Field(Value)"#;
+
+#[test]
+fn messages_to_clients_are_read(rt: HostRuntime) -> Result<(), Fail> {
+    let wrong = wrong_in_all(rt.alloc(), &[(Table::Read, READ), (Table::Unread, UNREAD)])?;
     assert_eq!(rt; wrong.as_str(), "");
     Ok(())
 }

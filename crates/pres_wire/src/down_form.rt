@@ -1,0 +1,267 @@
+//! The JSON values of messages to a client.
+
+ghost use Rattle.std.specs.Prelude.{◌≡◌, ◌≤◌, ◌∷◌, [], IfOk, Some, codes};
+ghost use Rattle.serde_json.specs.Data.{depth};
+ghost use Rattle.serde_json.specs.View.{view, members_view};
+ghost use Rattle.pres_tree.specs.Rows.{rows_in};
+ghost use Rattle.pres_tree.specs.Printing.{json_of};
+ghost use Rattle.pres_tree.specs.Scalars.{scalar_printing};
+ghost use Rattle.pres_wire.specs.Fields.{message, members_of, whole, stamp_json, session_json, path_json, message_number, session_of, path_of};
+ghost use Rattle.pres_wire.specs.DownForms.{why_word, out_json, session_or_null, down_json};
+ghost use Rattle.pres_wire.specs.DownReads.{session_or_none, stamp_in, why_of, one_null, out_of, value_of, HasForm};
+
+use crate::down::{Code, Down, Limit};
+use crate::form::Form;
+use crate::id::{SessionId, Stamp, Why};
+use crate::number::{Count, Number};
+use crate::part::tree_value;
+use crate::values::Values;
+use pres_tree::{Path, Tree};
+use pres_write::Kept;
+use serde_json::{Value, json};
+use std::alloc::{AllocError, Global};
+
+// The JSON value of a Welcome.
+pub(crate) fn welcome_value(
+    alloc: Global,
+    session: &SessionId,
+    z: Number,
+    ops: Count,
+) -> Result<Value, AllocError>
+    ensures json { IfOk result (λ made. view made ≡ down_json (Down.Welcome session.now z ops)) }
+    ensures form { IfOk result (λ _. HasForm (Down.Welcome session.now z ops)) }
+{
+    let form = Form::new(alloc).value(alloc, "ops", Value::from(ops.get()))?;
+    let form = form.number(alloc, "z", z)?;
+    form.message(alloc, "welcome", session)
+}
+
+// The JSON value of a Gone.
+pub(crate) fn gone_value(
+    alloc: Global,
+    session: &SessionId,
+    r: Number,
+    z: Number,
+    why: Why,
+) -> Result<Value, AllocError>
+    ensures json { IfOk result (λ made. view made ≡ down_json (Down.Gone session.now r z why)) }
+    ensures form { IfOk result (λ _. HasForm (Down.Gone session.now r z why)) }
+{
+    let word = Value::try_from_str(alloc, word_of(why))?;
+    let form = Form::new(alloc).value(alloc, "why", word)?;
+    form.sent(alloc, "gone", session, r, z)
+}
+
+// The word for why a session ended.
+fn word_of(why: Why) -> &'static str
+    ensures word { result.now ≡ why_word why }
+    ensures form { why_of (why_word why) ≡ Some why }
+{
+    match why {
+        Why::Bye => "bye",
+        Why::Lost => "lost",
+        Why::Lease => "lease",
+        Why::Superseded => "superseded",
+        Why::Slow => "slow",
+        Why::Restart => "restart",
+    }
+}
+
+// The JSON value of a value that a place held.
+fn held_value(alloc: Global, held: &Option<Tree>) -> Result<Value, AllocError>
+    ensures json { IfOk result (λ made. view made ≡ json_of scalar_printing (rows_in held.now)) }
+    ensures reads_back { IfOk result (λ _.
+        value_of (json_of scalar_printing (rows_in held.now)) ≡ Some (rows_in held.now)) }
+    ensures low { IfOk result (λ _. depth (json_of scalar_printing (rows_in held.now)) ≤ 33) }
+{
+    match held {
+        Some(value) => tree_value(alloc, value),
+        None => Ok(Value::Null),
+    }
+}
+
+// The JSON value of what a write came to.
+fn out_value(alloc: Global, out: &Kept) -> Result<Value, AllocError>
+    ensures json { IfOk result (λ made. view made ≡ out_json out.now) }
+    ensures form { IfOk result (λ _. out_of (out_json out.now) ≡ Some (one_null out.now)) }
+    ensures low { IfOk result (λ _. depth (out_json out.now) ≤ 34) }
+{
+    match out {
+        Kept::Wrote => json!(in alloc; "wrote"),
+        Kept::Stale(held) => {
+            let held = held_value(alloc, held)?;
+            json!(in alloc; {"stale": held})
+        }
+    }
+}
+
+// The fields of a Reply that say which write it answers, and how.
+pub(crate) fn write_form(
+    alloc: Global,
+    q: Number,
+    n: Number,
+    done: Number,
+    out: &Kept,
+) -> Result<Form, AllocError>
+    ensures fields { IfOk result (λ made. members_view made.members.entries
+        ≡ members_of ((codes "q", whole q) ∷ (codes "n", whole n) ∷ (codes "done", whole done)
+        ∷ (codes "out", out_json out.now) ∷ [])) }
+    ensures q { IfOk result (λ _. message_number (whole q) ≡ Some q) }
+    ensures n { IfOk result (λ _. message_number (whole n) ≡ Some n) }
+    ensures done { IfOk result (λ _. message_number (whole done) ≡ Some done) }
+    ensures out { IfOk result (λ _. out_of (out_json out.now) ≡ Some (one_null out.now)) }
+    ensures low { IfOk result (λ _. depth (out_json out.now) ≤ 34) }
+{
+    let out = out_value(alloc, out)?;
+    let form = Form::new(alloc).value(alloc, "out", out)?;
+    let form = form.number(alloc, "done", done)?;
+    let form = form.number(alloc, "n", n)?;
+    form.number(alloc, "q", q)
+}
+
+fn session_or_null(alloc: Global, session: &Option<SessionId>) -> Result<Value, AllocError>
+    ensures json { IfOk result (λ made. view made ≡ session_or_null session.now) }
+    ensures form { IfOk result (λ _.
+        session_or_none (session_or_null session.now) ≡ Some session.now) }
+    ensures low { IfOk result (λ _. depth (session_or_null session.now) ≤ 1) }
+{
+    match session {
+        Some(session) => session.to_value(alloc),
+        None => Ok(Value::Null),
+    }
+}
+
+// The JSON value of a Fault without a stamp.
+fn plain_fault(alloc: Global, session: &Option<SessionId>, number: u8) -> Result<Value, AllocError>
+    ensures json { IfOk result (λ made. view made ≡ message (codes "fault")
+        ((codes "s", session_or_null session.now) ∷ (codes "code", whole number) ∷ [])) }
+    ensures form { IfOk result (λ _.
+        session_or_none (session_or_null session.now) ≡ Some session.now) }
+    ensures low { IfOk result (λ _. depth (session_or_null session.now) ≤ 1) }
+{
+    let session = session_or_null(alloc, session)?;
+    let form = Form::new(alloc).value(alloc, "s", session)?;
+    let form = form.value(alloc, "code", Value::from(number))?;
+    form.done(alloc, "fault")
+}
+
+// The JSON value of a Fault with the client's last stamp.
+fn old_fault(
+    alloc: Global,
+    session: &Option<SessionId>,
+    number: u8,
+    last: Stamp,
+) -> Result<Value, AllocError>
+    ensures json { IfOk result (λ made. view made ≡ message (codes "fault")
+        ((codes "s", session_or_null session.now) ∷ (codes "code", whole number)
+        ∷ (codes "last", stamp_json last) ∷ [])) }
+    ensures form { IfOk result (λ _.
+        session_or_none (session_or_null session.now) ≡ Some session.now) }
+    ensures low { IfOk result (λ _. depth (session_or_null session.now) ≤ 1) }
+    ensures last { IfOk result (λ _. stamp_in (stamp_json last) ≡ Some last) }
+{
+    let last = last.to_value(alloc)?;
+    let form = Form::new(alloc).value(alloc, "last", last)?;
+    let form = form.value(alloc, "code", Value::from(number))?;
+    let session = session_or_null(alloc, session)?;
+    let form = form.value(alloc, "s", session)?;
+    form.done(alloc, "fault")
+}
+
+// The JSON value of a Fault.
+pub(crate) fn fault_value(
+    alloc: Global,
+    session: &Option<SessionId>,
+    code: Code,
+) -> Result<Value, AllocError>
+    ensures json { IfOk result (λ made. view made ≡ down_json (Down.Fault session.now code)) }
+    ensures form { IfOk result (λ _. HasForm (Down.Fault session.now code)) }
+    ensures low { IfOk result (λ _. depth (down_json (Down.Fault session.now code)) ≤ 127) }
+{
+    let number = code.number();
+    match &code {
+        Code::Old(last) => old_fault(alloc, session, number, *last),
+        _ => plain_fault(alloc, session, number),
+    }
+}
+
+// The JSON value of a message of this word that answers the message `q`, and tells no more.
+pub(crate) fn answer_value(
+    alloc: Global,
+    word: &str,
+    session: &SessionId,
+    r: Number,
+    z: Number,
+    q: Number,
+) -> Result<Value, AllocError>
+    ensures json { IfOk result (λ made. view made ≡ message word.now
+        ((codes "s", session_json session.now) ∷ (codes "r", whole r) ∷ (codes "z", whole z)
+        ∷ (codes "q", whole q) ∷ [])) }
+    ensures session { IfOk result (λ _.
+        session_of (session_json session.now) ≡ Some session.now) }
+    ensures r { IfOk result (λ _. message_number (whole r) ≡ Some r) }
+    ensures z { IfOk result (λ _. message_number (whole z) ≡ Some z) }
+    ensures q { IfOk result (λ _. message_number (whole q) ≡ Some q) }
+{
+    let form = Form::new(alloc).number(alloc, "q", q)?;
+    form.sent(alloc, word, session, r, z)
+}
+
+// The JSON value of a Denied.
+pub(crate) fn denied_value(
+    alloc: Global,
+    session: &SessionId,
+    r: Number,
+    z: Number,
+    q: Number,
+    why: Limit,
+) -> Result<Value, AllocError>
+    ensures json { IfOk result (λ made.
+        view made ≡ down_json (Down.Denied session.now r z q why)) }
+    ensures form { IfOk result (λ _. HasForm (Down.Denied session.now r z q why)) }
+{
+    let form = Form::new(alloc).value(alloc, "why", Value::from(why.number()))?;
+    let form = form.number(alloc, "q", q)?;
+    form.sent(alloc, "denied", session, r, z)
+}
+
+// The fields of a Snap that say which On it answers, and what stands there.
+pub(crate) fn place_form(
+    alloc: Global,
+    q: Number,
+    path: &Path,
+    value: &Tree,
+) -> Result<Form, AllocError>
+    ensures fields { IfOk result (λ made. members_view made.members.entries
+        ≡ members_of ((codes "q", whole q) ∷ (codes "path", path_json path.now)
+        ∷ (codes "value", json_of scalar_printing value.now) ∷ [])) }
+    ensures q { IfOk result (λ _. message_number (whole q) ≡ Some q) }
+    ensures path { IfOk result (λ _. path_of (path_json path.now) ≡ Some path.now) }
+    ensures value { IfOk result (λ _.
+        value_of (json_of scalar_printing value.now) ≡ Some value.now) }
+    ensures low { IfOk result (λ _. depth (json_of scalar_printing value.now) ≤ 33) }
+{
+    let value = tree_value(alloc, value)?;
+    let form = Form::new(alloc).value(alloc, "value", value)?;
+    let text = Value::String(path.text(alloc)?);
+    let form = form.value(alloc, "path", text)?;
+    form.number(alloc, "q", q)
+}
+
+// The JSON value of a Push.
+pub(crate) fn push_value(
+    alloc: Global,
+    session: &SessionId,
+    r: Number,
+    z: Number,
+    values: &Values,
+) -> Result<Value, AllocError>
+    ensures json { IfOk result (λ made.
+        view made ≡ down_json (Down.Push session.now r z values.now)) }
+    ensures form { IfOk result (λ _. HasForm (Down.Push session.now r z values.now)) }
+    ensures low { IfOk result (λ _. depth (down_json (Down.Push session.now r z values.now)) ≤ 127) }
+{
+    let values = values.to_value(alloc)?;
+    let form = Form::new(alloc).value(alloc, "values", values)?;
+    form.sent(alloc, "push", session, r, z)
+}
