@@ -61,8 +61,22 @@ abbrev pub start : ClientId → ℕ → State
 start client incarnation =
     record {
       session = record { client = client; incarnation = incarnation; attempt = 1 };
-      attempts = 0; phase = phase.Off; base = None; made = 0; sent = 0; answered = 0; heard = 0; taken = 0; seen = 0; requests = 0;
-      queue = []; watches = []; asks = []; sends = []; notices = [] }
+      attempts = 0;
+      phase = phase.Off;
+      base = None;
+      made = 0;
+      sent = 0;
+      answered = 0;
+      heard = 0;
+      taken = 0;
+      seen = 0;
+      requests = 0;
+      queue = [];
+      watches = [];
+      asks = [];
+      sends = [];
+      notices = [];
+    }
 
 abbrev pub is_online : Phase → Bool
 is_online phase.Online = true

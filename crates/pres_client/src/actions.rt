@@ -125,7 +125,8 @@ impl Client {
         requires message { no_message self.old ≡ false }
         requires no_write { is_write queued ≡ false }
         ensures ok { OnOk result (self.new ≡ record (enqueue self.old queued) {
-            watches = with_watch path (fresh request) self.old.watches }) }
+          watches = with_watch path (fresh request) self.old.watches;
+        }) }
         ensures err { OnErr result (self.new ≡ self.old) }
     {
         let sends = self.outgoing_of(&queued)?;

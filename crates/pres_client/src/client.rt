@@ -166,7 +166,11 @@ impl Client {
     {
         match self.phase {
             Phase::Online => self.mail.waiting().max(1),
-            Phase::Opening => self.watches.len().saturating_add(self.mail.waiting()).max(1),
+            Phase::Opening => self
+                .watches
+                .len()
+                .saturating_add(self.mail.waiting())
+                .max(1),
             Phase::Off => 1,
         }
     }

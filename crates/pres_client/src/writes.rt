@@ -93,11 +93,7 @@ impl Client {
     /// Puts the drafts at their places below the path, all of them or none. Refused, in this
     /// order: Spent, then as Write ManyPaths (above 256), TooDeep and Overlap (a place at or
     /// above another), Memory.
-    pub fn update(
-        &mut self,
-        path: Path,
-        places: Vec<(Path, Draft)>,
-    ) -> Result<u64, ClientFault>
+    pub fn update(&mut self, path: Path, places: Vec<(Path, Draft)>) -> Result<u64, ClientFault>
         ensures ok { IfOk result (Answers self.old (Call.Update path places) self.new) }
         ensures err { IfErr result (Refuses self.old (Call.Update path places) self.new) }
         ensures few { IsFew self.old self.new }

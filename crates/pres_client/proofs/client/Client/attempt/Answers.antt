@@ -22,14 +22,31 @@ returns-clause-ok c =
     let same : c.in-Some.ask.now ≡ c.in-Some-take.ask = search rules in
     let i = c.self.inside in
     let before : State =
-      record {
-        session = i.session; attempts = i.attempts; phase = i.phase; base = i.base; made = i.made; sent = i.sent; answered = i.answered; heard = i.heard; taken = i.taken; seen = i.seen; requests = i.requests;
-        queue = i.mail.queue; watches = i.watches; asks = i.asks; sends = i.mail.sends; notices = i.mail.notices } in
+    record {
+      session = i.session;
+      attempts = i.attempts;
+      phase = i.phase;
+      base = i.base;
+      made = i.made;
+      sent = i.sent;
+      answered = i.answered;
+      heard = i.heard;
+      taken = i.taken;
+      seen = i.seen;
+      requests = i.requests;
+      queue = i.mail.queue;
+      watches = i.watches;
+      asks = i.asks;
+      sends = i.mail.sends;
+      notices = i.mail.notices;
+    } in
     let queue : c.put.new.self.queue ≡ i.mail.queue ++ m ∷ [] = c.put.ensures.queue ∙ rw (c.reserve.ensures.queue, c.into_transaction.ensures) refl in
     let out : c.in_ok-sends.sends.items ≡ sent_now before m = c.in_ok-sends.ensures c.args.request ∙ (ap (λ a. sent_now s (try_of c.args.request a c.args.draft)) same ∙ ap (λ t. sent_now t m) (sym c.self.view_is)) in
     let sends : c.put.new.self.sends ≡ i.mail.sends ++ sent_now before m = c.put.ensures.sends ∙ rw (c.reserve.ensures.sends, out) refl in
     let notices : c.put.new.self.notices ≡ i.mail.notices = c.put.ensures.notices ∙ rw (c.reserve.ensures.notices, c.new.ensures.items) (append-nil i.mail.notices) in
     let sent : c.sent_with_one-sent.result ≡ (if is_online i.phase then i.made + 1 else i.sent) = c.sent_with_one-sent.ensures ∙ ap (λ t. if is_online t.phase then t.made + 1 else t.sent) (sym c.self.view_is) in
-    let fields = tried_fields before m c.args.request c.sent_with_one-sent.result c.put.new.self.queue c.put.new.self.sends c.put.new.self.notices c.take.new.self queue sends notices c.take.ensures.left sent in
-    (accepted, rw (tried s c.args.request c.args.draft (ask_of c.args.request s.asks) c.in-Some-take.ask found)
-    (fields ∙ ap (λ t. let d = make_write t m in record d { asks = without_ask c.args.request t.asks }) c.self.view_is))
+    let fields = tried_fields before m c.args.request c.sent_with_one-sent.result c.put.new.self.queue c.put.new.self.sends c.put.new.self.notices c.take.new.self queue sends notices c.take.ensures.left sent in (
+      accepted,
+      rw (tried s c.args.request c.args.draft (ask_of c.args.request s.asks) c.in-Some-take.ask found)
+          (fields ∙ ap (λ t. let d = make_write t m in record d { asks = without_ask c.args.request t.asks }) c.self.view_is),
+    )
