@@ -1,0 +1,340 @@
+//! Runs of two clients against a server. A run is a text of steps, one a line: a step and, behind
+//! `=> `, what it must say. A step is a client's name, a call and what it is given (`alice set /a 1`);
+//! or `carry`, which hands each message of both to the server, through its text, and each answer to
+//! its client; or `drop` and a client, whose messages come to the server, and whose connection is lost
+//! before it hears an answer; or `restart` and a number, with which alice begins an incarnation; or
+//! `value` and a path, which asks the server.
+
+use pres_client::{Answer, Client, Notice};
+use pres_server::{ClientId, Down, Input, Items, Moment, Number, Path, Server, Tree, Turn, Up};
+use pres_write::Draft;
+use serde_json::Value;
+use std::alloc::{AllocError, Global};
+use std::test::Fail;
+
+// Two clients.
+#[derive(Drop)]
+struct Pair {
+    alice: Client,
+    bob: Client,
+}
+
+// A client that begins the incarnation.
+fn client(alloc: Global, name: &str, incarnation: u64) -> Result<Client, Fail> {
+    let id = ClientId::parse(alloc, name)?;
+    let incarnation = Number::new(incarnation).ok_or("no number")?;
+    Ok(Client::new(alloc, id, incarnation))
+}
+
+impl Pair {
+    // The client of the name.
+    fn named(&mut self, name: &str) -> &mut Client {
+        if name == "alice" {
+            &mut self.alice
+        } else {
+            &mut self.bob
+        }
+    }
+
+    // An answer comes to its client.
+    fn deliver(&mut self, alloc: Global, answer: Down) -> Result<(), Fail> {
+        let session = answer.session().ok_or("no session")?;
+        let name = session.client.copy(alloc)?;
+        self.named(name.text()).receive(answer)?;
+        Ok(())
+    }
+
+    // All answers to a message come to their clients.
+    fn deliver_all(&mut self, alloc: Global, answers: &[Down], up: &Up) -> Result<(), Fail> {
+        for answer in answers {
+            self.deliver(alloc, named_for(alloc, answer, up)?)?;
+        }
+        Ok(())
+    }
+}
+
+// The server after an input, and what it answers.
+fn turn(alloc: Global, server: Server, input: Input) -> Result<(Server, Items<Down>), Fail> {
+    match server.prepare(input, Moment::at(1000)) {
+        Ok(Turn::Busy(busy)) => Ok(busy.done()?),
+        Ok(Turn::Quiet(server, answers)) => Ok((server, answers)),
+        Err((fault, server)) => {
+            let session = None;
+            let code = fault.code();
+            Ok((server, Items::one(alloc, Down::Fault { session, code })?))
+        }
+    }
+}
+
+// The message through its text.
+fn through_text(alloc: Global, up: &Up) -> Result<Input, Fail> {
+    let text = up.encode(alloc)?;
+    Ok(Input::Up(Up::decode(alloc, text.as_str())?))
+}
+
+// The answer to a message of the session: a Fault names it.
+fn named_for(alloc: Global, answer: &Down, up: &Up) -> Result<Down, AllocError> {
+    match answer {
+        Down::Fault { code, .. } => {
+            let session = Some(up.session().copy(alloc)?);
+            Ok(Down::Fault {
+                session,
+                code: *code,
+            })
+        }
+        _ => answer.copy(alloc),
+    }
+}
+
+// The server after the messages, each through its text.
+fn hand_over(
+    alloc: Global,
+    mut server: Server,
+    pair: &mut Pair,
+    sends: &[Up],
+) -> Result<Server, Fail> {
+    for up in sends {
+        let (after, answers) = turn(alloc, server, through_text(alloc, up)?)?;
+        server = after;
+        pair.deliver_all(alloc, answers.as_slice(), up)?;
+    }
+    Ok(server)
+}
+
+// The server after the client's messages and the loss of its connection. It hears no answer.
+fn dropped(alloc: Global, mut server: Server, client: &mut Client) -> Result<Server, Fail> {
+    let session = client.session().ok_or("no session")?.copy(alloc)?;
+    for up in client.take_sends().as_slice() {
+        let (after, _) = turn(alloc, server, through_text(alloc, up)?)?;
+        server = after;
+    }
+    let (server, _) = turn(alloc, server, Input::Lost(session))?;
+    client.lost()?;
+    Ok(server)
+}
+
+// The server after the messages of both clients, and after those that their answers ask for.
+fn carry(alloc: Global, mut server: Server, pair: &mut Pair) -> Result<Server, Fail> {
+    for _ in 0..2 {
+        let sends = pair.alice.take_sends();
+        server = hand_over(alloc, server, pair, sends.as_slice())?;
+        let sends = pair.bob.take_sends();
+        server = hand_over(alloc, server, pair, sends.as_slice())?;
+    }
+    Ok(server)
+}
+
+// The JSON of a text.
+fn json(alloc: Global, text: &str) -> Result<Value, Fail> {
+    Ok(Value::from_str(alloc, text)?)
+}
+
+// The draft of a text.
+fn draft(alloc: Global, text: &str) -> Result<Draft, Fail> {
+    let value = json(alloc, text)?;
+    Ok(Draft::from_value(alloc, &value)?)
+}
+
+// The value as a text.
+fn tree_text(alloc: Global, tree: &Tree) -> Result<String, AllocError> {
+    let value = tree.to_value(alloc)?;
+    value.to_string(alloc)
+}
+
+// A notice in words.
+fn notice_text(alloc: Global, notice: &Notice) -> Result<String, AllocError> {
+    match notice {
+        Notice::Done { request, number } => {
+            let number = number.get();
+            format!(in alloc; "done {request} at {number}")
+        }
+        Notice::Ask {
+            request,
+            attempt,
+            value,
+        } => {
+            let value = tree_text(alloc, value)?;
+            format!(in alloc; "ask {request} try {attempt} of {value}")
+        }
+        Notice::TooManyTries { request } => format!(in alloc; "too many tries {request}"),
+        Notice::Aborted { request } => format!(in alloc; "aborted {request}"),
+        Notice::Armed { request } => format!(in alloc; "armed {request}"),
+        Notice::ActionLost { request } => format!(in alloc; "lost {request}"),
+        Notice::Value { number, value, .. } => {
+            let number = number.get();
+            let value = tree_text(alloc, value)?;
+            format!(in alloc; "value {value} at {number}")
+        }
+        Notice::Connected(true) => format!(in alloc; "online"),
+        Notice::Connected(false) => format!(in alloc; "offline"),
+        Notice::Denied { request, .. } => format!(in alloc; "denied {request}"),
+        Notice::Faulted(code) => {
+            let code = code.number();
+            format!(in alloc; "fault {code}")
+        }
+    }
+}
+
+// The notices in words.
+fn notices_text(alloc: Global, notices: &[Notice]) -> Result<String, AllocError> {
+    let mut text = String::new(alloc);
+    for notice in notices {
+        if !text.is_empty() {
+            text.push_str(", ")?;
+        }
+        text.push_str(notice_text(alloc, notice)?.as_str())?;
+    }
+    Ok(text)
+}
+
+// The messages as texts.
+fn sends_text(alloc: Global, sends: &[Up]) -> Result<String, Fail> {
+    let mut text = String::new(alloc);
+    for up in sends {
+        text.push_str(up.encode(alloc)?.as_str())?;
+    }
+    Ok(text)
+}
+
+// What is shown of the path.
+fn view_text(alloc: Global, client: &Client, path: &str) -> Result<String, Fail> {
+    let path = Path::parse(alloc, path)?;
+    let Some((number, value)) = client.view(&path) else {
+        return Ok(String::from_str(alloc, "nothing")?);
+    };
+    let value = tree_text(alloc, value)?;
+    Ok(format!(in alloc; "{value} at {number}")?)
+}
+
+// The client puts the value at the path.
+fn set(alloc: Global, client: &mut Client, given: &str) -> Result<String, Fail> {
+    let (path, value) = given.split_once(' ').ok_or("no value")?;
+    let path = Path::parse(alloc, path)?;
+    let request = client.set(path, draft(alloc, value)?)?;
+    Ok(format!(in alloc; "{request}")?)
+}
+
+// The client leaves the value at the path.
+fn leave(alloc: Global, client: &mut Client, given: &str) -> Result<String, Fail> {
+    let (path, value) = given.split_once(' ').ok_or("no value")?;
+    let path = Path::parse(alloc, path)?;
+    let request = client.on_disconnect_set(path, draft(alloc, value)?)?;
+    Ok(format!(in alloc; "{request}")?)
+}
+
+// The client answers its transaction.
+fn answer(alloc: Global, client: &mut Client, given: &str) -> Result<String, Fail> {
+    let (request, value) = given.split_once(' ').ok_or("no value")?;
+    client.answer(request.parse()?, Answer::New(draft(alloc, value)?))?;
+    Ok(String::new(alloc))
+}
+
+// A call with a path, or with more.
+fn call_with(alloc: Global, client: &mut Client, word: &str, given: &str) -> Result<String, Fail> {
+    match word {
+        "set" => set(alloc, client, given),
+        "leave" => leave(alloc, client, given),
+        "answer" => answer(alloc, client, given),
+        "view" => view_text(alloc, client, given),
+        "listen" => {
+            let request = client.listen(Path::parse(alloc, given)?)?;
+            Ok(format!(in alloc; "{request}")?)
+        }
+        "unlisten" => {
+            client.unlisten(&Path::parse(alloc, given)?)?;
+            Ok(String::new(alloc))
+        }
+        "transact" => {
+            let request = client.transact(Path::parse(alloc, given)?)?;
+            Ok(format!(in alloc; "{request}")?)
+        }
+        _ => Err("no such call")?,
+    }
+}
+
+// A call without anything.
+fn call(alloc: Global, client: &mut Client, word: &str) -> Result<String, Fail> {
+    match word {
+        "online" => client.go_online()?,
+        "offline" => client.go_offline()?,
+        "lost" => client.lost()?,
+        "resend" => client.resend()?,
+        "notices" => return Ok(notices_text(alloc, client.take_notices().as_slice())?),
+        "sends" => return sends_text(alloc, client.take_sends().as_slice()),
+        _ => Err("no such call")?,
+    }
+    Ok(String::new(alloc))
+}
+
+// What a client says to a call.
+fn called(alloc: Global, client: &mut Client, text: &str) -> Result<String, Fail> {
+    match text.split_once(' ') {
+        Some((word, given)) => call_with(alloc, client, word, given),
+        None => call(alloc, client, text),
+    }
+}
+
+// The value that the server holds at the path.
+fn value(alloc: Global, server: &Server, path: &str) -> Result<String, Fail> {
+    let path = Path::parse(alloc, path)?;
+    match server.value_at(&path) {
+        Some(tree) => Ok(tree_text(alloc, tree)?),
+        None => Ok(String::from_str(alloc, "null")?),
+    }
+}
+
+// The server after a step, and what is said.
+fn step(
+    alloc: Global,
+    server: Server,
+    pair: &mut Pair,
+    text: &str,
+) -> Result<(Server, String), Fail> {
+    match text.split_once(' ') {
+        Some(("value", path)) => {
+            let said = value(alloc, &server, path)?;
+            Ok((server, said))
+        }
+        Some(("drop", name)) => {
+            let server = dropped(alloc, server, pair.named(name))?;
+            Ok((server, String::new(alloc)))
+        }
+        Some(("restart", number)) => {
+            pair.alice = client(alloc, "alice", number.parse()?)?;
+            Ok((server, String::new(alloc)))
+        }
+        Some((name, text)) => {
+            let said = called(alloc, pair.named(name), text)?;
+            Ok((server, said))
+        }
+        None => Ok((carry(alloc, server, pair)?, String::new(alloc))),
+    }
+}
+
+// What is wrong, with a step that says something else than is wanted.
+fn noted(mut wrong: String, case: &str, said: &str, wanted: &str) -> Result<String, Fail> {
+    if said != wanted {
+        wrong.push_str(case)?;
+        wrong.push_str(" => ")?;
+        wrong.push_str(said)?;
+        wrong.push('\n')?;
+    }
+    Ok(wrong)
+}
+
+// The steps of the run that say something else than they must, each with that.
+pub(crate) fn wrong_in(alloc: Global, run: &str) -> Result<String, Fail> {
+    let mut server = Server::new(alloc);
+    let mut wrong = String::new(alloc);
+    let mut pair = Pair {
+        alice: client(alloc, "alice", 1)?,
+        bob: client(alloc, "bob", 1)?,
+    };
+    for text in run.split('\n') {
+        let (case, wanted) = text.split_once(" => ").unwrap_or((text, ""));
+        let (after, said) = step(alloc, server, &mut pair, case)?;
+        server = after;
+        wrong = noted(wrong, case, said.as_str(), wanted)?;
+    }
+    Ok(wrong)
+}
