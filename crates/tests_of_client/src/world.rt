@@ -1,11 +1,11 @@
 //! Runs of two clients against a server. A run is a text of steps, one a line: a step and, behind
-//! `=> `, what it must say. A step is a client's name, a call and what it is given (`alice set /a 1`);
-//! or `carry`, which hands each message of both to the server, through its text, and each answer to
-//! its client; or `drop` and a client, whose messages come to the server, and whose connection is lost
+//! `=> `, what it must say. A step is a client's name, a call and what it is given (`alice set /a 1`,
+//! or `alice receive` and the text of a message); or `carry`, which hands each message of both to the
+//! server and each answer to its client, through their texts; or `drop` and a client, whose messages come to the server, and whose connection is lost
 //! before it hears an answer; or `restart` and a number, with which alice begins an incarnation; or
 //! `value` and a path, which asks the server.
 
-use pres_client::{Answer, Client, Notice};
+use pres_client::{Answer, Client, ClientFault, Notice};
 use pres_server::{ClientId, Down, Input, Items, Moment, Number, Path, Server, Tree, Turn, Up};
 use pres_write::Draft;
 use serde_json::Value;
@@ -26,6 +26,13 @@ fn client(alloc: Global, name: &str, incarnation: u64) -> Result<Client, Fail> {
     Ok(Client::new(alloc, id, incarnation))
 }
 
+// The client receives the message of the text.
+fn receive(alloc: Global, client: &mut Client, text: &str) -> Result<(), Fail> {
+    let message = Down::decode(alloc, text)?;
+    client.receive(message)?;
+    Ok(())
+}
+
 impl Pair {
     // The client of the name.
     fn named(&mut self, name: &str) -> &mut Client {
@@ -36,12 +43,12 @@ impl Pair {
         }
     }
 
-    // An answer comes to its client.
+    // An answer comes to its client, through its text.
     fn deliver(&mut self, alloc: Global, answer: Down) -> Result<(), Fail> {
         let session = answer.session().ok_or("no session")?;
         let name = session.client.copy(alloc)?;
-        self.named(name.text()).receive(answer)?;
-        Ok(())
+        let text = answer.encode(alloc)?;
+        receive(alloc, self.named(name.text()), text.as_str())
     }
 
     // All answers to a message come to their clients.
@@ -206,6 +213,20 @@ fn view_text(alloc: Global, client: &Client, path: &str) -> Result<String, Fail>
     Ok(format!(in alloc; "{value} at {number}")?)
 }
 
+// A refusal in words.
+fn refused(alloc: Global, fault: ClientFault) -> Result<String, Fail> {
+    let number = fault.number();
+    Ok(format!(in alloc; "refused {number}")?)
+}
+
+// A request, or its refusal, in words.
+fn said_by(alloc: Global, request: Result<u64, ClientFault>) -> Result<String, Fail> {
+    match request {
+        Ok(request) => Ok(format!(in alloc; "{request}")?),
+        Err(fault) => refused(alloc, fault),
+    }
+}
+
 // The client puts the value at the path.
 fn set(alloc: Global, client: &mut Client, given: &str) -> Result<String, Fail> {
     let (path, value) = given.split_once(' ').ok_or("no value")?;
@@ -218,15 +239,20 @@ fn set(alloc: Global, client: &mut Client, given: &str) -> Result<String, Fail> 
 fn leave(alloc: Global, client: &mut Client, given: &str) -> Result<String, Fail> {
     let (path, value) = given.split_once(' ').ok_or("no value")?;
     let path = Path::parse(alloc, path)?;
-    let request = client.on_disconnect_set(path, draft(alloc, value)?)?;
-    Ok(format!(in alloc; "{request}")?)
+    said_by(alloc, client.on_disconnect_set(path, draft(alloc, value)?))
 }
 
 // The client answers its transaction.
 fn answer(alloc: Global, client: &mut Client, given: &str) -> Result<String, Fail> {
     let (request, value) = given.split_once(' ').ok_or("no value")?;
-    client.answer(request.parse()?, Answer::New(draft(alloc, value)?))?;
-    Ok(String::new(alloc))
+    let given = match value {
+        "abort" => Answer::Abort,
+        _ => Answer::New(draft(alloc, value)?),
+    };
+    match client.answer(request.parse()?, given) {
+        Ok(()) => Ok(String::new(alloc)),
+        Err(fault) => refused(alloc, fault),
+    }
 }
 
 // A call with a path, or with more.
@@ -236,18 +262,21 @@ fn call_with(alloc: Global, client: &mut Client, word: &str, given: &str) -> Res
         "leave" => leave(alloc, client, given),
         "answer" => answer(alloc, client, given),
         "view" => view_text(alloc, client, given),
-        "listen" => {
-            let request = client.listen(Path::parse(alloc, given)?)?;
-            Ok(format!(in alloc; "{request}")?)
+        "receive" => {
+            receive(alloc, client, given)?;
+            Ok(String::new(alloc))
         }
+        "listen" => said_by(alloc, client.listen(Path::parse(alloc, given)?)),
+        "cancel" => said_by(
+            alloc,
+            client.on_disconnect_cancel(Path::parse(alloc, given)?),
+        ),
+        "remove" => said_by(alloc, client.remove(Path::parse(alloc, given)?)),
         "unlisten" => {
             client.unlisten(&Path::parse(alloc, given)?)?;
             Ok(String::new(alloc))
         }
-        "transact" => {
-            let request = client.transact(Path::parse(alloc, given)?)?;
-            Ok(format!(in alloc; "{request}")?)
-        }
+        "transact" => said_by(alloc, client.transact(Path::parse(alloc, given)?)),
         _ => Err("no such call")?,
     }
 }
@@ -259,6 +288,7 @@ fn call(alloc: Global, client: &mut Client, word: &str) -> Result<String, Fail> 
         "offline" => client.go_offline()?,
         "lost" => client.lost()?,
         "resend" => client.resend()?,
+        "beat" => client.beat()?,
         "notices" => return Ok(notices_text(alloc, client.take_notices().as_slice())?),
         "sends" => return sends_text(alloc, client.take_sends().as_slice()),
         _ => Err("no such call")?,
