@@ -1,5 +1,5 @@
 -- A transaction that asks is answered with a draft.
-use Rattle.std.proofs.Common.{ℕ, ◌≡◌, ◌+◌, ◌||◌, ◌++◌, List, [], ◌∷◌, false, Option, Some, None, refl, ap, if◌then◌else◌}
+use Rattle.std.proofs.Common.{ℕ, ◌≡◌, ◌+◌, ◌++◌, List, [], ◌∷◌, false, Option, Some, None, refl, ap, if◌then◌else◌}
 use Rattle.pres_tree.specs.Rows.{Rows}
 use Rattle.pres_write.specs.declared.draft.Slot.{Slot}
 use Rattle.pres_wire.specs.declared.up.Up.{Up}

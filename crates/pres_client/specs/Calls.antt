@@ -1,5 +1,5 @@
 -- What each call makes of a client, and why it is refused.
-use Rattle.std.specs.Prelude.{◌≡◌, ◌≤◌, ◌+◌, ◌&&◌, ◌||◌, ℕ, Bool, true, false, not, List, [], ◌∷◌, ◌++◌, length, filter, Option, Some, None, if◌then◌else◌, nat_le, nat_lt, option_map, unwrap_or}
+use Rattle.std.specs.Prelude.{◌≡◌, ◌≤◌, ◌+◌, ◌&&◌, ◌||◌, ℕ, Bool, false, not, List, [], ◌∷◌, ◌++◌, length, filter, Option, Some, None, if◌then◌else◌, nat_le, nat_lt, option_map, unwrap_or}
 use Rattle.std.specs.List.{filter_map}
 use Rattle.std.specs.Option.{is_some}
 use Rattle.pres_tree.specs.declared.fault.TreeFault.TheVariants.{TooDeep}
@@ -13,7 +13,7 @@ use Rattle.pres_write.specs.declared.op.Op.{Op}
 use Rattle.pres_write.specs.declared.op.Op.TheVariants as op
 use Rattle.pres_write.specs.declared.unconditional.Unconditional.{Unconditional}
 use Rattle.pres_write.specs.declared.unconditional.Unconditional.TheVariants as unconditional
-use Rattle.pres_write.specs.Transactions.{Comparison, comparison}
+use Rattle.pres_write.specs.Transactions.{comparison}
 use Rattle.pres_write.specs.Updates.{update_of, update_fault}
 use Rattle.pres_wire.specs.declared.down.Code.{Code}
 use Rattle.pres_wire.specs.declared.up.Up.{Up}
@@ -215,6 +215,25 @@ after_call c call.GoOffline = after_go_offline c
 after_call c call.Lost = drop_session c
 after_call c call.Beat = after_beat c
 after_call c call.Resend = record c { sends = c.sends ++ outgoing c }
+
+-- the request that a call answers
+abbrev pub request_of : State → Call → Option ℕ
+request_of c (call.Set p draft) = Some (c.requests + 1)
+request_of c (call.Update p places) = Some (c.requests + 1)
+request_of c (call.Remove p) = Some (c.requests + 1)
+request_of c (call.Transact p) = Some (c.requests + 1)
+request_of c (call.Answer k given) = None
+request_of c (call.OnDisconnectSet p draft) = Some (c.requests + 1)
+request_of c (call.OnDisconnectUpdate p places) = Some (c.requests + 1)
+request_of c (call.OnDisconnectRemove p) = Some (c.requests + 1)
+request_of c (call.OnDisconnectCancel p) = Some (c.requests + 1)
+request_of c (call.Listen p) = Some (c.requests + 1)
+request_of c (call.Unlisten p) = None
+request_of c call.GoOnline = None
+request_of c call.GoOffline = None
+request_of c call.Lost = None
+request_of c call.Beat = None
+request_of c call.Resend = None
 
 -- ---- what calls promise
 

@@ -1,6 +1,5 @@
 -- A client as plain data: what it waits for, what it shows, and what it has to hand out.
 use Rattle.std.specs.Prelude.{◌≡◌, ◌+◌, ◌≤◌, ◌==◌, ℕ, Bool, true, false, List, [], ◌∷◌, map, length, max, Option, Some, None, if◌then◌else◌, unwrap_or, nat_le, not, filter}
-use Rattle.std.specs.List.{list_any}
 use Rattle.std.specs.Ordering.{nat_cmp}
 use Rattle.std.specs.FinMap.Entries.{find, put}
 use Rattle.pres_tree.specs.declared.scalar.Scalar.{Scalar}

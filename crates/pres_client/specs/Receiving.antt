@@ -17,7 +17,6 @@ use Rattle.pres_wire.specs.declared.down.Down.TheVariants as down
 use Rattle.pres_wire.specs.declared.values.PathValue.{PathValue}
 use Rattle.pres_wire.specs.Ids.{same_session}
 use Rattle.pres_wire.specs.Numbers.{greatest_number}
-use Rattle.pres_client.specs.declared.ask.Ask.{Ask}
 use Rattle.pres_client.specs.declared.client.Phase.TheVariants as phase
 use Rattle.pres_client.specs.declared.notice.Notice.{Notice}
 use Rattle.pres_client.specs.declared.notice.Notice.TheVariants as notice

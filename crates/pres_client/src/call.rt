@@ -1,5 +1,10 @@
 //! The calls of a client as values.
 
+ghost use Rattle.std.specs.Prelude.{◌≡◌, IfOk, IfErr, OnOk};
+ghost use Rattle.pres_client.specs.Calls.{Does, Refuses, IsFew, request_of};
+
+use crate::client::Client;
+use crate::fault::ClientFault;
 use pres_tree::Path;
 use pres_write::Draft;
 
@@ -31,4 +36,57 @@ pub enum Call {
     Lost,
     Beat,
     Resend,
+}
+
+impl Client {
+    /// Makes the call: the request that it answers, none where it answers none. Refused as the
+    /// call is.
+    pub fn make(&mut self, call: Call) -> Result<Option<u64>, ClientFault>
+        ensures ok { OnOk result (Does self.old call self.new) }
+        ensures request { IfOk result (λ k. k ≡ request_of self.old call) }
+        ensures err { IfErr result (Refuses self.old call self.new) }
+        ensures few { IsFew self.old self.new }
+    {
+        match call {
+            Call::Set(path, draft) => Ok(Some(self.set(path, draft)?)),
+            Call::Update(path, places) => Ok(Some(self.update(path, places)?)),
+            Call::Remove(path) => Ok(Some(self.remove(path)?)),
+            Call::Transact(path) => Ok(Some(self.transact(path)?)),
+            Call::OnDisconnectSet(path, draft) => Ok(Some(self.on_disconnect_set(path, draft)?)),
+            Call::OnDisconnectUpdate(path, places) => {
+                Ok(Some(self.on_disconnect_update(path, places)?))
+            }
+            Call::OnDisconnectRemove(path) => Ok(Some(self.on_disconnect_remove(path)?)),
+            Call::OnDisconnectCancel(path) => Ok(Some(self.on_disconnect_cancel(path)?)),
+            Call::Listen(path) => Ok(Some(self.listen(path)?)),
+            Call::Answer(request, answer) => {
+                self.answer(request, answer)?;
+                Ok(None)
+            }
+            Call::Unlisten(path) => {
+                self.unlisten(&path)?;
+                Ok(None)
+            }
+            Call::GoOnline => {
+                self.go_online()?;
+                Ok(None)
+            }
+            Call::GoOffline => {
+                self.go_offline()?;
+                Ok(None)
+            }
+            Call::Lost => {
+                self.lost()?;
+                Ok(None)
+            }
+            Call::Beat => {
+                self.beat()?;
+                Ok(None)
+            }
+            Call::Resend => {
+                self.resend()?;
+                Ok(None)
+            }
+        }
+    }
 }

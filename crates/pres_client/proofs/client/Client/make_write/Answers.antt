@@ -1,5 +1,5 @@
 use Rattle.std.proofs.Common.{ap, sym, ◌∙◌}
-use Rattle.pres_client.specs.Clients.{State, is_online, no_message, no_write}
+use Rattle.pres_client.specs.Clients.{is_online, no_message, no_write}
 use Rattle.pres_client.proofs.Ranges.{in_range-write, below}
 use Rattle.pres_client.proofs.client.Client.make_write.Goals as goal
 
