@@ -22,16 +22,16 @@ pub struct Ask {
 }
 
 impl Ask {
-    /// Whether data is nested too deep for the try that the draft makes.
-    pub fn is_too_deep(&self, draft: &Draft) -> bool
+    // Whether data is nested too deep for the try that the draft makes.
+    pub(crate) fn is_too_deep(&self, draft: &Draft) -> bool
         ensures { result ≡ is_too_deep self.now draft.now }
     {
         let room = MAX_DEPTH - self.path.len();
         self.value.depth() > room || draft.depth() > room
     }
 
-    /// The transaction that puts the draft in the place of the value.
-    pub fn into_transaction(self, draft: Draft) -> Transaction
+    // The transaction that puts the draft in the place of the value.
+    pub(crate) fn into_transaction(self, draft: Draft) -> Transaction
         requires { is_too_deep self draft ≡ false }
         ensures { result ≡ comparison self.path self.value draft }
     {
@@ -42,8 +42,8 @@ impl Ask {
         transaction
     }
 
-    /// The same of copies.
-    pub fn transaction(&self, alloc: Global, draft: &Draft) -> Result<Transaction, AllocError>
+    // The same of copies.
+    pub(crate) fn transaction(&self, alloc: Global, draft: &Draft) -> Result<Transaction, AllocError>
         requires { is_too_deep self.now draft.now ≡ false }
         ensures { IfOk result (λ t. t ≡ comparison self.now.path self.now.value draft.now) }
     {
@@ -56,10 +56,10 @@ impl Ask {
     }
 }
 
-/// The transactions that wait, by their requests. Contracts see the list of them, in the order of
-/// their requests.
+// The transactions that wait, by their requests. Contracts see the list of them, in the order of
+// their requests.
 #[derive(Drop)]
-pub struct Asks {
+pub(crate) struct Asks {
     by_request: BTreeMap<u64, Ask>,
 }
 
@@ -77,8 +77,8 @@ impl Model for Asks {
 }
 
 impl Asks {
-    /// None waits.
-    pub fn new(alloc: Global) -> Asks
+    // None waits.
+    pub(crate) fn new(alloc: Global) -> Asks
         ensures { result ≡ [] }
     {
         Asks {
@@ -86,15 +86,15 @@ impl Asks {
         }
     }
 
-    /// The one with the request.
-    pub fn get(&self, request: u64) -> Option<&Ask>
+    // The one with the request.
+    pub(crate) fn get(&self, request: u64) -> Option<&Ask>
         ensures { option_copied result ≡ ask_of request self.now }
     {
         self.by_request.get(&request)
     }
 
-    /// It waits, in the place of one with its request.
-    pub fn add(&mut self, request: u64, ask: Ask) -> Result<(), AllocError>
+    // It waits, in the place of one with its request.
+    pub(crate) fn add(&mut self, request: u64, ask: Ask) -> Result<(), AllocError>
         ensures ok { OnOk result (self.new ≡ with_ask request ask self.old) }
         ensures err { OnErr result (self.new ≡ self.old) }
     {
@@ -102,8 +102,8 @@ impl Asks {
         Ok(())
     }
 
-    /// The one with the request waits no more.
-    pub fn take(&mut self, request: u64) -> Option<Ask>
+    // The one with the request waits no more.
+    pub(crate) fn take(&mut self, request: u64) -> Option<Ask>
         ensures ask { result ≡ ask_of request self.old }
         ensures left { self.new ≡ without_ask request self.old }
     {

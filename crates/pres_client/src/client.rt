@@ -27,15 +27,15 @@ pub enum Phase {
 }
 
 impl Phase {
-    /// Whether the session is open.
-    pub fn is_online(self) -> bool
+    // Whether the session is open.
+    pub(crate) fn is_online(self) -> bool
         ensures { result ≡ is_online self }
     {
         matches!(self, Phase::Online)
     }
 
-    /// Whether a Hello waits for its Welcome.
-    pub fn is_opening(self) -> bool
+    // Whether a Hello waits for its Welcome.
+    pub(crate) fn is_opening(self) -> bool
         ensures { result ≡ is_opening self }
     {
         matches!(self, Phase::Opening)

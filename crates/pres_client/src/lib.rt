@@ -15,12 +15,11 @@ mod receive;
 mod watch;
 mod writes;
 
-pub use ask::{Ask, Asks};
+pub use ask::Ask;
 pub use call::{Answer, Call};
 pub use client::{Client, Phase};
 pub use fault::ClientFault;
-pub use mail::Mail;
 pub use notice::Notice;
 pub use queued::Queued;
 pub use receive::MOST_TRIES;
-pub use watch::{Shown, Watch, Watches};
+pub use watch::{Shown, Watch};

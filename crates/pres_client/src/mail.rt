@@ -16,11 +16,11 @@ use std::alloc::{AllocError, Global};
 use std::collections::VecDeque;
 use std::marker::Model;
 
-/// The messages that wait for their answers, oldest first, the messages that wait to be sent, and
-/// the notices that wait to be read. Contracts see the three lists, and the room that each has for
-/// more.
+// The messages that wait for their answers, oldest first, the messages that wait to be sent, and
+// the notices that wait to be read. Contracts see the three lists, and the room that each has for
+// more.
 #[derive(Drop)]
-pub struct Mail {
+pub(crate) struct Mail {
     alloc: Global,
     queue: VecDeque<Queued>,
     sends: Vec<Up>,
@@ -104,8 +104,8 @@ fn add_lost(notices: &mut Vec<Notice>, queue: &VecDeque<Queued>) -> Result<(), A
 }
 
 impl Mail {
-    /// Nothing waits.
-    pub fn new(alloc: Global) -> Mail
+    // Nothing waits.
+    pub(crate) fn new(alloc: Global) -> Mail
         ensures queue { result.queue ≡ [] }
         ensures sends { result.sends ≡ [] }
         ensures notices { result.notices ≡ [] }
@@ -118,8 +118,8 @@ impl Mail {
         }
     }
 
-    /// Makes room for so many more of each.
-    pub fn reserve(&mut self, queue: usize, sends: usize, notices: usize) -> Result<(), AllocError>
+    // Makes room for so many more of each.
+    pub(crate) fn reserve(&mut self, queue: usize, sends: usize, notices: usize) -> Result<(), AllocError>
         ensures queue { self.new.queue ≡ self.old.queue }
         ensures sends { self.new.sends ≡ self.old.sends }
         ensures notices { self.new.notices ≡ self.old.notices }
@@ -130,8 +130,8 @@ impl Mail {
         self.notices.reserve(notices)
     }
 
-    /// A message waits for its answer, and these wait too, in room that was made for them.
-    pub fn put(&mut self, queued: Queued, sends: Vec<Up>, notices: Vec<Notice>)
+    // A message waits for its answer, and these wait too, in room that was made for them.
+    pub(crate) fn put(&mut self, queued: Queued, sends: Vec<Up>, notices: Vec<Notice>)
         requires { HasRoom self.old 1 (length sends.items) (length notices.items) }
         ensures queue { self.new.queue ≡ self.old.queue ++ queued ∷ [] }
         ensures sends { self.new.sends ≡ self.old.sends ++ sends.items }
@@ -141,8 +141,8 @@ impl Mail {
         self.put_out(sends, notices);
     }
 
-    /// The messages and notices wait, in room that was made for them.
-    pub fn put_out(&mut self, mut sends: Vec<Up>, mut notices: Vec<Notice>)
+    // The messages and notices wait, in room that was made for them.
+    pub(crate) fn put_out(&mut self, mut sends: Vec<Up>, mut notices: Vec<Notice>)
         requires sends { length sends.items ≤ self.old.sends_room }
         requires notices { length notices.items ≤ self.old.notices_room }
         ensures queue { self.new.queue ≡ self.old.queue }
@@ -154,8 +154,8 @@ impl Mail {
         let _noted = self.notices.append(&mut notices);
     }
 
-    /// The messages and notices wait: all of them, or none where memory is refused.
-    pub fn add(&mut self, sends: Vec<Up>, notices: Vec<Notice>) -> Result<(), AllocError>
+    // The messages and notices wait: all of them, or none where memory is refused.
+    pub(crate) fn add(&mut self, sends: Vec<Up>, notices: Vec<Notice>) -> Result<(), AllocError>
         ensures queue { self.new.queue ≡ self.old.queue }
         ensures sends { OnOk result (self.new.sends ≡ self.old.sends ++ sends.items) }
         ensures notices { OnOk result (self.new.notices ≡ self.old.notices ++ notices.items) }
@@ -167,9 +167,9 @@ impl Mail {
         Ok(())
     }
 
-    /// A message waits for its answer, and these go out: all of them, or none where memory is
-    /// refused.
-    pub fn push(&mut self, queued: Queued, sends: Vec<Up>) -> Result<(), AllocError>
+    // A message waits for its answer, and these go out: all of them, or none where memory is
+    // refused.
+    pub(crate) fn push(&mut self, queued: Queued, sends: Vec<Up>) -> Result<(), AllocError>
         ensures notices { self.new.notices ≡ self.old.notices }
         ensures queue { OnOk result (self.new.queue ≡ self.old.queue ++ queued ∷ []) }
         ensures sends { OnOk result (self.new.sends ≡ self.old.sends ++ sends.items) }
@@ -181,22 +181,22 @@ impl Mail {
         Ok(())
     }
 
-    /// How many messages wait for an answer.
-    pub fn waiting(&self) -> usize
+    // How many messages wait for an answer.
+    pub(crate) fn waiting(&self) -> usize
         ensures { result ≡ length self.now.queue }
     {
         self.queue.len()
     }
 
-    /// The messages that wait for their answers, oldest first.
-    pub fn queue(&self) -> &VecDeque<Queued>
+    // The messages that wait for their answers, oldest first.
+    pub(crate) fn queue(&self) -> &VecDeque<Queued>
         ensures { result.now.items ≡ self.now.queue }
     {
         &self.queue
     }
 
-    /// The oldest of them leaves.
-    pub fn pop(&mut self) -> Option<Queued>
+    // The oldest of them leaves.
+    pub(crate) fn pop(&mut self) -> Option<Queued>
         ensures head { (m : Message) → (rest : List Message) → self.old.queue ≡ m ∷ rest → result ≡ Some m }
         ensures queue { self.new.queue ≡ drop 1 self.old.queue }
         ensures sends { self.new.sends ≡ self.old.sends }
@@ -207,8 +207,8 @@ impl Mail {
         self.queue.pop_front()
     }
 
-    /// Only the writes wait on.
-    pub fn keep_writes(&mut self)
+    // Only the writes wait on.
+    pub(crate) fn keep_writes(&mut self)
         ensures queue { self.new.queue ≡ filter is_write self.old.queue }
         ensures sends { self.new.sends ≡ self.old.sends }
         ensures notices { self.new.notices ≡ self.old.notices }
@@ -216,15 +216,15 @@ impl Mail {
         self.queue.retain(|queued| queued.is_write());
     }
 
-    /// Whether a message after the oldest listens to the path.
-    pub fn listens_later(&self, path: &Path) -> bool
+    // Whether a message after the oldest listens to the path.
+    pub(crate) fn listens_later(&self, path: &Path) -> bool
         ensures { result ≡ list_any (is_on path.now) (drop 1 self.now.queue) }
     {
         self.queue.iter().skip(1).any(|queued| queued.is_on(path))
     }
 
-    /// The notices of a session that is left, with the fault that ends it.
-    pub fn farewell(&self, fault: Option<Code>) -> Result<Vec<Notice>, AllocError>
+    // The notices of a session that is left, with the fault that ends it.
+    pub(crate) fn farewell(&self, fault: Option<Code>) -> Result<Vec<Notice>, AllocError>
         ensures { IfOk result (λ v. v.items ≡ farewell fault self.now.queue) }
     {
         let mut notices = Vec::new(self.alloc);
@@ -236,8 +236,8 @@ impl Mail {
         Ok(notices)
     }
 
-    /// The messages that wait for their answers, with their numbers, of which these are the first.
-    pub fn messages(&self, session: &SessionId, q: u64, n: u64) -> Result<Vec<Up>, AllocError>
+    // The messages that wait for their answers, with their numbers, of which these are the first.
+    pub(crate) fn messages(&self, session: &SessionId, q: u64, n: u64) -> Result<Vec<Up>, AllocError>
         requires q { MayNumber q (length self.now.queue) }
         requires n { MayNumber n (count_writes self.now.queue) }
         ensures { IfOk result (λ v. v.items ≡ messages session.now q n self.now.queue) }
@@ -247,9 +247,9 @@ impl Mail {
         Ok(sends)
     }
 
-    /// The session is open: these messages go before those that wait, and all go out, the write
-    /// that has waited longest as number `n`. All of it is done, or nothing where memory is refused.
-    pub fn open(
+    // The session is open: these messages go before those that wait, and all go out, the write
+    // that has waited longest as number `n`. All of it is done, or nothing where memory is refused.
+    pub(crate) fn open(
         &mut self,
         session: &SessionId,
         n: u64,
@@ -278,8 +278,8 @@ impl Mail {
         Ok(())
     }
 
-    /// The messages that were not handed out yet. They leave.
-    pub fn take_sends(&mut self) -> Vec<Up>
+    // The messages that were not handed out yet. They leave.
+    pub(crate) fn take_sends(&mut self) -> Vec<Up>
         ensures given { result.items ≡ self.old.sends }
         ensures sends { self.new.sends ≡ [] }
         ensures queue { self.new.queue ≡ self.old.queue }
@@ -288,8 +288,8 @@ impl Mail {
         std::mem::replace(&mut self.sends, Vec::new(self.alloc))
     }
 
-    /// The notices that were not read yet. They leave.
-    pub fn take_notices(&mut self) -> Vec<Notice>
+    // The notices that were not read yet. They leave.
+    pub(crate) fn take_notices(&mut self) -> Vec<Notice>
         ensures given { result.items ≡ self.old.notices }
         ensures notices { self.new.notices ≡ [] }
         ensures queue { self.new.queue ≡ self.old.queue }

@@ -23,8 +23,8 @@ pub enum Shown {
 }
 
 impl Shown {
-    /// The number and the value, where the last message that was taken has the number `seen`.
-    pub fn at(&self, seen: Count) -> Option<(u64, &Tree)>
+    // The number and the value, where the last message that was taken has the number `seen`.
+    pub(crate) fn at(&self, seen: Count) -> Option<(u64, &Tree)>
         ensures { MatchOption result
             (shown_at seen self.now ≡ None)
             (λ v. shown_at seen self.now ≡ Some (v.0, v.1.now)) }
@@ -36,15 +36,15 @@ impl Shown {
         }
     }
 
-    /// Whether this session told it.
-    pub fn is_live(&self) -> bool
+    // Whether this session told it.
+    pub(crate) fn is_live(&self) -> bool
         ensures { result ≡ is_shown_live self.now }
     {
         matches!(self, Shown::Live { .. })
     }
 
-    /// What stays of it when the session is left at the number.
-    pub fn kept(self, seen: Count) -> Shown
+    // What stays of it when the session is left at the number.
+    pub(crate) fn kept(self, seen: Count) -> Shown
         ensures { result ≡ kept seen self }
     {
         match self {
@@ -65,9 +65,9 @@ pub struct Watch {
     pub shown: Shown,
 }
 
-/// The paths that are listened to. Contracts see the list of them, in path order.
+// The paths that are listened to. Contracts see the list of them, in path order.
 #[derive(Drop)]
-pub struct Watches {
+pub(crate) struct Watches {
     alloc: Global,
     by_path: BTreeMap<Path, Watch>,
 }
@@ -86,8 +86,8 @@ impl Model for Watches {
 }
 
 impl Watches {
-    /// No path is listened to.
-    pub fn new(alloc: Global) -> Watches
+    // No path is listened to.
+    pub(crate) fn new(alloc: Global) -> Watches
         ensures { result ≡ [] }
     {
         Watches {
@@ -96,23 +96,23 @@ impl Watches {
         }
     }
 
-    /// How many paths.
-    pub fn len(&self) -> usize
+    // How many paths.
+    pub(crate) fn len(&self) -> usize
         ensures len { result ≡ length self.now }
         ensures fits { length self.now < 2 ^ 63 }
     {
         self.by_path.len()
     }
 
-    /// That of the path.
-    pub fn get(&self, path: &Path) -> Option<&Watch>
+    // That of the path.
+    pub(crate) fn get(&self, path: &Path) -> Option<&Watch>
         ensures { option_copied result ≡ watch_of path.now self.now }
     {
         self.by_path.get(path)
     }
 
-    /// Whether this session told a value of the path.
-    pub fn is_live(&self, path: &Path) -> bool
+    // Whether this session told a value of the path.
+    pub(crate) fn is_live(&self, path: &Path) -> bool
         ensures { result ≡ is_live (watch_of path.now self.now) }
     {
         match self.get(path) {
@@ -121,8 +121,8 @@ impl Watches {
         }
     }
 
-    /// The path is listened to for the request, in the place of what was there.
-    pub fn add(&mut self, path: Path, request: u64) -> Result<(), AllocError>
+    // The path is listened to for the request, in the place of what was there.
+    pub(crate) fn add(&mut self, path: Path, request: u64) -> Result<(), AllocError>
         ensures ok { OnOk result (self.new ≡ with_watch path (fresh request) self.old) }
         ensures err { OnErr result (self.new ≡ self.old) }
     {
@@ -134,15 +134,15 @@ impl Watches {
         Ok(())
     }
 
-    /// The path isn't listened to any more.
-    pub fn remove(&mut self, path: &Path)
+    // The path isn't listened to any more.
+    pub(crate) fn remove(&mut self, path: &Path)
         ensures { self.new ≡ without_watch path.now self.old }
     {
         drop(self.by_path.remove(path));
     }
 
-    /// This session told the value of the path, where that is listened to.
-    pub fn tell(&mut self, path: &Path, value: Tree)
+    // This session told the value of the path, where that is listened to.
+    pub(crate) fn tell(&mut self, path: &Path, value: Tree)
         ensures { self.new ≡ tell path.now value self.old }
     {
         let Some(watch) = self.by_path.get_mut(path) else {
@@ -152,8 +152,8 @@ impl Watches {
         drop(std::mem::replace(&mut watch.shown, Shown::Live { value }));
     }
 
-    /// The session is left at the number: what it showed stays.
-    pub fn freeze(&mut self, seen: Count)
+    // The session is left at the number: what it showed stays.
+    pub(crate) fn freeze(&mut self, seen: Count)
         ensures { self.new ≡ frozen seen self.old }
     {
         self.by_path.retain(|_path, watch| {
@@ -163,8 +163,8 @@ impl Watches {
         });
     }
 
-    /// A listen for each path, in path order.
-    pub fn listens(&self) -> Result<VecDeque<Queued>, AllocError>
+    // A listen for each path, in path order.
+    pub(crate) fn listens(&self) -> Result<VecDeque<Queued>, AllocError>
         ensures { IfOk result (λ q. q.items ≡ map on_of self.now) }
     {
         let mut listens = VecDeque::new(self.alloc);
