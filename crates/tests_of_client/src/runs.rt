@@ -273,6 +273,27 @@ alice receive {"done":26,"m":"reply","n":25,"out":{"stale":25},"q":25,"r":25,"s"
 alice notices => too many tries 1
 alice answer 1 0 => refused 3"#;
 
+// Updates are written all or none, now and at the end of a session, and the client says how much
+// waits.
+const UPDATES: &str = r#"alice state => closed, 0 unanswered, at most 1 to send
+alice online
+alice state => closed, 1 unanswered, at most 1 to send
+carry
+alice state => open, 0 unanswered, at most 1 to send
+alice update /a /b 1;/c 2 => 1
+alice leave_update /a /b 3;/d 4 => 2
+alice leave_null /a/c => 3
+alice update /a /b 1;/b/c 2 => refused 5
+alice leave_update /a /b 1;/b 2 => refused 5
+alice state => open, 3 unanswered, at most 3 to send
+carry
+alice state => open, 0 unanswered, at most 1 to send
+alice notices => online, done 1 at 2, armed 2, armed 3
+value /a => {"b":1,"c":2}
+alice offline
+carry
+value /a => {"b":3,"d":4}"#;
+
 #[test]
 fn a_queue_goes_out_at_the_welcome(rt: HostRuntime) -> Result<(), Fail> {
     let wrong = wrong_in(rt.alloc(), BEFORE_ONLINE)?;
@@ -353,6 +374,13 @@ fn refusals_are_noted(rt: HostRuntime) -> Result<(), Fail> {
 #[test]
 fn tries_have_an_end(rt: HostRuntime) -> Result<(), Fail> {
     let wrong = wrong_in(rt.alloc(), TRIES)?;
+    assert_eq!(rt; wrong.as_str(), "");
+    Ok(())
+}
+
+#[test]
+fn updates_are_whole(rt: HostRuntime) -> Result<(), Fail> {
+    let wrong = wrong_in(rt.alloc(), UPDATES)?;
     assert_eq!(rt; wrong.as_str(), "");
     Ok(())
 }

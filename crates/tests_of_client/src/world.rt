@@ -5,7 +5,7 @@
 //! before it hears an answer; or `restart` and a number, with which alice begins an incarnation; or
 //! `value` and a path, which asks the server.
 
-use pres_client::{Answer, Client, ClientFault, Notice};
+use pres_client::{Answer, Call, Client, ClientFault, Notice};
 use pres_server::{ClientId, Down, Input, Items, Moment, Number, Path, Server, Tree, Turn, Up};
 use pres_write::Draft;
 use serde_json::Value;
@@ -219,88 +219,144 @@ fn refused(alloc: Global, fault: ClientFault) -> Result<String, Fail> {
     Ok(format!(in alloc; "refused {number}")?)
 }
 
-// A request, or its refusal, in words.
-fn said_by(alloc: Global, request: Result<u64, ClientFault>) -> Result<String, Fail> {
-    match request {
-        Ok(request) => Ok(format!(in alloc; "{request}")?),
-        Err(fault) => refused(alloc, fault),
+// ---- calls of texts
+
+// A path and the draft at it, of a text such as `/a 1`.
+fn placed(alloc: Global, given: &str) -> Result<(Path, Draft), Fail> {
+    let (path, value) = given.split_once(' ').ok_or("no value")?;
+    let path = Path::parse(alloc, path)?;
+    let draft = draft(alloc, value)?;
+    Ok((path, draft))
+}
+
+// Drafts at places, of a text such as `/a 1;/b 2`.
+fn all_placed(alloc: Global, given: &str) -> Result<Vec<(Path, Draft)>, Fail> {
+    let mut places = Vec::new(alloc);
+    for place in given.split(';') {
+        places.push(placed(alloc, place)?)?;
+    }
+    Ok(places)
+}
+
+// The same below a path, which comes first.
+fn below(alloc: Global, given: &str) -> Result<(Path, Vec<(Path, Draft)>), Fail> {
+    let (path, places) = given.split_once(' ').ok_or("no places")?;
+    let path = Path::parse(alloc, path)?;
+    let places = all_placed(alloc, places)?;
+    Ok((path, places))
+}
+
+// The answer to a transaction.
+fn answer_of(alloc: Global, value: &str) -> Result<Answer, Fail> {
+    match value {
+        "abort" => Ok(Answer::Abort),
+        _ => Ok(Answer::New(draft(alloc, value)?)),
     }
 }
 
-// The client puts the value at the path.
-fn set(alloc: Global, client: &mut Client, given: &str) -> Result<String, Fail> {
-    let (path, value) = given.split_once(' ').ok_or("no value")?;
-    let path = Path::parse(alloc, path)?;
-    let request = client.set(path, draft(alloc, value)?)?;
-    Ok(format!(in alloc; "{request}")?)
-}
-
-// The client leaves the value at the path.
-fn leave(alloc: Global, client: &mut Client, given: &str) -> Result<String, Fail> {
-    let (path, value) = given.split_once(' ').ok_or("no value")?;
-    let path = Path::parse(alloc, path)?;
-    said_by(alloc, client.on_disconnect_set(path, draft(alloc, value)?))
-}
-
-// The client answers its transaction.
-fn answer(alloc: Global, client: &mut Client, given: &str) -> Result<String, Fail> {
+// The call that answers a transaction.
+fn answering(alloc: Global, given: &str) -> Result<Call, Fail> {
     let (request, value) = given.split_once(' ').ok_or("no value")?;
-    let given = match value {
-        "abort" => Answer::Abort,
-        _ => Answer::New(draft(alloc, value)?),
-    };
-    match client.answer(request.parse()?, given) {
-        Ok(()) => Ok(String::new(alloc)),
+    let request = request.parse()?;
+    Ok(Call::Answer(request, answer_of(alloc, value)?))
+}
+
+// The call with a path alone.
+fn at_path(word: &str, path: Path) -> Result<Call, Fail> {
+    match word {
+        "remove" => Ok(Call::Remove(path)),
+        "transact" => Ok(Call::Transact(path)),
+        "leave_null" => Ok(Call::OnDisconnectRemove(path)),
+        "cancel" => Ok(Call::OnDisconnectCancel(path)),
+        "listen" => Ok(Call::Listen(path)),
+        "unlisten" => Ok(Call::Unlisten(path)),
+        _ => Err("no such call")?,
+    }
+}
+
+// The call with what it is given.
+fn call_with(alloc: Global, word: &str, given: &str) -> Result<Call, Fail> {
+    match word {
+        "set" => {
+            let (path, draft) = placed(alloc, given)?;
+            Ok(Call::Set(path, draft))
+        }
+        "leave" => {
+            let (path, draft) = placed(alloc, given)?;
+            Ok(Call::OnDisconnectSet(path, draft))
+        }
+        "update" => {
+            let (path, places) = below(alloc, given)?;
+            Ok(Call::Update(path, places))
+        }
+        "leave_update" => {
+            let (path, places) = below(alloc, given)?;
+            Ok(Call::OnDisconnectUpdate(path, places))
+        }
+        "answer" => answering(alloc, given),
+        _ => at_path(word, Path::parse(alloc, given)?),
+    }
+}
+
+// The call that is given nothing.
+fn bare_call(word: &str) -> Result<Call, Fail> {
+    match word {
+        "online" => Ok(Call::GoOnline),
+        "offline" => Ok(Call::GoOffline),
+        "lost" => Ok(Call::Lost),
+        "resend" => Ok(Call::Resend),
+        "beat" => Ok(Call::Beat),
+        _ => Err("no such call")?,
+    }
+}
+
+// What the client answers the call: its request, nothing, or its refusal.
+fn made(alloc: Global, client: &mut Client, call: Call) -> Result<String, Fail> {
+    match client.make(call) {
+        Ok(Some(request)) => Ok(format!(in alloc; "{request}")?),
+        Ok(None) => Ok(String::new(alloc)),
         Err(fault) => refused(alloc, fault),
     }
 }
 
-// A call with a path, or with more.
-fn call_with(alloc: Global, client: &mut Client, word: &str, given: &str) -> Result<String, Fail> {
+// ---- what a client is asked
+
+// Whether the client has a session, how many of its messages have no answer, and how many the next
+// call makes at the most.
+fn state_text(alloc: Global, client: &Client) -> Result<String, AllocError> {
+    let word = if client.connected() { "open" } else { "closed" };
+    let waiting = client.unanswered();
+    let most = client.most_sends();
+    format!(in alloc; "{word}, {waiting} unanswered, at most {most} to send")
+}
+
+// What a client says that is given something.
+fn said_with(alloc: Global, client: &mut Client, word: &str, given: &str) -> Result<String, Fail> {
     match word {
-        "set" => set(alloc, client, given),
-        "leave" => leave(alloc, client, given),
-        "answer" => answer(alloc, client, given),
         "view" => view_text(alloc, client, given),
         "receive" => {
             receive(alloc, client, given)?;
             Ok(String::new(alloc))
         }
-        "listen" => said_by(alloc, client.listen(Path::parse(alloc, given)?)),
-        "cancel" => said_by(
-            alloc,
-            client.on_disconnect_cancel(Path::parse(alloc, given)?),
-        ),
-        "remove" => said_by(alloc, client.remove(Path::parse(alloc, given)?)),
-        "unlisten" => {
-            client.unlisten(&Path::parse(alloc, given)?)?;
-            Ok(String::new(alloc))
-        }
-        "transact" => said_by(alloc, client.transact(Path::parse(alloc, given)?)),
-        _ => Err("no such call")?,
+        _ => made(alloc, client, call_with(alloc, word, given)?),
     }
 }
 
-// A call without anything.
-fn call(alloc: Global, client: &mut Client, word: &str) -> Result<String, Fail> {
+// What a client says.
+fn said(alloc: Global, client: &mut Client, word: &str) -> Result<String, Fail> {
     match word {
-        "online" => client.go_online()?,
-        "offline" => client.go_offline()?,
-        "lost" => client.lost()?,
-        "resend" => client.resend()?,
-        "beat" => client.beat()?,
-        "notices" => return Ok(notices_text(alloc, client.take_notices().as_slice())?),
-        "sends" => return sends_text(alloc, client.take_sends().as_slice()),
-        _ => Err("no such call")?,
+        "notices" => Ok(notices_text(alloc, client.take_notices().as_slice())?),
+        "sends" => sends_text(alloc, client.take_sends().as_slice()),
+        "state" => Ok(state_text(alloc, client)?),
+        _ => made(alloc, client, bare_call(word)?),
     }
-    Ok(String::new(alloc))
 }
 
-// What a client says to a call.
+// What a client says to a step.
 fn called(alloc: Global, client: &mut Client, text: &str) -> Result<String, Fail> {
     match text.split_once(' ') {
-        Some((word, given)) => call_with(alloc, client, word, given),
-        None => call(alloc, client, text),
+        Some((word, given)) => said_with(alloc, client, word, given),
+        None => said(alloc, client, text),
     }
 }
 
