@@ -94,11 +94,15 @@ fn sessions_of_a_client(rt: HostRuntime) -> Result<(), Fail> {
 
 fn session_in(alloc: Global, text: &str) -> Result<Option<SessionId>, Fail> {
     let value = Value::from_str(alloc, text)?;
-    Ok(SessionId::from_value(alloc, &value)?)
+    let session = SessionId::from_value(alloc, &value);
+    drop(value);
+    Ok(session?)
 }
 
 fn json_text(alloc: Global, value: Value) -> Result<String, Fail> {
-    Ok(value.to_string(alloc)?)
+    let text = value.to_string(alloc);
+    drop(value);
+    Ok(text?)
 }
 
 // The JSON of the session and of its stamp.
@@ -118,19 +122,22 @@ fn session_answer(alloc: Global, text: &str) -> Result<String, Fail> {
 
 // ---- messages to the server
 
-fn message_text(alloc: Global, message: &Up) -> Result<String, Fail> {
-    Ok(message.encode(alloc)?)
+fn message_text(alloc: Global, message: Up) -> Result<String, Fail> {
+    let text = message.encode(alloc);
+    drop(message);
+    Ok(text?)
 }
 
-fn copied_text(alloc: Global, message: &Up) -> Result<String, Fail> {
-    let copied = message.copy(alloc)?;
-    message_text(alloc, &copied)
+fn copied_text(alloc: Global, message: Up) -> Result<String, Fail> {
+    let copied = message.copy(alloc);
+    drop(message);
+    message_text(alloc, copied?)
 }
 
 // The text that the message of a text is printed as.
 fn printed_again(alloc: Global, text: &str) -> Result<String, Fail> {
     let message = Up::decode(alloc, text)?;
-    copied_text(alloc, &message)
+    copied_text(alloc, message)
 }
 
 // The text that the message of a text is printed as, or `same`.
@@ -459,9 +466,16 @@ fn long_texts_are_refused_first(rt: HostRuntime) -> Result<(), Fail> {
 
 // ---- messages to clients
 
-fn printed(alloc: Global, message: &Down) -> Result<String, Fail> {
-    let copied = message.copy(alloc)?;
-    Ok(copied.encode(alloc)?)
+fn encoded(alloc: Global, message: Down) -> Result<String, Fail> {
+    let text = message.encode(alloc);
+    drop(message);
+    Ok(text?)
+}
+
+fn printed(alloc: Global, message: Down) -> Result<String, Fail> {
+    let copied = message.copy(alloc);
+    drop(message);
+    encoded(alloc, copied?)
 }
 
 fn welcome_text(alloc: Global) -> Result<String, Fail> {
@@ -470,7 +484,7 @@ fn welcome_text(alloc: Global) -> Result<String, Fail> {
         z: number(1),
         ops: Count::zero(),
     };
-    printed(alloc, &message)
+    printed(alloc, message)
 }
 
 // What a reply's write came to: it wrote, or it was stale over a number.
@@ -498,7 +512,7 @@ fn reply_text(
         done: number(z),
         out: kept(held),
     };
-    printed(alloc, &message)
+    printed(alloc, message)
 }
 
 fn gone_text(alloc: Global) -> Result<String, Fail> {
@@ -508,7 +522,7 @@ fn gone_text(alloc: Global) -> Result<String, Fail> {
         z: number(6),
         why: Why::Lost,
     };
-    printed(alloc, &message)
+    printed(alloc, message)
 }
 
 fn armed_text(alloc: Global) -> Result<String, Fail> {
@@ -518,7 +532,7 @@ fn armed_text(alloc: Global) -> Result<String, Fail> {
         z: number(6),
         q: number(2),
     };
-    printed(alloc, &message)
+    printed(alloc, message)
 }
 
 fn denied_text(alloc: Global, why: Limit) -> Result<String, Fail> {
@@ -529,7 +543,7 @@ fn denied_text(alloc: Global, why: Limit) -> Result<String, Fail> {
         q: number(2),
         why,
     };
-    printed(alloc, &message)
+    printed(alloc, message)
 }
 
 // A value at `/a`: the number, or null.
@@ -544,7 +558,7 @@ fn snap_text(alloc: Global, held: Option<i64>) -> Result<String, Fail> {
         path,
         value: value(held),
     };
-    printed(alloc, &message)
+    printed(alloc, message)
 }
 
 // The number, or null.
@@ -587,7 +601,7 @@ fn push_text(alloc: Global, values: Values) -> Result<String, Fail> {
         z: number(3),
         values,
     };
-    printed(alloc, &message)
+    printed(alloc, message)
 }
 
 fn off_done_text(alloc: Global) -> Result<String, Fail> {
@@ -597,7 +611,7 @@ fn off_done_text(alloc: Global) -> Result<String, Fail> {
         z: number(4),
         q: number(2),
     };
-    printed(alloc, &message)
+    printed(alloc, message)
 }
 
 fn old_text(alloc: Global) -> Result<String, Fail> {
@@ -605,7 +619,7 @@ fn old_text(alloc: Global) -> Result<String, Fail> {
         session: Some(session(alloc, "a")?),
         code: Code::Old(stamp(1, 1)),
     };
-    printed(alloc, &message)
+    printed(alloc, message)
 }
 
 fn bad_text(alloc: Global) -> Result<String, Fail> {
@@ -613,7 +627,7 @@ fn bad_text(alloc: Global) -> Result<String, Fail> {
         session: None,
         code: Code::Bad,
     };
-    printed(alloc, &message)
+    printed(alloc, message)
 }
 
 // The text of the message to a client that the case names.
@@ -701,7 +715,7 @@ fn replies_are_printed(rt: HostRuntime) -> Result<(), Fail> {
 
 fn read_text(alloc: Global, text: &str) -> Result<String, Fail> {
     let message = Down::decode(alloc, text)?;
-    printed(alloc, &message)
+    printed(alloc, message)
 }
 
 // The text that the message to a client of a text is printed as, or `same`.

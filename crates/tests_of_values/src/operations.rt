@@ -5,7 +5,7 @@ ghost use Rattle.std.specs.Prelude.{IfOk};
 ghost use Rattle.pres_write.specs.Basics.{Apart};
 ghost use Rattle.pres_write.specs.Outcomes.{writes_in};
 
-use pres_tree::{Path, Tree, TreeFault};
+use pres_tree::{Path, Scalar, Tree, TreeFault};
 use pres_write::{
     Basic, Draft, Items, Kept, Moment, Op, Outcome, Placement, Puts, Transaction, Unconditional,
     WriteFault, apply, apply_all, apply_owned, copy_writes,
@@ -29,9 +29,16 @@ enum Table {
     Puts,
 }
 
-fn printed(alloc: Global, tree: &Tree) -> Result<String, Fail> {
-    let value = tree.to_value(alloc)?;
-    Ok(value.to_string(alloc)?)
+fn json_text(alloc: Global, value: Value) -> Result<String, Fail> {
+    let text = value.to_string(alloc);
+    drop(value);
+    Ok(text?)
+}
+
+fn printed(alloc: Global, tree: Tree) -> Result<String, Fail> {
+    let value = tree.to_value(alloc);
+    drop(tree);
+    json_text(alloc, value?)
 }
 
 fn value_of(alloc: Global, text: &str) -> Result<Value, Fail> {
@@ -40,36 +47,48 @@ fn value_of(alloc: Global, text: &str) -> Result<Value, Fail> {
 
 fn tree_of(alloc: Global, text: &str) -> Result<Tree, Fail> {
     let value = value_of(alloc, text)?;
-    Ok(Tree::from_value(alloc, &value)?)
+    let tree = Tree::from_value(alloc, &value);
+    drop(value);
+    Ok(tree?)
 }
 
 fn draft_of(alloc: Global, text: &str) -> Result<Draft, Fail> {
     let value = value_of(alloc, text)?;
-    Ok(Draft::from_value(alloc, &value)?)
+    let draft = Draft::from_value(alloc, &value);
+    drop(value);
+    Ok(draft?)
 }
 
 fn op_of(alloc: Global, text: &str) -> Result<Op, Fail> {
     let value = value_of(alloc, text)?;
-    Ok(Op::from_value(alloc, &value)?)
+    let op = Op::from_value(alloc, &value);
+    drop(value);
+    Ok(op?)
 }
 
 fn fault_of(alloc: Global, text: &str) -> Result<Option<WriteFault>, Fail> {
     let value = value_of(alloc, text)?;
-    Ok(Op::from_value(alloc, &value).err())
+    let op = Op::from_value(alloc, &value);
+    drop(value);
+    Ok(op.err())
 }
 
 fn resolved(alloc: Global, op: &Op) -> Result<Outcome, Fail>
     ensures { IfOk result (λ outcome. Apart (writes_in outcome)) }
 {
     let tree = Tree::empty();
-    Ok(op.resolve(alloc, &tree, Moment::at(5))?)
+    let outcome = op.resolve(alloc, &tree, Moment::at(5));
+    drop(tree);
+    Ok(outcome?)
 }
 
 fn outcome_of(alloc: Global, op: &Op) -> Result<Outcome, Fail>
     ensures { IfOk result (λ outcome. Apart (writes_in outcome)) }
 {
     let outcome = resolved(alloc, op)?;
-    Ok(outcome.copy(alloc)?)
+    let copied = outcome.copy(alloc);
+    drop(outcome);
+    Ok(copied?)
 }
 
 // What the operation writes on the empty tree at the moment 5.
@@ -78,28 +97,48 @@ fn writes_of(alloc: Global, op: &Op) -> Result<Items<Basic>, Fail>
 {
     match outcome_of(alloc, op)? {
         Outcome::Wrote(writes) => Ok(writes),
-        Outcome::Stale(_) => Err("stale")?,
+        Outcome::Stale(held) => {
+            drop(held);
+            Err("stale")?
+        }
+    }
+}
+
+// The tree that the writes left.
+fn left_by_writes(
+    alloc: Global,
+    tree: Tree,
+    applied: Result<(), WriteFault>,
+) -> Result<String, Fail> {
+    match applied {
+        Ok(()) => printed(alloc, tree),
+        Err(refused) => {
+            drop(tree);
+            Err(refused)?
+        }
     }
 }
 
 fn left(alloc: Global, op: &Op) -> Result<String, Fail> {
     let writes = writes_of(alloc, op)?;
     let mut tree = Tree::empty();
-    apply(alloc, &mut tree, writes.as_slice())?;
-    printed(alloc, &tree)
+    let applied = apply(alloc, &mut tree, writes.as_slice());
+    drop(writes);
+    left_by_writes(alloc, tree, applied)
 }
 
 fn left_together(alloc: Global, op: &Op) -> Result<String, Fail> {
+    let writes = writes_of(alloc, op)?;
     let mut tree = Tree::empty();
-    apply_all(alloc, &mut tree, writes_of(alloc, op)?)?;
-    printed(alloc, &tree)
+    let applied = apply_all(alloc, &mut tree, writes);
+    left_by_writes(alloc, tree, applied)
 }
 
 fn left_moved(alloc: Global, op: &Op) -> Result<String, Fail> {
-    let mut tree = Tree::empty();
     let writes = writes_of(alloc, op)?.into_vec();
-    apply_owned(alloc, &mut tree, Items::of(writes))?;
-    printed(alloc, &tree)
+    let mut tree = Tree::empty();
+    let applied = apply_owned(alloc, &mut tree, Items::of(writes));
+    left_by_writes(alloc, tree, applied)
 }
 
 // The tree that the operation leaves, which each way to apply its writes has to leave.
@@ -114,24 +153,28 @@ fn carried_out(alloc: Global, op: &Op) -> Result<String, Fail> {
     Ok(text)
 }
 
-fn form_of(alloc: Global, op: &Op) -> Result<String, Fail> {
-    let value = op.to_value(alloc)?;
-    Ok(value.to_string(alloc)?)
+fn form_of(alloc: Global, op: Op) -> Result<String, Fail> {
+    let value = op.to_value(alloc);
+    drop(op);
+    json_text(alloc, value?)
 }
 
-fn copied_form(alloc: Global, op: &Op) -> Result<String, Fail> {
-    let copied = op.copy(alloc)?;
-    form_of(alloc, &copied)
+fn copied_form(alloc: Global, op: Op) -> Result<String, Fail> {
+    let copied = op.copy(alloc);
+    drop(op);
+    form_of(alloc, copied?)
 }
 
 fn left_by(alloc: Global, text: &str) -> Result<String, Fail> {
     let op = op_of(alloc, text)?;
-    carried_out(alloc, &op)
+    let said = carried_out(alloc, &op);
+    drop(op);
+    said
 }
 
 fn again(alloc: Global, text: &str) -> Result<String, Fail> {
     let op = op_of(alloc, text)?;
-    copied_form(alloc, &op)
+    copied_form(alloc, op)
 }
 
 // The tree that the operation leaves, and the operation as it is printed.
@@ -196,33 +239,53 @@ fn compare(alloc: Global, expect: &str) -> Result<Op, Fail> {
     op_of(alloc, text.as_str())
 }
 
+// What the operation comes to on the tree.
+fn resolved_there(alloc: Global, op: Op, tree: Result<Tree, Fail>) -> Result<Outcome, Fail> {
+    match tree {
+        Ok(tree) => {
+            let outcome = op.resolve_owned(alloc, &tree, Moment::at(5));
+            drop(tree);
+            Ok(outcome?)
+        }
+        Err(fail) => {
+            drop(op);
+            Err(fail)
+        }
+    }
+}
+
 fn compared(alloc: Global, expect: &str) -> Result<Outcome, Fail> {
-    let tree = tree_of(alloc, r#"{"n":{"0":1,"2":{"a":"x"}}}"#)?;
-    Ok(compare(alloc, expect)?.resolve_owned(alloc, &tree, Moment::at(5))?)
+    let op = compare(alloc, expect)?;
+    let tree = tree_of(alloc, r#"{"n":{"0":1,"2":{"a":"x"}}}"#);
+    resolved_there(alloc, op, tree)
 }
 
 fn kept_of(alloc: Global, expect: &str) -> Result<Kept, Fail> {
     let outcome = compared(alloc, expect)?;
-    Ok(outcome.kept(alloc)?)
+    let kept = outcome.kept(alloc);
+    drop(outcome);
+    Ok(kept?)
 }
 
 fn copied_kept(alloc: Global, expect: &str) -> Result<Kept, Fail> {
     let kept = kept_of(alloc, expect)?;
-    Ok(kept.copy(alloc)?)
+    let copied = kept.copy(alloc);
+    drop(kept);
+    Ok(copied?)
 }
 
 // The value held where a transaction is stale, or none.
 fn held(alloc: Global, expect: &str) -> Result<String, Fail> {
     match copied_kept(alloc, expect)? {
-        Kept::Stale(Some(held)) => printed(alloc, &held),
+        Kept::Stale(Some(held)) => printed(alloc, held),
         Kept::Stale(None) => Err("null")?,
         Kept::Wrote => Ok(String::from_str(alloc, "none")?),
     }
 }
 
 fn basic_of(alloc: Global, path: &str, value: &str) -> Result<Result<Basic, TreeFault>, Fail> {
-    let tree = tree_of(alloc, value)?;
     let path = Path::parse(alloc, path)?;
+    let tree = tree_of(alloc, value)?;
     Ok(Basic::new(path, Some(tree)))
 }
 
@@ -230,7 +293,7 @@ fn write_text(alloc: Global, write: &Basic) -> Result<String, Fail> {
     let mut text = write.path().text(alloc)?;
     text.push(' ')?;
     match write.value() {
-        Some(value) => text.push_str(printed(alloc, value)?.as_str())?,
+        Some(value) => text.push_str(printed(alloc, value.copy(alloc)?)?.as_str())?,
         None => text.push_str("none")?,
     }
     Ok(text)
@@ -239,7 +302,9 @@ fn write_text(alloc: Global, write: &Basic) -> Result<String, Fail> {
 // Copies of the write alone.
 fn copies_of(alloc: Global, write: Basic) -> Result<Items<Basic>, Fail> {
     let one = Items::one(alloc, write)?;
-    Ok(copy_writes(alloc, one.as_slice())?)
+    let copies = copy_writes(alloc, one.as_slice());
+    drop(one);
+    Ok(copies?)
 }
 
 // The first of copies of the write alone.
@@ -258,15 +323,15 @@ fn write_of(alloc: Global, case: &str) -> Result<String, Fail> {
 }
 
 fn placed(alloc: Global, path: &str, value: &str) -> Result<Op, Fail> {
-    let draft = draft_of(alloc, value)?;
     let path = Path::parse(alloc, path)?;
+    let draft = draft_of(alloc, value)?;
     Ok(Op::Set(Placement::new(path, draft)?))
 }
 
 fn expecting(alloc: Global, path: &str, value: &str) -> Result<Op, Fail> {
-    let draft = draft_of(alloc, value)?;
-    let expect = tree_of(alloc, "1")?;
     let path = Path::parse(alloc, path)?;
+    let draft = draft_of(alloc, value)?;
+    let expect = Tree::scalar(Scalar::Int(1));
     Ok(Op::Tx(Transaction::new(path, expect, draft)?))
 }
 
@@ -274,31 +339,51 @@ fn expecting(alloc: Global, path: &str, value: &str) -> Result<Op, Fail> {
 fn set_form(alloc: Global, case: &str) -> Result<String, Fail> {
     let (path, value) = case.split_once(' ').ok_or("no value")?;
     let op = placed(alloc, path, value)?;
-    form_of(alloc, &op)
+    form_of(alloc, op)
 }
 
 // The transaction that expects 1 at a path, as it is printed.
 fn tx_form(alloc: Global, case: &str) -> Result<String, Fail> {
     let (path, value) = case.split_once(' ').ok_or("no value")?;
     let op = expecting(alloc, path, value)?;
-    form_of(alloc, &op)
+    form_of(alloc, op)
 }
 
 fn unconditional_of(alloc: Global, text: &str) -> Result<Option<Unconditional>, Fail> {
     let value = value_of(alloc, text)?;
-    Ok(Unconditional::from_value(alloc, &value)?)
+    let op = Unconditional::from_value(alloc, &value);
+    drop(value);
+    Ok(op?)
 }
 
-fn copied_unconditional(alloc: Global, op: &Unconditional) -> Result<Unconditional, Fail> {
-    let value = op.to_value(alloc)?;
-    let again = Unconditional::from_value(alloc, &value)?.ok_or("a transaction")?;
-    Ok(again.copy(alloc)?)
+// The same, printed and read again.
+fn read_again(alloc: Global, op: Unconditional) -> Result<Unconditional, Fail> {
+    let value = op.to_value(alloc);
+    drop(op);
+    let value = value?;
+    let again = Unconditional::from_value(alloc, &value);
+    drop(value);
+    Ok(again?.ok_or("a transaction")?)
 }
 
-fn puts_of(alloc: Global, op: &Unconditional) -> Result<Puts, Fail> {
+fn copied_unconditional(alloc: Global, op: Unconditional) -> Result<Unconditional, Fail> {
+    let again = read_again(alloc, op)?;
+    let copied = again.copy(alloc);
+    drop(again);
+    Ok(copied?)
+}
+
+fn copied_puts(alloc: Global, puts: Puts) -> Result<Puts, Fail> {
+    let copied = puts.copy(alloc);
+    drop(puts);
+    Ok(copied?)
+}
+
+fn puts_of(alloc: Global, op: Unconditional) -> Result<Puts, Fail> {
     let op = copied_unconditional(alloc, op)?;
-    let puts = op.puts(alloc)?;
-    Ok(puts.copy(alloc)?)
+    let puts = op.puts(alloc);
+    drop(op);
+    copied_puts(alloc, puts?)
 }
 
 fn put_text(alloc: Global, put: &Placement) -> Result<String, Fail> {
@@ -307,7 +392,7 @@ fn put_text(alloc: Global, put: &Placement) -> Result<String, Fail> {
     Ok(format!(in alloc; " {path} {value}")?)
 }
 
-fn puts_text(alloc: Global, op: &Unconditional) -> Result<String, Fail> {
+fn puts_text(alloc: Global, op: Unconditional) -> Result<String, Fail> {
     let puts = puts_of(alloc, op)?.into_items();
     let mut said = String::from_str(alloc, "puts")?;
     for put in puts.as_slice() {
@@ -319,7 +404,7 @@ fn puts_text(alloc: Global, op: &Unconditional) -> Result<String, Fail> {
 // What the operation puts where, which is left for a disconnection.
 fn put_by(alloc: Global, text: &str) -> Result<String, Fail> {
     match unconditional_of(alloc, text)? {
-        Some(op) => puts_text(alloc, &op),
+        Some(op) => puts_text(alloc, op),
         None => Ok(String::from_str(alloc, "transaction")?),
     }
 }

@@ -171,24 +171,44 @@ fn keys_are_displayed(rt: HostRuntime) -> Result<(), Fail> {
     Ok(())
 }
 
-fn printed(alloc: Global, tree: &Tree) -> Result<String, Fail> {
-    let value = tree.to_value(alloc)?;
-    Ok(value.to_string(alloc)?)
+fn json_text(alloc: Global, value: Value) -> Result<String, Fail> {
+    let text = value.to_string(alloc);
+    drop(value);
+    Ok(text?)
 }
 
-fn copied_value(alloc: Global, tree: &Tree) -> Result<String, Fail> {
-    let copied = tree.copy(alloc)?;
-    if !copied.equal(tree) {
-        return Err("the copy is another value")?;
-    }
-    printed(alloc, &copied)
+fn printed(alloc: Global, tree: &Tree) -> Result<String, Fail> {
+    let value = tree.to_value(alloc)?;
+    json_text(alloc, value)
+}
+
+// The text of the value, which is to equal the other one.
+fn printed_equal(alloc: Global, tree: Tree, other: &Tree) -> Result<String, Fail> {
+    let said = if tree.equal(other) {
+        printed(alloc, &tree)
+    } else {
+        Err("the copy is another value".into())
+    };
+    drop(tree);
+    said
+}
+
+fn copied_value(alloc: Global, tree: Tree) -> Result<String, Fail> {
+    let said = match tree.copy(alloc) {
+        Ok(copied) => printed_equal(alloc, copied, &tree),
+        Err(refused) => Err(refused.into()),
+    };
+    drop(tree);
+    said
 }
 
 // The JSON of a value's JSON, or why it is refused.
 fn value_answer(alloc: Global, text: &str) -> Result<String, Fail> {
     let value = Value::from_str(alloc, text)?;
-    match Tree::from_value(alloc, &value) {
-        Ok(tree) => copied_value(alloc, &tree),
+    let tree = Tree::from_value(alloc, &value);
+    drop(value);
+    match tree {
+        Ok(tree) => copied_value(alloc, tree),
         Err(fault) => refusal(alloc, fault),
     }
 }
@@ -212,7 +232,9 @@ fn value_below(alloc: Global, path: &Path, text: &str) -> Result<Tree, Fail>
     ensures fits { IfOk result (λ tree. Fits path.now tree) }
 {
     let value = Value::from_str(alloc, text)?;
-    Ok(Tree::from_value_below(alloc, &value, path)?)
+    let tree = Tree::from_value_below(alloc, &value, path);
+    drop(value);
+    Ok(tree?)
 }
 
 // Writes the value of a JSON text at the path.
@@ -247,13 +269,20 @@ fn kind_at(alloc: Global, tree: &Tree, path: &str) -> Result<String, Fail> {
     Ok(String::from_str(alloc, kind)?)
 }
 
-// The tree after the writes, its depth, and what stands at `/` and at `/a`.
+// The tree, its depth, and what stands at `/` and at `/a`.
+fn tree_answer(alloc: Global, tree: &Tree) -> Result<String, Fail> {
+    let json = printed(alloc, tree)?;
+    let root = kind_at(alloc, tree, "/")?;
+    let a = kind_at(alloc, tree, "/a")?;
+    Ok(format!(in alloc; "{json} {} {root} {a}", tree.depth())?)
+}
+
+// The same of the tree after the writes.
 fn left_answer(alloc: Global, writes: &str) -> Result<String, Fail> {
     let tree = left(alloc, writes)?;
-    let json = printed(alloc, &tree)?;
-    let root = kind_at(alloc, &tree, "/")?;
-    let a = kind_at(alloc, &tree, "/a")?;
-    Ok(format!(in alloc; "{json} {} {root} {a}", tree.depth())?)
+    let said = tree_answer(alloc, &tree);
+    drop(tree);
+    said
 }
 
 fn answer(alloc: Global, table: Table, case: &str) -> Result<String, Fail> {
