@@ -29,24 +29,31 @@ fn value_of(alloc: Global, text: &str) -> Result<Value, Fail> {
 
 fn tree_of(alloc: Global, text: &str) -> Result<Tree, Fail> {
     let value = value_of(alloc, text)?;
-    Ok(Tree::from_value(alloc, &value)?)
+    let tree = Tree::from_value(alloc, &value);
+    drop(value);
+    Ok(tree?)
 }
 
 fn draft_of(alloc: Global, text: &str) -> Result<Draft, Fail> {
     let value = value_of(alloc, text)?;
-    Ok(Draft::from_value(alloc, &value)?)
+    let draft = Draft::from_value(alloc, &value);
+    drop(value);
+    Ok(draft?)
 }
 
 fn printed(alloc: Global, tree: &Tree) -> Result<String, Fail> {
     let value = tree.to_value(alloc)?;
-    Ok(value.to_string(alloc)?)
+    let text = value.to_string(alloc);
+    drop(value);
+    Ok(text?)
 }
 
 // A path and a value behind it.
 fn placement(alloc: Global, text: &str) -> Result<Placement, Fail> {
     let (path, value) = text.split_once(' ').ok_or("no value")?;
+    let path = Path::parse(alloc, path)?;
     let draft = draft_of(alloc, value)?;
-    Ok(Placement::new(Path::parse(alloc, path)?, draft)?)
+    Ok(Placement::new(path, draft)?)
 }
 
 // Two placements that don't meet.
@@ -119,12 +126,19 @@ fn kind(action: &Action) -> &'static str {
     if action.is_put() { "put" } else { "keep" }
 }
 
+// The same of a copy.
+fn copied_kind(alloc: Global, action: &Action) -> Result<&'static str, Fail> {
+    let copied = action.copy(alloc)?;
+    let kind = kind(&copied);
+    drop(copied);
+    Ok(kind)
+}
+
 // The kinds of the rows.
 fn kinds(alloc: Global, plan: &Plan) -> Result<String, Fail> {
     let mut text = String::new(alloc);
     for row in plan.rows() {
-        let action = row.action.copy(alloc)?;
-        text.push_str(kind(&action))?;
+        text.push_str(copied_kind(alloc, &row.action)?)?;
         text.push(' ')?;
     }
     Ok(text)
@@ -141,28 +155,40 @@ fn written(alloc: Global, write: &Basic) -> Result<String, Fail> {
 }
 
 // What is due, each write behind the number of its message.
-fn due(alloc: Global, plan: &Plan, tree: &Tree) -> Result<String, Fail> {
+fn due(alloc: Global, plan: &Plan, tree: Tree) -> Result<String, Fail> {
+    let rows = plan.due(alloc, &tree, Moment::at(5000));
+    drop(tree);
     let mut text = String::new(alloc);
-    for row in &plan.due(alloc, tree, Moment::at(5000))? {
+    for row in &rows? {
         let write = written(alloc, &row.basic)?;
         text.push_str(format!(in alloc; "; {} {write}", row.q.get())?.as_str())?;
     }
     Ok(text)
 }
 
+// The tree after the writes.
+fn left_by(alloc: Global, tree: &mut Tree, writes: Items<Basic>) -> Result<String, Fail> {
+    let applied = apply(alloc, tree, writes.as_slice());
+    drop(writes);
+    applied?;
+    printed(alloc, tree)
+}
+
 // The tree after the due writes.
 fn after(alloc: Global, plan: &Plan, mut tree: Tree) -> Result<String, Fail> {
-    let writes = plan.due_writes(alloc, &tree, Moment::at(5000))?;
-    apply(alloc, &mut tree, writes.as_slice())?;
-    printed(alloc, &tree)
+    let said = match plan.due_writes(alloc, &tree, Moment::at(5000)) {
+        Ok(writes) => left_by(alloc, &mut tree, writes),
+        Err(refused) => Err(refused.into()),
+    };
+    drop(tree);
+    said
 }
 
 // The end of a session with the plan: its rows, what is due, and the tree after it.
 fn end(alloc: Global, plan: &Plan, text: &str) -> Result<String, Fail> {
     let kinds = kinds(alloc, plan)?;
-    let tree = tree_of(alloc, text)?;
-    let due = due(alloc, plan, &tree)?;
-    let after = after(alloc, plan, tree)?;
+    let due = due(alloc, plan, tree_of(alloc, text)?)?;
+    let after = after(alloc, plan, tree_of(alloc, text)?)?;
     Ok(format!(in alloc; "{kinds}{due}; {after}")?)
 }
 

@@ -15,7 +15,9 @@ use std::test::Fail;
 fn session(alloc: Global, text: &str) -> Result<SessionId, Fail> {
     let hello = format!(in alloc; r#"{{"m":"hello","s":{text}}}"#)?;
     let up = Up::decode(alloc, hello.as_str())?;
-    Ok(up.session().copy(alloc)?)
+    let session = up.session().copy(alloc);
+    drop(up);
+    Ok(session?)
 }
 
 // The input of a line: `lost` or `slow` and a session, `restart` and a client, `tick`, or a message.
@@ -62,7 +64,13 @@ fn fault_text(alloc: Global, fault: Fault) -> Result<String, Fail> {
 
 // The server with a text, where it was made.
 fn with(server: Server, text: Result<String, Fail>) -> Result<(Server, String), Fail> {
-    Ok((server, text?))
+    match text {
+        Ok(text) => Ok((server, text)),
+        Err(fail) => {
+            drop(server);
+            Err(fail)
+        }
+    }
 }
 
 // The server after the commit, and what it answers.

@@ -437,7 +437,9 @@ fn fields_are_checked(rt: HostRuntime) -> Result<(), Fail> {
 
 fn q_of(alloc: Global, text: &str) -> Result<Option<Number>, Fail> {
     let message = Up::decode(alloc, text)?;
-    Ok(message.q())
+    let q = message.q();
+    drop(message);
+    Ok(q)
 }
 
 #[test]
