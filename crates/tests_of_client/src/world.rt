@@ -6,7 +6,9 @@
 //! `value` and a path, which asks the server.
 
 use pres_client::{Answer, Call, Client, ClientFault, Notice};
-use pres_server::{ClientId, Down, Input, Items, Moment, Number, Path, Server, Tree, Turn, Up};
+use pres_server::{
+    ClientId, Down, Input, Items, Moment, Number, Path, Server, SessionId, Tree, Turn, Up,
+};
 use pres_write::Draft;
 use serde_json::Value;
 use std::alloc::{AllocError, Global};
@@ -44,7 +46,7 @@ impl Pair {
     }
 
     // An answer comes to its client, through its text.
-    fn deliver(&mut self, alloc: Global, answer: Down) -> Result<(), Fail> {
+    fn deliver(&mut self, alloc: Global, answer: &Down) -> Result<(), Fail> {
         let session = answer.session().ok_or("no session")?;
         let name = session.client.copy(alloc)?;
         let text = answer.encode(alloc)?;
@@ -54,9 +56,23 @@ impl Pair {
     // All answers to a message come to their clients.
     fn deliver_all(&mut self, alloc: Global, answers: &[Down], up: &Up) -> Result<(), Fail> {
         for answer in answers {
-            self.deliver(alloc, named_for(alloc, answer, up)?)?;
+            let named = named_for(alloc, answer, up)?;
+            let delivered = self.deliver(alloc, &named);
+            drop(named);
+            delivered?;
         }
         Ok(())
+    }
+}
+
+// The server with something, where that was made.
+fn with<T: Drop, E: Into<Fail>>(server: Server, made: Result<T, E>) -> Result<(Server, T), Fail> {
+    match made {
+        Ok(made) => Ok((server, made)),
+        Err(refused) => {
+            drop(server);
+            Err(refused.into())
+        }
     }
 }
 
@@ -68,7 +84,7 @@ fn turn(alloc: Global, server: Server, input: Input) -> Result<(Server, Items<Do
         Err((fault, server)) => {
             let session = None;
             let code = fault.code();
-            Ok((server, Items::one(alloc, Down::Fault { session, code })?))
+            with(server, Items::one(alloc, Down::Fault { session, code }))
         }
     }
 }
@@ -93,7 +109,16 @@ fn named_for(alloc: Global, answer: &Down, up: &Up) -> Result<Down, AllocError> 
     }
 }
 
-// The server after the messages, each through its text.
+// The server after the message, through its text.
+fn handed_over(alloc: Global, server: Server, pair: &mut Pair, up: &Up) -> Result<Server, Fail> {
+    let (server, input) = with(server, through_text(alloc, up))?;
+    let (server, answers) = turn(alloc, server, input)?;
+    let delivered = pair.deliver_all(alloc, answers.as_slice(), up);
+    let (server, ()) = with(server, delivered)?;
+    Ok(server)
+}
+
+// The server after the messages.
 fn hand_over(
     alloc: Global,
     mut server: Server,
@@ -101,22 +126,32 @@ fn hand_over(
     sends: &[Up],
 ) -> Result<Server, Fail> {
     for up in sends {
-        let (after, answers) = turn(alloc, server, through_text(alloc, up)?)?;
-        server = after;
-        pair.deliver_all(alloc, answers.as_slice(), up)?;
+        server = handed_over(alloc, server, pair, up)?;
     }
     Ok(server)
 }
 
+// The session of the client.
+fn session_of(alloc: Global, client: &Client) -> Result<SessionId, Fail> {
+    let session = client.session().ok_or("no session")?;
+    Ok(session.copy(alloc)?)
+}
+
+// The server after the message, whose answer nobody hears.
+fn unheard(alloc: Global, server: Server, up: &Up) -> Result<Server, Fail> {
+    let (server, input) = with(server, through_text(alloc, up))?;
+    let (server, _) = turn(alloc, server, input)?;
+    Ok(server)
+}
+
 // The server after the client's messages and the loss of its connection. It hears no answer.
-fn dropped(alloc: Global, mut server: Server, client: &mut Client) -> Result<Server, Fail> {
-    let session = client.session().ok_or("no session")?.copy(alloc)?;
+fn dropped(alloc: Global, server: Server, client: &mut Client) -> Result<Server, Fail> {
+    let (mut server, session) = with(server, session_of(alloc, client))?;
     for up in client.take_sends().as_slice() {
-        let (after, _) = turn(alloc, server, through_text(alloc, up)?)?;
-        server = after;
+        server = unheard(alloc, server, up)?;
     }
     let (server, _) = turn(alloc, server, Input::Lost(session))?;
-    client.lost()?;
+    let (server, ()) = with(server, client.lost())?;
     Ok(server)
 }
 
@@ -139,13 +174,17 @@ fn json(alloc: Global, text: &str) -> Result<Value, Fail> {
 // The draft of a text.
 fn draft(alloc: Global, text: &str) -> Result<Draft, Fail> {
     let value = json(alloc, text)?;
-    Ok(Draft::from_value(alloc, &value)?)
+    let draft = Draft::from_value(alloc, &value);
+    drop(value);
+    Ok(draft?)
 }
 
 // The value as a text.
 fn tree_text(alloc: Global, tree: &Tree) -> Result<String, AllocError> {
     let value = tree.to_value(alloc)?;
-    value.to_string(alloc)
+    let text = value.to_string(alloc);
+    drop(value);
+    text
 }
 
 // A notice in words.
@@ -369,6 +408,12 @@ fn value(alloc: Global, server: &Server, path: &str) -> Result<String, Fail> {
     }
 }
 
+// Alice begins the incarnation.
+fn restart(alloc: Global, pair: &mut Pair, number: &str) -> Result<String, Fail> {
+    pair.alice = client(alloc, "alice", number.parse()?)?;
+    Ok(String::new(alloc))
+}
+
 // The server after a step, and what is said.
 fn step(
     alloc: Global,
@@ -378,49 +423,55 @@ fn step(
 ) -> Result<(Server, String), Fail> {
     match text.split_once(' ') {
         Some(("value", path)) => {
-            let said = value(alloc, &server, path)?;
-            Ok((server, said))
+            let said = value(alloc, &server, path);
+            with(server, said)
         }
         Some(("drop", name)) => {
             let server = dropped(alloc, server, pair.named(name))?;
             Ok((server, String::new(alloc)))
         }
-        Some(("restart", number)) => {
-            pair.alice = client(alloc, "alice", number.parse()?)?;
-            Ok((server, String::new(alloc)))
-        }
-        Some((name, text)) => {
-            let said = called(alloc, pair.named(name), text)?;
-            Ok((server, said))
-        }
+        Some(("restart", number)) => with(server, restart(alloc, pair, number)),
+        Some((name, text)) => with(server, called(alloc, pair.named(name), text)),
         None => Ok((carry(alloc, server, pair)?, String::new(alloc))),
     }
 }
 
-// What is wrong, with a step that says something else than is wanted.
-fn noted(mut wrong: String, case: &str, said: &str, wanted: &str) -> Result<String, Fail> {
+// Notes the step, if it says something else than is wanted.
+fn noted(wrong: &mut String, case: &str, said: &str, wanted: &str) -> Result<(), AllocError> {
     if said != wanted {
         wrong.push_str(case)?;
         wrong.push_str(" => ")?;
         wrong.push_str(said)?;
         wrong.push('\n')?;
     }
-    Ok(wrong)
+    Ok(())
+}
+
+// The server after the line, and what is wrong with it, if it says something else than it must.
+fn line(
+    alloc: Global,
+    server: Server,
+    pair: &mut Pair,
+    wrong: &mut String,
+    text: &str,
+) -> Result<Server, Fail> {
+    let (case, wanted) = text.split_once(" => ").unwrap_or((text, ""));
+    let (server, said) = step(alloc, server, pair, case)?;
+    let (server, ()) = with(server, noted(wrong, case, said.as_str(), wanted))?;
+    Ok(server)
 }
 
 // The steps of the run that say something else than they must, each with that.
 pub(crate) fn wrong_in(alloc: Global, run: &str) -> Result<String, Fail> {
-    let mut server = Server::new(alloc);
-    let mut wrong = String::new(alloc);
     let mut pair = Pair {
         alice: client(alloc, "alice", 1)?,
         bob: client(alloc, "bob", 1)?,
     };
+    let mut server = Server::new(alloc);
+    let mut wrong = String::new(alloc);
     for text in run.split('\n') {
-        let (case, wanted) = text.split_once(" => ").unwrap_or((text, ""));
-        let (after, said) = step(alloc, server, &mut pair, case)?;
-        server = after;
-        wrong = noted(wrong, case, said.as_str(), wanted)?;
+        server = line(alloc, server, &mut pair, &mut wrong, text)?;
     }
+    drop(server);
     Ok(wrong)
 }
