@@ -1,12 +1,13 @@
--- The orders of sessions, paths and listeners are total, and tie what is equal alone.
+-- The orders of sessions and listeners are total, and tie what is equal alone.
 use Rattle.std.proofs.Common.{refl, sym, ◌∙◌, ap, ◌≡◌, true, false, ◌&&◌, ◌==◌, true≢false, Ordering, Less, Equal, Greater, is_eq}
-use Rattle.std.specs.Bool.{Decides}
 use Rattle.std.specs.Ordering.{nat_cmp, ordering_then, eq_by_cmp}
 use Rattle.std.specs.Cmp.{IsTotalOrder, then_total, on_total, nat_cmp_total, tied_itself}
-use Rattle.std.specs.Cmp.Lexicographic.{nat_list_cmp_total, lists_total, bytes_decides, pointwise_decides}
+use Rattle.std.specs.Cmp.Lexicographic.{nat_list_cmp_total, bytes_decides}
 use Rattle.std.specs.FinMap.{IsAntisymmetric, slice_cmp-IsAntisymmetric, nat_cmp-IsAntisymmetric}
 use Rattle.std.proofs.lemmas.Bool.{and_parts, and_from, eqb-true, eq-eqb, false_from_ne_true}
-use Rattle.pres_tree.specs.Paths.{Path, path_cmp, same_path}
+use Rattle.pres_tree.specs.Paths.{path_cmp, same_path}
+use Rattle.pres_tree.specs.Falls.{path_total, path_same as path_apart}
+use Rattle.pres_tree.proofs.PathOrder.{path_decides}
 use Rattle.pres_wire.specs.Ids.{same_client, same_session, client_cmp}
 use Rattle.pres_wire.specs.declared.id.SessionId.{SessionId}
 use Rattle.pres_fan.specs.declared.listeners.Listener.{Listener}
@@ -54,17 +55,6 @@ same_by_cmp s t = elim (same_session s t) as (λ b. same_session s t ≡ b → e
   tie Less h = absurd (true≢false (sym h))
   tie Equal h = refl
   tie Greater h = absurd (true≢false (sym h))
-
--- ---- paths
-
-pub path_total : IsTotalOrder path_cmp
-path_total = lists_total nat_list_cmp_total
-
-pub path_apart : IsAntisymmetric path_cmp
-path_apart = slice_cmp-IsAntisymmetric (slice_cmp-IsAntisymmetric nat_cmp-IsAntisymmetric)
-
-pub path_decides : (p q : Path) → Decides (same_path p q) (p ≡ q)
-path_decides = pointwise_decides bytes_decides
 
 -- ---- listeners
 

@@ -63,23 +63,10 @@ impl Action {
                 Ok(fitting(path, value))
             }
             Action::Keep(path) => {
-                let value = held(alloc, tree, path)?;
+                let value = tree.copy_at(alloc, path)?;
                 Ok(fitting(path.copy(alloc)?, value))
             }
         }
-    }
-}
-
-// What stands at the path, copied.
-fn held(alloc: Global, tree: &Tree, path: &Path) -> Result<Tree, AllocError>
-    ensures value { IfOk result (λ held. held ≡ value_at path.now tree.now) }
-    ensures fits { IfOk result (λ held. Fits path.now held) }
-{
-    // it ensures that the tree is a value
-    let _ = tree.is_empty();
-    match tree.at(path) {
-        Some(held) => held.copy(alloc),
-        None => Ok(Tree::empty()),
     }
 }
 

@@ -7,7 +7,7 @@ use Rattle.pres_tree.specs.Paths.{Path, path_cmp, same_path}
 use Rattle.pres_wire.specs.declared.id.SessionId.{SessionId}
 use Rattle.pres_wire.specs.Ids.{same_session}
 use Rattle.pres_fan.specs.Listeners.{add_path, is_touched}
-use Rattle.pres_fan.proofs.Orders.{path_total}
+use Rattle.pres_tree.specs.Falls.{path_total}
 use Rattle.pres_log.specs.declared.entry.Entry.{Entry}
 use Rattle.pres_log.specs.declared.entry.Entry.TheVariants as entry
 use Rattle.pres_log.specs.Logs.{writes_of}

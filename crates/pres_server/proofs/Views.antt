@@ -18,7 +18,8 @@ use Rattle.pres_wire.specs.Messages.{number_in}
 use Rattle.pres_retry.specs.declared.table.Row.{Row}
 use Rattle.pres_plan.proofs.Kept.{value_kept}
 use Rattle.pres_fan.specs.Listeners.{add_path, is_touched}
-use Rattle.pres_fan.proofs.Orders.{path_decides, path_apart}
+use Rattle.pres_tree.specs.Falls.{path_same as path_apart}
+use Rattle.pres_tree.proofs.PathOrder.{path_same, path_itself}
 use Rattle.pres_log.specs.declared.entry.Entry.{Entry}
 use Rattle.pres_log.specs.declared.entry.Entry.TheVariants as entry
 use Rattle.pres_log.specs.Logs.{tree, writes, writes_of}
@@ -32,12 +33,6 @@ use Rattle.pres_server.proofs.StreamSteps.{stream-append, stream_unopened, numbe
 use Rattle.pres_server.proofs.ListenSteps.{listened_own, listened_other}
 
 -- ---- paths
-
-path_itself : (p : Path) → same_path p p ≡ true
-path_itself p = (path_decides p p).1 refl
-
-path_same : (p x : Path) → same_path p x ≡ true → p ≡ x
-path_same p x e = (path_decides p x).0 e
 
 abbrev has_path : Path → List Path → Bool
 has_path p paths = list_any (same_path p) paths

@@ -17,7 +17,7 @@ ghost use Rattle.pres_server.specs.Places.{moment_at};
 ghost use Rattle.pres_server.specs.Parts.{count_in};
 
 use crate::places::Places;
-use crate::push::{push_all, value_of};
+use crate::push::push_all;
 use crate::reopen::Reopen;
 use pres_fan::{FanFault, Listeners};
 use pres_log::Entry;
@@ -306,7 +306,7 @@ impl Index {
             z: made.number,
             q,
             path: path.copy(alloc)?,
-            value: value_of(alloc, &self.tree, path)?,
+            value: self.tree.copy_at(alloc, path)?,
         })
     }
 

@@ -18,23 +18,13 @@ use pres_wire::{Down, Number, PathValue, Values};
 use pres_write::Items;
 use std::alloc::{AllocError, Global};
 
-/// What stands at the path, copied.
-pub(crate) fn value_of(alloc: Global, tree: &Tree, path: &Path) -> Result<Tree, AllocError>
-    ensures { IfOk result (λ value. value ≡ value_at path.now tree.now) }
-{
-    match tree.at(path) {
-        Some(value) => value.copy(alloc),
-        None => Ok(Tree::empty()),
-    }
-}
-
 // The paths and what stands there.
 fn shown(alloc: Global, tree: &Tree, paths: Items<Path>) -> Result<Vec<PathValue>, AllocError>
     ensures { IfOk result (λ made. made.items ≡ map (shown tree.now) paths) }
 {
     let mut made = Vec::new(alloc);
     for path in paths.into_vec() {
-        let value = value_of(alloc, tree, &path)?;
+        let value = tree.copy_at(alloc, &path)?;
         made.push(PathValue { path, value })?;
     }
     Ok(made)

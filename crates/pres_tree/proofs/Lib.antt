@@ -15,3 +15,5 @@ pub mod Undone
 pub mod SameChildren
 pub mod SameRows
 pub mod Swapped
+pub mod PathOrder
+pub mod Standing

@@ -395,6 +395,19 @@ impl<L: Leaf> Nested<L> {
     {
         self.changed(alloc, &Same {})
     }
+
+    /// What stands at the path, copied: null where nothing does.
+    pub fn copy_at(&self, alloc: Global, path: &Path) -> Result<Nested<L>, AllocError>
+        ensures value { IfOk result (λ made. made ≡ value_at path.now self.now) }
+        ensures fits { IfOk result (λ made. Fits path.now made) }
+    {
+        // it ensures that this is a value
+        let _ = self.is_empty();
+        match self.at(path) {
+            Some(value) => value.copy(alloc),
+            None => Ok(Nested::empty()),
+        }
+    }
 }
 
 impl<L> Nested<L> {
