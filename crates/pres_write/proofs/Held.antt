@@ -19,6 +19,10 @@ pub is_null-nothing : {A : Type 0} (v : Rows A) → (is_null v ≡ true → [] �
 is_null-nothing [] = (λ h. refl, λ e. refl)
 is_null-nothing (r ∷ v) = (λ h. absurd (true≢false (sym h)), λ e. absurd cc)
 
+pub option_of_none : {A : Type 0} (v : Rows A) → is_null v ≡ true → option_of v ≡ None
+option_of_none [] h = refl
+option_of_none (r ∷ v) h = absurd (true≢false (sym h))
+
 pub option_of_some : {A : Type 0} (v : Rows A) → is_null v ≡ false → option_of v ≡ Some v
 option_of_some [] h = absurd (true≢false h)
 option_of_some (r ∷ v) h = refl

@@ -81,7 +81,7 @@ less-later : (q : Path) (done : Places) (e : Path × Rows Slot) (left : Places) 
 less-later q [] e left h = h.0
 less-later q (f ∷ done) e left h = less-later q done e left h.1
 
-fit-later : (p : Path) (done : Places) (e : Path × Rows Slot) (left : Places) → All (FitsBelow p) (done ++ e ∷ left) → FitsBelow p e
+pub fit-later : (p : Path) (done : Places) (e : Path × Rows Slot) (left : Places) → All (FitsBelow p) (done ++ e ∷ left) → FitsBelow p e
 fit-later p [] e left h = All-head (FitsBelow p) e left h
 fit-later p (f ∷ done) e left h = fit-later p done e left (All-tail (FitsBelow p) f (done ++ e ∷ left) h)
 

@@ -1,8 +1,5 @@
 use Rattle.pres_write.proofs.update.whole_path.Goals as goal
 
-pub unreachable-unreachable : goal.unreachable-unreachable
-unreachable-unreachable c = c.unreachable.result
-
 pub returns-in-Ok : goal.returns-in-Ok
 returns-in-Ok c = c.in-Ok.ensures.path
 

@@ -1,5 +1,5 @@
 use Rattle.std.proofs.Common.{◌≡◌, [], sym, ap, ◌∙◌}
-use Rattle.std.specs.Prelude.{IsTrue, option_copied}
+use Rattle.std.specs.Prelude.{option_copied}
 use Rattle.pres_tree.specs.Rows.{rows_in, is_null}
 use Rattle.pres_write.proofs.Held.{is_null-nothing}
 use Rattle.pres_write.proofs.transaction.Transaction.is_expected.Goals as goal
