@@ -1,10 +1,10 @@
 use Rattle.std.proofs.Common.{◌≡◌, ◌∷◌, [], ◌++◌, All, append_assoc, append-nil, sym, ap, subst, ◌∙◌}
-use Rattle.pres_tree.specs.Paths.{Path}
+use Rattle.pres_tree.specs.Paths.{Path, path_cmp}
 use Rattle.pres_tree.specs.Rows.{Rows, Fits}
 use Rattle.pres_write.specs.declared.draft.Slot.{Slot}
 use Rattle.pres_write.specs.Unconditionals.{ArePuts, puts_below}
 use Rattle.pres_write.specs.Updates.{IsUpdate, FitsBelow}
-use Rattle.pres_write.proofs.Named.{fit-later}
+use Rattle.pres_write.proofs.Ordered.{each-middle}
 use Rattle.pres_write.proofs.Putting.{are_puts, puts_more}
 use Rattle.pres_write.proofs.update.Update.puts.Goals as goal
 use Rattle.pres_write.proofs.update.Update.puts.Goals.{In-Some}
@@ -48,7 +48,7 @@ here c =
     let done = c.loop-place.invariant.0 in
     let e : Path × Rows Slot = (c.in-Some.place.now, c.in-Some.draft.now) in
     let all : c.self.inside.places.entries ≡ done ++ e ∷ c.next.new.self = ap (λ u. u.places) c.self.view_is ∙ c.loop-place.invariant.1 ∙ ap (λ es. done ++ es) c.in-Some.ensures.steps in
-    fit-later c.self.inside.path done e c.next.new.self (subst (All (FitsBelow c.self.inside.path)) all c.self.invariant.fit)
+    each-middle path_cmp (FitsBelow c.self.inside.path) done e c.next.new.self (subst (All (FitsBelow c.self.inside.path)) all c.self.invariant.fit)
 
 pub whole_path-requires : goal.whole_path-requires
 whole_path-requires c = (here c).0

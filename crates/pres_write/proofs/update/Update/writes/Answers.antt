@@ -1,6 +1,6 @@
 use Rattle.std.proofs.Common.{◌≡◌, ◌∷◌, [], ◌++◌, List, ℕ, All, false, map, append_assoc, append-nil, sym, ap, subst, ◌∙◌, refl}
 use Rattle.std.specs.Map.{keys_of}
-use Rattle.pres_tree.specs.Paths.{Path, overlap}
+use Rattle.pres_tree.specs.Paths.{Path, path_cmp, overlap}
 use Rattle.pres_tree.specs.Rows.{Rows, Fits}
 use Rattle.pres_write.specs.declared.basic.Basic.{Basic}
 use Rattle.pres_write.specs.declared.draft.Slot.{Slot}
@@ -8,7 +8,7 @@ use Rattle.pres_write.specs.Basics.{basic}
 use Rattle.pres_write.specs.Drafts.{settled}
 use Rattle.pres_write.specs.Updates.{FitsBelow, Places, update_writes}
 use Rattle.pres_write.proofs.Overlaps.{overlap-joined, paths_of_writes}
-use Rattle.pres_write.proofs.Named.{fit-later}
+use Rattle.pres_write.proofs.Ordered.{each-middle}
 use Rattle.pres_write.proofs.update.Update.writes.Goals as goal
 use Rattle.pres_write.proofs.update.Update.writes.Goals.{In-Some, After-of}
 
@@ -66,7 +66,7 @@ here c =
     let done = c.loop-place.invariant.0 in
     let e : Path × Rows Slot = (c.in-Some.place.now, c.in-Some.draft.now) in
     let all : c.self.inside.places.entries ≡ done ++ e ∷ c.next.new.self = ap (λ u. u.places) c.self.view_is ∙ c.loop-place.invariant.1 ∙ ap (λ es. done ++ es) c.in-Some.ensures.steps in
-    fit-later c.self.inside.path done e c.next.new.self (subst (All (FitsBelow c.self.inside.path)) all c.self.invariant.fit)
+    each-middle path_cmp (FitsBelow c.self.inside.path) done e c.next.new.self (subst (All (FitsBelow c.self.inside.path)) all c.self.invariant.fit)
 
 pub whole_path-requires : goal.whole_path-requires
 whole_path-requires c = (here c).0
