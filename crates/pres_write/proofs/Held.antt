@@ -15,10 +15,6 @@ pub rows_of_option : {A : Type 0} (v : Rows A) → rows_in (option_of v) ≡ v
 rows_of_option [] = refl
 rows_of_option (r ∷ v) = refl
 
-pub is_null-nothing : {A : Type 0} (v : Rows A) → (is_null v ≡ true → [] ≡ v) × ([] ≡ v → is_null v ≡ true)
-is_null-nothing [] = (λ h. refl, λ e. refl)
-is_null-nothing (r ∷ v) = (λ h. absurd (true≢false (sym h)), λ e. absurd cc)
-
 pub option_of_none : {A : Type 0} (v : Rows A) → is_null v ≡ true → option_of v ≡ None
 option_of_none [] h = refl
 option_of_none (r ∷ v) h = absurd (true≢false (sym h))
