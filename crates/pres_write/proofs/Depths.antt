@@ -1,13 +1,14 @@
 -- How deep the rows of a value go.
 use Rattle.std.proofs.Common.{◌≡◌, ℕ, ◌+◌, ◌-◌, ◌<◌, ◌≤◌, [], ◌∷◌, ◌++◌, length, length-append, Bool, true, false, true≢false, cond, ◌&&◌, Some, is_some, IsTrue, refl, sym, ap, arith}
 use Rattle.std.proofs.lemmas.List.Folds.{list_all-append}
-use Rattle.std.specs.Ordering.{is_eq, eq_by_cmp}
-use Rattle.std.specs.declared.cmp.Ordering.TheVariants.{Less, Equal, Greater}
+use Rattle.std.specs.Ordering.{eq_by_cmp}
 use Rattle.std.specs.Cmp.{eq_by_cmp_equiv}
 use Rattle.pres_tree.specs.Falls.{path_total, path_same}
 use Rattle.pres_tree.specs.Keys.{is_key}
 use Rattle.pres_tree.specs.Paths.{Path, IsPath, path_cmp}
+use Rattle.pres_tree.proofs.Depths.{depth-bound, depth-small}
 use Rattle.pres_tree.specs.Rows.{Rows, IsValue, Fits, Holds, leaf_at, depth_of, height}
+use Rattle.pres_write.proofs.Ordered.{tied}
 
 first_holds : {A : Type 0} (p : Path) (a : A) (v : Rows A) → Holds ((p, a) ∷ v) p
 first_holds p a v = ap (λ b. is_some (cond b (Some a) (leaf_at v p))) ((eq_by_cmp_equiv path_total).refl p)
@@ -23,31 +24,19 @@ height_within ((p, a) ∷ v) n h =
     omega arith
 
 pub depth_within : {A : Type 0} (v : Rows A) (n : ℕ) → ((x : Path) → Holds v x → length x ≤ n) → depth_of v ≤ n
-depth_within [] n h = omega arith
-depth_within ((p, a) ∷ v) n h =
-    let here = h p (first_holds p a v) in
-    let rest = depth_within v n (λ x k. h x (rest_holds p a v x k)) in
-    omega arith
+depth_within v n h = depth-bound n v h
 
 pub value_depth : {A : Type 0} (v : Rows A) → IsValue v → depth_of v ≤ 32
-value_depth v h = depth_within v 32 (λ x k. (h.paths x k).0)
+value_depth v h = depth-small v h
 
 pub fits_height : {A : Type 0} (p : Path) (v : Rows A) → Fits p v → height v ≤ 33 - length p
 fits_height p v h = height_within v (33 - length p) (λ x k. omega (arith, (h x k).0, length-append p x))
-
-same_path : (x p : Path) → eq_by_cmp path_cmp x p ≡ true → x ≡ p
-same_path x p h =
-    elim (path_cmp x p) as (λ o. path_cmp x p ≡ o → is_eq o ≡ true → x ≡ p) [
-      | Less ↦ λ e f. cc
-      | Equal ↦ λ e f. path_same x p e
-      | Greater ↦ λ e f. cc
-    ] refl h
 
 holds_depth : {A : Type 0} (v : Rows A) (x : Path) → Holds v x → length x ≤ depth_of v
 holds_depth [] x h = absurd (true≢false (sym h))
 holds_depth ((p, a) ∷ v) x h =
     elim (eq_by_cmp path_cmp x p) as (λ b. eq_by_cmp path_cmp x p ≡ b → is_some (cond b (Some a) (leaf_at v x)) ≡ true → length x ≤ depth_of ((p, a) ∷ v)) [
-      | true ↦ λ e k. let same : length x ≡ length p = ap length (same_path x p e) in omega arith
+      | true ↦ λ e k. let same : length x ≡ length p = ap length (tied path_cmp path_same x p e) in omega arith
       | false ↦ λ e k. let rest = holds_depth v x k in omega arith
     ] refl h
 

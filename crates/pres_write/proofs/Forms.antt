@@ -46,10 +46,6 @@ none_at : (k : Key) (o : Option TreeFault) → fault_in (fault_at k o) ≡ None 
 none_at k None h = refl
 none_at k (Some e) h = absurd cc
 
-none_in : (o : KeyedFault) → fault_in o ≡ None → o ≡ None
-none_in None h = refl
-none_in (Some p) h = absurd cc
-
 mutual
   same : (n : ℕ) (d : Data) → fault_of scalar_reading n d ≡ None → Same n d
   same n null h = record { rows = refl; fault = refl }

@@ -1,5 +1,5 @@
 -- What a place of the tree holds, as code and as definitions tell it.
-use Rattle.std.proofs.Common.{◌≡◌, ℕ, [], ◌∷◌, Bool, false, cond, Option, Some, None, refl, sym, ap, ◌∙◌, true≢false}
+use Rattle.std.proofs.Common.{◌≡◌, ℕ, [], ◌∷◌, Bool, true, false, cond, Option, Some, None, refl, sym, ap, ◌∙◌, true≢false}
 use Rattle.std.specs.Option.{unwrap_or}
 use Rattle.std.specs.Prelude.{MatchOption, IsTrue, ◌↔◌, option_map}
 use Rattle.pres_tree.specs.declared.scalar.Scalar.{Scalar}
@@ -14,6 +14,10 @@ use Rattle.pres_write.specs.Transactions.{Comparison}
 pub rows_of_option : {A : Type 0} (v : Rows A) → rows_in (option_of v) ≡ v
 rows_of_option [] = refl
 rows_of_option (r ∷ v) = refl
+
+pub option_of_none : {A : Type 0} (v : Rows A) → is_null v ≡ true → option_of v ≡ None
+option_of_none [] h = refl
+option_of_none (r ∷ v) h = absurd (true≢false (sym h))
 
 pub option_of_some : {A : Type 0} (v : Rows A) → is_null v ≡ false → option_of v ≡ Some v
 option_of_some [] h = absurd (true≢false h)

@@ -174,3 +174,8 @@ read_few p all twice es r few = omega (arith, r.few, ap length (r.is ∙ append-
 pub refused_as : {A : Type 0} (P : A → Type 0) (Q : WriteFault → Type 0) (r : Result A WriteFault) (e : TreeFault) → IsErr r × IsErrAnd r (λ x. x ≡ Tree e) → Q (Tree e) → MatchResult r P Q
 refused_as P Q (Ok a) e h q = absurd (false≢true h.0)
 refused_as P Q (Err x) e h q = subst Q (sym h.1) q
+
+-- the same at a fault of the tree's own
+pub refused_by : {A : Type 0} (P : A → Type 0) (Q : TreeFault → Type 0) (r : Result A TreeFault) (e : TreeFault) → IsErr r × IsErrAnd r (λ x. x ≡ e) → Q e → MatchResult r P Q
+refused_by P Q (Ok a) e h q = absurd (false≢true h.0)
+refused_by P Q (Err x) e h q = subst Q (sym h.1) q

@@ -33,7 +33,7 @@ use Rattle.pres_write.specs.Drafts.{slot_reading, slot_printing}
 use Rattle.pres_write.specs.OpForms.{unless, below_read, place_fault, places_fault, places_read, named, members_from, values_json}
 use Rattle.pres_write.specs.Updates.{Places, FitsBelow, most_places}
 use Rattle.pres_write.proofs.Depths.{fits_height}
-use Rattle.pres_write.proofs.Ordered.{tied, rising_keys, length-sorted_by, each-sorted_by, any-put, find-sorted_by, sorted_by-rises, sorted_by-same, sorted_by-more, put-swap}
+use Rattle.pres_write.proofs.Ordered.{tied, each-middle, rising_keys, length-sorted_by, each-sorted_by, any-put, find-sorted_by, sorted_by-rises, sorted_by-same, sorted_by-more, put-swap}
 use Rattle.pres_write.proofs.Overlaps.{meet-itself, overlap-put}
 
 key_same : (k l : Key) → key_cmp k l ≡ Equal → k ≡ l
@@ -81,16 +81,12 @@ less-later : (q : Path) (done : Places) (e : Path × Rows Slot) (left : Places) 
 less-later q [] e left h = h.0
 less-later q (f ∷ done) e left h = less-later q done e left h.1
 
-fit-later : (p : Path) (done : Places) (e : Path × Rows Slot) (left : Places) → All (FitsBelow p) (done ++ e ∷ left) → FitsBelow p e
-fit-later p [] e left h = All-head (FitsBelow p) e left h
-fit-later p (f ∷ done) e left h = fit-later p done e left (All-tail (FitsBelow p) f (done ++ e ∷ left) h)
-
 new_name : (p : Path) (done : Places) (e : Path × Rows Slot) (left : Places) → IsStrictlySortedBy path_cmp (keys_of (done ++ e ∷ left)) → All (FitsBelow p) (done ++ e ∷ left) → find key_cmp (name_of e.0) (named done) ≡ None
 unfolding IsStrictlySortedBy
 new_name p [] e left order fit = refl
 new_name p (f ∷ done) e left order fit = elim (eq_by_cmp key_cmp (name_of e.0) (name_of f.0)) as (λ b. eq_by_cmp key_cmp (name_of e.0) (name_of f.0) ≡ b → cond b (Some (json_of slot_printing f.1)) (find key_cmp (name_of e.0) (named done)) ≡ None) [
   | true ↦ λ t.
-      let here : f.0 ≡ e.0 = same_names p f.0 e.0 f.1 e.1 (All-head (FitsBelow p) f (done ++ e ∷ left) fit) (fit-later p (f ∷ done) e left fit) (sym (tied key_cmp key_same (name_of e.0) (name_of f.0) t)) in
+      let here : f.0 ≡ e.0 = same_names p f.0 e.0 f.1 e.1 (All-head (FitsBelow p) f (done ++ e ∷ left) fit) (each-middle path_cmp (FitsBelow p) (f ∷ done) e left fit) (sym (tied key_cmp key_same (name_of e.0) (name_of f.0) t)) in
       let low : Equal ≡ Less = sym (tied_itself path_total e.0) ∙ ap (λ q. path_cmp q e.0) (sym here) ∙ less-later f.0 done e left order.0 in
       absurd cc
   | false ↦ λ t. new_name p done e left order.1 (All-tail (FitsBelow p) f (done ++ e ∷ left) fit)

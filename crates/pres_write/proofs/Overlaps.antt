@@ -81,17 +81,10 @@ pub overlap-next : (p q : Path) (xs : List Path) → IsStrictlySortedBy path_cmp
 unfolding IsStrictlySortedBy
 overlap-next p q xs order other = λ i. ((other i || not_above p q order.0.0 i) || apart_all p q xs order.0.0 other order.0.1 order.1.0 i) || overlap (q ∷ xs)
 
-pub overlap-above : (p q : Path) (xs : List Path) → is_prefix p q ≡ true → overlap (p ∷ q ∷ xs) ≡ true
-overlap-above p q xs h = λ i. ((h i || is_prefix q p) || list_any (meet p) xs) || overlap (q ∷ xs)
-
 -- the path that a walk has seen last, before those that are left
 abbrev pub with_last : Option Path → List Path → List Path
 with_last None ps = ps
 with_last (Some p) ps = p ∷ ps
-
-pub overlap-end : (o : Option Path) → overlap (with_last o []) ≡ false
-overlap-end None = refl
-overlap-end (Some p) = refl
 
 -- what is left to see, from the first of the paths that are left on
 abbrev pub Left : Bool → Option Path → List Path → Type 0

@@ -1,16 +1,13 @@
 -- Places that do not meet, put in order.
-use Rattle.std.proofs.Common.{◌≡◌, ℕ, ◌≤◌, nat_lt, [], ◌∷◌, length, All, Bool, true, false, cond, ◌||◌, Some, None, is_some, refl, sym, ap, subst, ◌∙◌, arith}
+use Rattle.std.proofs.Common.{◌≡◌, [], ◌∷◌, All, Bool, true, false, ◌||◌, Some, None, is_some, refl, sym, ap, subst, ◌∙◌}
 use Rattle.std.proofs.lemmas.Bool.{false≢true}
 use Rattle.std.proofs.lemmas.List.Elements.{All-nil, All-head, All-tail}
-use Rattle.std.proofs.lemmas.Bool.Decides.{nat_tests}
 use Rattle.std.specs.List.{list_any}
 use Rattle.std.specs.Map.{keys_of}
 use Rattle.std.specs.FinMap.Entries.{find}
 use Rattle.pres_tree.specs.Falls.{path_total, path_same}
 use Rattle.pres_tree.specs.Paths.{Path, path_cmp, meet, overlap, sorted_by}
-use Rattle.pres_tree.specs.declared.fault.TreeFault.TheVariants.{TooDeep}
-use Rattle.pres_write.specs.declared.fault.WriteFault.TheVariants.{Tree, Overlap, ManyPaths}
-use Rattle.pres_write.specs.Updates.{Places, FitsBelow, most_places, is_deep_below, update_fault}
+use Rattle.pres_write.specs.Updates.{Places, FitsBelow}
 use Rattle.pres_write.proofs.Members.{fit-put, found-meets}
 use Rattle.pres_write.proofs.Ordered.{insert_entry-put, find-sorted_by, any-put}
 use Rattle.pres_write.proofs.Overlaps.{overlap-put}
@@ -41,13 +38,3 @@ fit_sorted p [] h = All-nil (FitsBelow p)
 fit_sorted p (e ∷ es) h =
     subst (All (FitsBelow p)) (insert_entry-put path_cmp e.0 e.1 (sorted_by path_cmp es))
     (fit-put p e.0 e.1 (sorted_by path_cmp es) (All-head (FitsBelow p) e es h) (fit_sorted p es (All-tail (FitsBelow p) e es h)))
-
--- ---- why drafts are no update
-
-few_test : (n : ℕ) → n ≤ most_places → nat_lt most_places n ≡ false
-few_test n h = grind (arith, nat_tests)
-
-module _ (p : Path) (es : Places) where
-  pub fault_after : length es ≤ most_places → (d o : Bool) → list_any (is_deep_below p) es ≡ d → overlap (keys_of es) ≡ o
-      → update_fault p es ≡ cond d (Some (Tree TooDeep)) (cond o (Some Overlap) None)
-  fault_after few d o deep apart = λ i. cond (few_test (length es) few i) (Some ManyPaths) (cond (deep i) (Some (Tree TooDeep)) (cond (apart i) (Some Overlap) None))

@@ -2,8 +2,8 @@
 
 ghost use Rattle.std.specs.Prelude.{◌≡◌, [], IfOk, IfErr, Ok, Err, MatchResult, codes, string_bytes};
 ghost use Rattle.std.specs.Option.{option_and_then};
-ghost use Rattle.serde_json.specs.Data.{null};
-ghost use Rattle.serde_json.specs.View.{view};
+ghost use Rattle.serde_json.specs.Data.{null, object, string, put as with_member};
+ghost use Rattle.serde_json.specs.View.{view, members_view};
 ghost use Rattle.pres_tree.specs.declared.fault.TreeFault.TheVariants.{Memory};
 ghost use Rattle.serde_json.specs.Find.{as_object, get};
 ghost use Rattle.pres_tree.specs.Rows.{Fits};
@@ -22,7 +22,7 @@ use crate::placement::Placement;
 use crate::transaction::Transaction;
 use crate::update::Update;
 use pres_tree::{Path, Tree};
-use serde_json::{Value, json};
+use serde_json::{Map, Value};
 use std::alloc::{AllocError, Global};
 
 /// What a client asks of the tree.
@@ -36,18 +36,38 @@ pub enum Op {
     Tx(Transaction),
 }
 
+// The JSON object of an operation: the members of its form, with its word and the path of the text.
+fn form_value(
+    alloc: Global,
+    word: &str,
+    path: String,
+    mut members: Map<String, Value>,
+) -> Result<Value, AllocError>
+    ensures { IfOk result (λ made. view made
+        ≡ object (with_member (codes "path") (string (string_bytes path))
+        (with_member (codes "op") (string word.now) (members_view members.entries)))) }
+{
+    serde_json::put(&mut members, alloc, "op", Value::try_from_str(alloc, word)?)?;
+    serde_json::put(&mut members, alloc, "path", Value::String(path))?;
+    Ok(Value::Object(members))
+}
+
 // The JSON value of a set at the path of the text.
 fn set_form(alloc: Global, path: String, value: Value) -> Result<Value, AllocError>
     ensures { IfOk result (λ made. view made ≡ set_form (string_bytes path) (view value)) }
 {
-    json!(in alloc; {"op": "set", "path": path, "value": value})
+    let mut members = Map::new(alloc);
+    serde_json::put(&mut members, alloc, "value", value)?;
+    form_value(alloc, "set", path, members)
 }
 
 // The JSON value of an update at the path of the text.
 fn update_form(alloc: Global, path: String, values: Value) -> Result<Value, AllocError>
     ensures { IfOk result (λ made. view made ≡ update_form (string_bytes path) (view values)) }
 {
-    json!(in alloc; {"op": "update", "path": path, "values": values})
+    let mut members = Map::new(alloc);
+    serde_json::put(&mut members, alloc, "values", values)?;
+    form_value(alloc, "update", path, members)
 }
 
 // The JSON value of a transaction at the path of the text.
@@ -55,7 +75,10 @@ fn tx_form(alloc: Global, path: String, expect: Value, value: Value) -> Result<V
     ensures { IfOk result (λ made.
         view made ≡ tx_form (string_bytes path) (view expect) (view value)) }
 {
-    json!(in alloc; {"expect": expect, "op": "tx", "path": path, "value": value})
+    let mut members = Map::new(alloc);
+    serde_json::put(&mut members, alloc, "expect", expect)?;
+    serde_json::put(&mut members, alloc, "value", value)?;
+    form_value(alloc, "tx", path, members)
 }
 
 // The JSON value of an update.

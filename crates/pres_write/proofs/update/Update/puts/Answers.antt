@@ -1,11 +1,13 @@
-use Rattle.std.proofs.Common.{◌≡◌, ◌∷◌, [], ◌++◌, append_assoc, append-nil, sym, ap, subst, ◌∙◌}
-use Rattle.pres_tree.specs.Paths.{Path}
-use Rattle.pres_tree.specs.Rows.{Rows}
+use Rattle.std.proofs.Common.{◌≡◌, ◌∷◌, [], ◌++◌, All, append_assoc, append-nil, sym, ap, subst, ◌∙◌}
+use Rattle.pres_tree.specs.Paths.{Path, path_cmp}
+use Rattle.pres_tree.specs.Rows.{Rows, Fits}
 use Rattle.pres_write.specs.declared.draft.Slot.{Slot}
 use Rattle.pres_write.specs.Unconditionals.{ArePuts, puts_below}
-use Rattle.pres_write.specs.Updates.{IsUpdate}
+use Rattle.pres_write.specs.Updates.{IsUpdate, FitsBelow}
+use Rattle.pres_write.proofs.Ordered.{each-middle}
 use Rattle.pres_write.proofs.Putting.{are_puts, puts_more}
 use Rattle.pres_write.proofs.update.Update.puts.Goals as goal
+use Rattle.pres_write.proofs.update.Update.puts.Goals.{In-Some}
 
 pub loop-place-preserved : goal.loop-place-preserved
 loop-place-preserved c =
@@ -32,3 +34,34 @@ of-requires c =
     let all : places ≡ done = c.loop-place.invariant.1 ∙ ap (λ es. done ++ es) c.in-None.ensures.steps.0 ∙ append-nil done in
     let is : c.loop-place.placements.items ≡ puts_below c.args.self.now = c.loop-place.invariant.2 ∙ ap (λ es. puts_below (record { path = p; places = es })) (sym all) in
     subst ArePuts (sym is) (are_puts c.args.self.now (subst IsUpdate c.self.view_is c.self.invariant))
+
+pub loop-place-init : goal.loop-place-init
+loop-place-init c = (
+  [],
+  sym (c.into_iter-place-iterator.ensures.into_iter_gives ∙ c.iter-place-items.ensures.rest ∙ ap (λ u. u.places) c.self.view_is),
+  c.new-placements.ensures.items,
+)
+
+-- the draft fits at its place below the path
+here : (c : In-Some) → FitsBelow c.self.inside.path (c.in-Some.place.now, c.in-Some.draft.now)
+here c =
+    let done = c.loop-place.invariant.0 in
+    let e : Path × Rows Slot = (c.in-Some.place.now, c.in-Some.draft.now) in
+    let all : c.self.inside.places.entries ≡ done ++ e ∷ c.next.new.self = ap (λ u. u.places) c.self.view_is ∙ c.loop-place.invariant.1 ∙ ap (λ es. done ++ es) c.in-Some.ensures.steps in
+    each-middle path_cmp (FitsBelow c.self.inside.path) done e c.next.new.self (subst (All (FitsBelow c.self.inside.path)) all c.self.invariant.fit)
+
+pub whole_path-requires : goal.whole_path-requires
+whole_path-requires c = (here c).0
+
+pub fitting-requires : goal.fitting-requires
+fitting-requires c =
+    let p = c.self.inside.path ++ c.in-Some.place.now in
+    let is : (c.in_ok-path.path, c.in_ok-copy.field-0) ≡ (p, c.in-Some.draft.now) = λ i. (c.in_ok-path.ensures i, c.in_ok-copy.ensures i) in
+    subst (λ (q : Path × Rows Slot). Fits q.0 q.1) (sym is) (here (goal.at.fitting-requires c).In-Some).1
+
+pub returns : goal.returns
+returns c =
+    let p = c.args.self.now.path in
+    let done = c.loop-place.invariant.0 in
+    let all : c.args.self.now.places ≡ done = c.loop-place.invariant.1 ∙ ap (λ es. done ++ es) c.in-None.ensures.steps.0 ∙ append-nil done in
+    c.of.ensures ∙ c.loop-place.invariant.2 ∙ ap (λ es. puts_below (record { path = p; places = es })) (sym all)

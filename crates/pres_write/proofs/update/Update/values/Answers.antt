@@ -52,3 +52,11 @@ returns-clause-reads_back c =
     let all : u.places ≡ done = c.loop-place.invariant.1 ∙ ap (λ es. done ++ es) c.in-None.ensures.steps.0 ∙ append-nil done in
     ap (below_read u.path) (end c)
     ∙ values_read u.path u.places held.in_order held.apart held.few held.fit (subst (AllByRecursion DraftReads) (sym all) c.loop-place.invariant.3)
+
+pub loop-place-init : goal.loop-place-init
+loop-place-init c = (
+  [],
+  sym (c.into_iter-place-iterator.ensures.into_iter_gives ∙ c.iter-place-items.ensures.rest ∙ ap (λ u. u.places) c.self.view_is),
+  ap pairs c.new-values.ensures.empty,
+  tt,
+)

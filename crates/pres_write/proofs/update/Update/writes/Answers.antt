@@ -1,14 +1,16 @@
-use Rattle.std.proofs.Common.{◌≡◌, ◌∷◌, [], ◌++◌, List, ℕ, false, map, append_assoc, append-nil, sym, ap, subst, ◌∙◌, refl}
+use Rattle.std.proofs.Common.{◌≡◌, ◌∷◌, [], ◌++◌, List, ℕ, All, false, map, append_assoc, append-nil, sym, ap, subst, ◌∙◌, refl}
 use Rattle.std.specs.Map.{keys_of}
-use Rattle.pres_tree.specs.Paths.{Path, overlap}
-use Rattle.pres_tree.specs.Rows.{Rows}
+use Rattle.pres_tree.specs.Paths.{Path, path_cmp, overlap}
+use Rattle.pres_tree.specs.Rows.{Rows, Fits}
 use Rattle.pres_write.specs.declared.basic.Basic.{Basic}
 use Rattle.pres_write.specs.declared.draft.Slot.{Slot}
 use Rattle.pres_write.specs.Basics.{basic}
 use Rattle.pres_write.specs.Drafts.{settled}
-use Rattle.pres_write.specs.Updates.{Places, update_writes}
+use Rattle.pres_write.specs.Updates.{FitsBelow, Places, update_writes}
 use Rattle.pres_write.proofs.Overlaps.{overlap-joined, paths_of_writes}
+use Rattle.pres_write.proofs.Ordered.{each-middle}
 use Rattle.pres_write.proofs.update.Update.writes.Goals as goal
+use Rattle.pres_write.proofs.update.Update.writes.Goals.{In-Some, After-of}
 
 -- the write of one place more
 writes_more : (p : Path) (moment : ℕ) (done : Places) (e : Path × Rows Slot) → update_writes moment (record { path = p; places = done ++ e ∷ [] }) ≡ update_writes moment (record { path = p; places = done }) ++ basic (p ++ e.0) (settled moment e.1) ∷ []
@@ -32,14 +34,42 @@ loop-place-preserved c =
           ∙ sym (writes_more p c.args.moment done e),
     )
 
+-- all places are written
+made : (c : After-of) → c.of.result ≡ update_writes c.args.moment c.args.self.now
+made c =
+    let done = c.loop-place.invariant.0 in
+    let all : c.args.self.now.places ≡ done = c.loop-place.invariant.1 ∙ ap (λ es. done ++ es) c.in-None.ensures.steps.0 ∙ append-nil done in
+    c.of.ensures ∙ c.loop-place.invariant.2 ∙ ap (λ es. update_writes c.args.moment (record { path = c.args.self.now.path; places = es })) (sym all)
+
+pub returns-clause-writes : goal.returns-clause-writes
+returns-clause-writes c = made c
+
 pub returns-clause-apart : goal.returns-clause-apart
 returns-clause-apart c =
     let p = c.args.self.now.path in
     let places = c.args.self.now.places in
-    let done = c.loop-place.invariant.0 in
-    let all : places ≡ done = c.loop-place.invariant.1 ∙ ap (λ es. done ++ es) c.in-None.ensures.steps.0 ∙ append-nil done in
-    let is : c.of.result ≡ update_writes c.args.moment c.args.self.now = c.of.ensures ∙ c.loop-place.invariant.2 ∙ ap (λ es. update_writes c.args.moment (record { path = p; places = es })) (sym all) in
-    ap (λ (ws : List Basic). overlap (map (λ b. b.path) ws)) is
+    ap (λ (ws : List Basic). overlap (map (λ b. b.path) ws)) (made c)
     ∙ ap overlap (paths_of_writes p c.args.moment places)
     ∙ overlap-joined p (keys_of places)
     ∙ subst (λ u. overlap (keys_of u.places) ≡ false) c.self.view_is c.self.invariant.apart
+
+pub loop-place-init : goal.loop-place-init
+loop-place-init c = (
+  [],
+  sym (c.into_iter-place-iterator.ensures.into_iter_gives ∙ c.iter-place-items.ensures.rest ∙ ap (λ u. u.places) c.self.view_is),
+  c.new-writes.ensures.items,
+)
+
+-- the draft fits at its place below the path
+here : (c : In-Some) → FitsBelow c.self.inside.path (c.in-Some.place.now, c.in-Some.draft.now)
+here c =
+    let done = c.loop-place.invariant.0 in
+    let e : Path × Rows Slot = (c.in-Some.place.now, c.in-Some.draft.now) in
+    let all : c.self.inside.places.entries ≡ done ++ e ∷ c.next.new.self = ap (λ u. u.places) c.self.view_is ∙ c.loop-place.invariant.1 ∙ ap (λ es. done ++ es) c.in-Some.ensures.steps in
+    each-middle path_cmp (FitsBelow c.self.inside.path) done e c.next.new.self (subst (All (FitsBelow c.self.inside.path)) all c.self.invariant.fit)
+
+pub whole_path-requires : goal.whole_path-requires
+whole_path-requires c = (here c).0
+
+pub settled_write-requires : goal.settled_write-requires
+settled_write-requires c = subst (λ q. Fits q c.in-Some.draft.now) (sym c.in_ok-path.ensures) (here (goal.at.settled_write-requires c).In-Some).1

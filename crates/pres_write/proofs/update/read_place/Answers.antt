@@ -1,0 +1,103 @@
+use Rattle.std.proofs.Common.{◌≡◌, ◌+◌, ◌-◌, ◌<◌, ◌≤◌, ◌++◌, ◌⊎◌, ℕ, List, length, length-append, true, false, cond, None, Some, Err, inl, inr, sym, ap, subst, ◌∙◌, arith}
+use Rattle.std.proofs.lemmas.Bool.Decides.{nat_tests}
+use Rattle.std.specs.Option.{option_or}
+use Rattle.std.specs.Prelude.{nat_lt}
+use Rattle.serde_json.specs.Data.{Data}
+use Rattle.serde_json.specs.View.{view}
+use Rattle.pres_tree.specs.declared.fault.TreeFault.{TreeFault}
+use Rattle.pres_tree.specs.declared.fault.TreeFault.TheVariants.{Memory, TooDeep}
+use Rattle.pres_tree.specs.Paths.{Path, IsPath, max_depth, segments, path_fault}
+use Rattle.pres_tree.specs.Reading.{fault_of, levels_below, rows_of}
+use Rattle.pres_tree.specs.Rows.{Rows, Fits}
+use Rattle.pres_write.specs.declared.draft.Slot.{Slot}
+use Rattle.pres_write.specs.Drafts.{slot_reading}
+use Rattle.pres_write.specs.OpForms.{place_fault}
+use Rattle.pres_write.proofs.Members.{refused_by}
+use Rattle.pres_write.proofs.update.read_place.Goals as goal
+
+not_above : (n : ℕ) → n ≤ max_depth → nat_lt max_depth n ≡ false
+not_above n h = grind (arith, nat_tests)
+
+above : (n : ℕ) → max_depth < n → nat_lt max_depth n ≡ true
+above n h = grind (arith, nat_tests)
+
+-- what is wrong with a place whose name is a path
+named : (p : Path) (name : List ℕ) (d : Data) → path_fault name ≡ None → place_fault p name d ≡ cond (nat_lt max_depth (length p + length (segments name))) (Some TooDeep) (fault_of slot_reading (max_depth + 1 - (length p + length (segments name))) d)
+named p name d sound = ap (λ o. option_or o (cond (nat_lt max_depth (length p + length (segments name))) (Some TooDeep) (fault_of slot_reading (max_depth + 1 - (length p + length (segments name))) d))) sound
+
+deep : (p : Path) (name : List ℕ) (d : Data) → path_fault name ≡ None → max_depth < length p + length (segments name) → place_fault p name d ≡ Some TooDeep
+deep p name d sound h =
+    named p name d sound
+    ∙ ap (λ b. cond b (Some TooDeep) (fault_of slot_reading (max_depth + 1 - (length p + length (segments name))) d)) (above (length p + length (segments name)) h)
+
+-- a path that is whole is no fault
+there : (p : Path) (name : List ℕ) (d : Data) (whole : Path) → path_fault name ≡ None → whole ≡ p ++ segments name → IsPath whole → place_fault p name d ≡ fault_of slot_reading (levels_below whole) d
+there p name d whole sound is path =
+    let joined : length whole ≡ length p + length (segments name) = ap length is ∙ length-append p (segments name) in
+    let small : nat_lt max_depth (length p + length (segments name)) ≡ false = subst (λ n. nat_lt max_depth n ≡ false) joined (not_above (length whole) path.0) in
+    named p name d sound
+    ∙ ap (λ b. cond b (Some TooDeep) (fault_of slot_reading (max_depth + 1 - (length p + length (segments name))) d)) small
+    ∙ ap (λ n. fault_of slot_reading (max_depth + 1 - n) d) (sym joined)
+
+abbrev Read : Path → List ℕ → Data → Path × Rows Slot → Type 0
+Read p name d place = (place_fault p name d ≡ None) × (place ≡ (segments name, rows_of slot_reading d))
+
+abbrev Refused : Path → List ℕ → Data → TreeFault → Type 0
+Refused p name d e = (e ≡ Memory) ⊎ (place_fault p name d ≡ Some e)
+
+pub returns-in_err-place-clause-read : goal.returns-in_err-place-clause-read
+returns-in_err-place-clause-read c =
+    let p = c.args.path.now in
+    let name = c.args.name.now in
+    let d = view c.args.value.now in
+    let e = c.in_err-place.field-0.0 in
+    let bad : Refused p name d e = elim c.in_err-place.ensures.path [
+      | inl memory ↦ inl memory
+      | inr fault ↦ inr (ap (λ o. option_or o (cond (nat_lt max_depth (length p + length (segments name))) (Some TooDeep) (fault_of slot_reading (max_depth + 1 - (length p + length (segments name))) d))) fault)
+    ] in
+    refused_by (Read p name d) (Refused p name d) c.from_residual.result e c.from_residual.ensures bad
+
+pub returns-in_err-whole-clause-read : goal.returns-in_err-whole-clause-read
+returns-in_err-whole-clause-read c =
+    let p = c.args.path.now in
+    let name = c.args.name.now in
+    let d = view c.args.value.now in
+    let e = c.in_err-whole.field-0.0 in
+    let place = c.in_ok-place.ensures.path in
+    let bad : Refused p name d e = elim c.in_err-whole.ensures.err [
+      | inl is ↦ inr (deep p name d place.1 (subst (λ q. max_depth < length p + length q) place.0 (c.in_err-whole.ensures.deep.0 (ap Err is))) ∙ ap Some (sym is))
+      | inr memory ↦ inl memory
+    ] in
+    refused_by (Read p name d) (Refused p name d) c.from_residual-in_err-whole.result e c.from_residual-in_err-whole.ensures bad
+
+pub returns-in_err-draft-clause-read : goal.returns-in_err-draft-clause-read
+returns-in_err-draft-clause-read c =
+    let p = c.args.path.now in
+    let name = c.args.name.now in
+    let d = view c.args.value.now in
+    let e = c.in_err-draft.field-0.0 in
+    let place = c.in_ok-place.ensures.path in
+    let whole = c.in_ok-whole.whole in
+    let is : whole ≡ p ++ segments name = c.in_ok-whole.ensures.path ∙ ap (λ q. p ++ q) place.0 in
+    let bad : Refused p name d e = elim c.in_err-draft.ensures.read [
+      | inl memory ↦ inl memory
+      | inr fault ↦ inr (there p name d whole place.1 is (subst IsPath c.whole.view_is c.whole.invariant) ∙ fault)
+    ] in
+    refused_by (Read p name d) (Refused p name d) c.from_residual-in_err-draft.result e c.from_residual-in_err-draft.ensures bad
+
+pub returns-clause-read : goal.returns-clause-read
+returns-clause-read c =
+    let p = c.args.path.now in
+    let name = c.args.name.now in
+    let d = view c.args.value.now in
+    let place = c.in_ok-place.ensures.path in
+    let read = c.in_ok-draft.ensures.read in
+    let is : c.in_ok-whole.whole ≡ p ++ segments name = c.in_ok-whole.ensures.path ∙ ap (λ q. p ++ q) place.0 in (
+      there p name d c.in_ok-whole.whole place.1 is (subst IsPath c.whole.view_is c.whole.invariant) ∙ read.0,
+      λ i. (place.0 i, read.1 i),
+    )
+
+pub returns-clause-fits : goal.returns-clause-fits
+returns-clause-fits c =
+    subst (λ q. IsPath q × Fits q c.in_ok-draft.draft) c.in_ok-whole.ensures.path
+    (subst IsPath c.whole.view_is c.whole.invariant, c.in_ok-draft.ensures.fits)
