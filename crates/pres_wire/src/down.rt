@@ -197,106 +197,87 @@ impl Down {
     pub fn copy(&self, alloc: Global) -> Result<Down, AllocError>
         ensures { IfOk result (λ made. made ≡ self.now) }
     {
-        match self {
-            Down::Fault { session, code } => Ok(Down::Fault {
-                session: copied_session(alloc, session)?,
-                code: *code,
-            }),
-            Down::Welcome { session, .. }
-            | Down::Reply { session, .. }
-            | Down::Gone { session, .. }
-            | Down::Armed { session, .. }
-            | Down::Denied { session, .. }
-            | Down::Snap { session, .. }
-            | Down::Push { session, .. }
-            | Down::OffDone { session, .. } => {
+        match *self {
+            Down::Welcome {
+                ref session,
+                z,
+                ops,
+            } => {
                 let session = session.copy(alloc)?;
-                self.copy_for(alloc, session)
+                Ok(Down::Welcome { session, z, ops })
             }
-        }
-    }
-
-    // An equal message, for this session, which equals its own.
-    fn copy_for(&self, alloc: Global, session: SessionId) -> Result<Down, AllocError>
-        requires { session_for self.now ≡ Some session }
-        ensures { IfOk result (λ made. made ≡ self.now) }
-    {
-        match self {
-            Down::Welcome { z, ops, .. } => Ok(Down::Welcome {
-                session,
-                z: *z,
-                ops: *ops,
-            }),
             Down::Reply {
+                ref session,
                 r,
                 z,
                 q,
                 n,
                 done,
-                out,
-                ..
-            } => Ok(Down::Reply {
-                session,
-                r: *r,
-                z: *z,
-                q: *q,
-                n: *n,
-                done: *done,
-                out: out.copy(alloc)?,
-            }),
-            Down::Gone { r, z, why, .. } => Ok(Down::Gone {
-                session,
-                r: *r,
-                z: *z,
-                why: *why,
-            }),
-            Down::Fault { code, .. } => Ok(Down::Fault {
-                session: Some(session),
-                code: *code,
-            }),
-            Down::Armed { r, z, q, .. } => Ok(Down::Armed {
-                session,
-                r: *r,
-                z: *z,
-                q: *q,
-            }),
-            Down::Denied { r, z, q, why, .. } => Ok(Down::Denied {
-                session,
-                r: *r,
-                z: *z,
-                q: *q,
-                why: *why,
-            }),
-            Down::Snap {
+                ref out,
+            } => {
+                let (session, out) = copied_outcome(alloc, session, out)?;
+                Ok(Down::Reply {
+                    session,
+                    r,
+                    z,
+                    q,
+                    n,
+                    done,
+                    out,
+                })
+            }
+            Down::Gone {
+                ref session,
+                r,
+                z,
+                why,
+            } => {
+                let session = session.copy(alloc)?;
+                Ok(Down::Gone { session, r, z, why })
+            }
+            Down::Fault { ref session, code } => {
+                let session = copied_session(alloc, session)?;
+                Ok(Down::Fault { session, code })
+            }
+            Down::Armed {
+                ref session,
                 r,
                 z,
                 q,
-                path,
-                value,
-                ..
             } => {
-                let (path, value) = copied_place(alloc, path, value)?;
-                Ok(Down::Snap {
-                    session,
-                    r: *r,
-                    z: *z,
-                    q: *q,
-                    path,
-                    value,
-                })
+                let session = session.copy(alloc)?;
+                Ok(Down::Armed { session, r, z, q })
             }
-            Down::Push { r, z, values, .. } => Ok(Down::Push {
-                session,
-                r: *r,
-                z: *z,
-                values: values.copy(alloc)?,
-            }),
-            Down::OffDone { r, z, q, .. } => Ok(Down::OffDone {
-                session,
-                r: *r,
-                z: *z,
-                q: *q,
-            }),
+            Down::Denied {
+                ref session,
+                r,
+                z,
+                q,
+                why,
+            } => copied_denied(alloc, session, r, z, q, why),
+            Down::Snap {
+                ref session,
+                r,
+                z,
+                q,
+                ref path,
+                ref value,
+            } => copied_snap(alloc, session, r, z, q, path, value),
+            Down::Push {
+                ref session,
+                r,
+                z,
+                ref values,
+            } => copied_push(alloc, session, r, z, values),
+            Down::OffDone {
+                ref session,
+                r,
+                z,
+                q,
+            } => {
+                let session = session.copy(alloc)?;
+                Ok(Down::OffDone { session, r, z, q })
+            }
         }
     }
 
@@ -397,6 +378,19 @@ fn copied_session(
     }
 }
 
+// An equal session, and what a write came to again.
+fn copied_outcome(
+    alloc: Global,
+    session: &SessionId,
+    out: &Kept,
+) -> Result<(SessionId, Kept), AllocError>
+    ensures { IfOk result (λ made. made ≡ (session.now, out.now)) }
+{
+    let session = session.copy(alloc)?;
+    let out = out.copy(alloc)?;
+    Ok((session, out))
+}
+
 // An equal path, and an equal value.
 fn copied_place(alloc: Global, path: &Path, value: &Tree) -> Result<(Path, Tree), AllocError>
     ensures { IfOk result (λ made. made ≡ (path.now, value.now)) }
@@ -404,4 +398,70 @@ fn copied_place(alloc: Global, path: &Path, value: &Tree) -> Result<(Path, Tree)
     let path = path.copy(alloc)?;
     let value = value.copy(alloc)?;
     Ok((path, value))
+}
+
+// A Denied of these.
+fn copied_denied(
+    alloc: Global,
+    session: &SessionId,
+    r: Number,
+    z: Number,
+    q: Number,
+    why: Limit,
+) -> Result<Down, AllocError>
+    ensures { IfOk result (λ made. made ≡ Down.Denied session.now r z q why) }
+{
+    let session = session.copy(alloc)?;
+    Ok(Down::Denied {
+        session,
+        r,
+        z,
+        q,
+        why,
+    })
+}
+
+// A Snap of these.
+fn copied_snap(
+    alloc: Global,
+    session: &SessionId,
+    r: Number,
+    z: Number,
+    q: Number,
+    path: &Path,
+    value: &Tree,
+) -> Result<Down, AllocError>
+    ensures { IfOk result (λ made.
+        made ≡ Down.Snap session.now r z q path.now value.now) }
+{
+    let session = session.copy(alloc)?;
+    let (path, value) = copied_place(alloc, path, value)?;
+    Ok(Down::Snap {
+        session,
+        r,
+        z,
+        q,
+        path,
+        value,
+    })
+}
+
+// A Push of these.
+fn copied_push(
+    alloc: Global,
+    session: &SessionId,
+    r: Number,
+    z: Number,
+    values: &Values,
+) -> Result<Down, AllocError>
+    ensures { IfOk result (λ made. made ≡ Down.Push session.now r z values.now) }
+{
+    let session = session.copy(alloc)?;
+    let values = values.copy(alloc)?;
+    Ok(Down::Push {
+        session,
+        r,
+        z,
+        values,
+    })
 }

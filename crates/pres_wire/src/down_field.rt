@@ -3,7 +3,7 @@
 ghost use Rattle.std.specs.Prelude.{◌≡◌, ◌⊎◌, IfOk, MatchResult, Ok, Err};
 ghost use Rattle.serde_json.specs.View.{view};
 ghost use Rattle.pres_tree.specs.Rows.{option_of};
-ghost use Rattle.pres_wire.specs.DownReads.{why_of, why_in, out_of, limit_in, session_or_none, ops_field, out_field, why_field, limit_field, value_field, values_field, session_or_null_field, last_field, code_of, code_field};
+ghost use Rattle.pres_wire.specs.DownReads.{why_of, why_in, out_of, limit_of, limit_in, session_or_none, ops_field, out_field, why_field, limit_field, value_field, values_field, session_or_null_field, last_field, code_of, code_field};
 ghost use Rattle.pres_wire.specs.declared.fault.WireFault.TheVariants.{Memory};
 
 use crate::down::{Code, Limit};
@@ -59,14 +59,21 @@ pub(crate) fn why_field(message: &Value) -> Result<Why, WireFault>
         .ok_or(WireFault::Field(Field::Why))
 }
 
-fn limit_in(value: &Value) -> Option<Limit>
-    ensures { result ≡ limit_in (view value.now) }
+// The limit of a number.
+fn limit_of(number: Number) -> Option<Limit>
+    ensures { result ≡ limit_of number }
 {
-    match Number::from_value(value)?.get() {
+    match number.get() {
         1 => Some(Limit::Plan),
         2 => Some(Limit::Listens),
         _ => None,
     }
+}
+
+fn limit_in(value: &Value) -> Option<Limit>
+    ensures { result ≡ limit_in (view value.now) }
+{
+    limit_of(Number::from_value(value)?)
 }
 
 // The limit that a message met.

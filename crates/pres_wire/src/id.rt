@@ -66,7 +66,7 @@ impl Model for ClientId {
 fn is_id_byte(byte: u8) -> bool
     ensures { result ≡ is_id_byte byte }
 {
-    matches!(byte, b'A'..=b'Z' | b'a'..=b'z' | b'0'..=b'9' | b'_' | b'-')
+    byte.is_ascii_alphanumeric() || matches!(byte, b'_' | b'-')
 }
 
 fn has_id_bytes(text: &str) -> bool

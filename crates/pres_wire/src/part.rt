@@ -5,7 +5,7 @@ ghost use Rattle.serde_json.specs.Data.{depth};
 ghost use Rattle.serde_json.specs.View.{view};
 ghost use Rattle.pres_tree.specs.Printing.{json_of};
 ghost use Rattle.pres_tree.specs.Scalars.{scalar_printing};
-ghost use Rattle.pres_wire.specs.Fields.{path_of};
+ghost use Rattle.pres_wire.specs.Fields.{path_in, path_of};
 ghost use Rattle.pres_wire.specs.DownReads.{pair_of, value_of};
 
 use pres_tree::{Path, Tree, TreeFault};
@@ -25,17 +25,24 @@ pub(crate) fn pair_of(value: &Value) -> Option<(&Value, &Value)>
     Some((first, second))
 }
 
-// The path that a JSON value is the text of.
-pub(crate) fn path_of(alloc: Global, value: &Value) -> Result<Option<Path>, AllocError>
-    ensures { IfOk result (λ found. found ≡ path_of (view value.now)) }
+// The path of a text.
+fn path_in(alloc: Global, text: &str) -> Result<Option<Path>, AllocError>
+    ensures { IfOk result (λ found. found ≡ path_in text.now) }
 {
-    let Some(text) = value.as_str() else {
-        return Ok(None);
-    };
     match Path::parse(alloc, text) {
         Ok(path) => Ok(Some(path)),
         Err(TreeFault::Memory) => Err(AllocError),
         Err(_) => Ok(None),
+    }
+}
+
+// The path that a JSON value is the text of.
+pub(crate) fn path_of(alloc: Global, value: &Value) -> Result<Option<Path>, AllocError>
+    ensures { IfOk result (λ found. found ≡ path_of (view value.now)) }
+{
+    match value.as_str() {
+        Some(text) => path_in(alloc, text),
+        None => Ok(None),
     }
 }
 
