@@ -1,6 +1,6 @@
 //! The client: the messages that it receives.
 
-ghost use Rattle.std.specs.Prelude.{◌≡◌, ◌<◌, true, false, drop, fold, IfOk, IfErr, OnOk, OnErr, MatchOption, Some, None};
+ghost use Rattle.std.specs.Prelude.{◌≡◌, ◌<◌, ℕ, true, false, drop, fold, IfOk, IfErr, OnOk, OnErr, MatchOption, Some, None};
 ghost use Rattle.std.specs.List.{filter_map};
 ghost use Rattle.pres_wire.specs.Numbers.{greatest_number};
 ghost use Rattle.pres_client.specs.Clients.{is_opening, watch_of};
@@ -200,6 +200,42 @@ impl Client {
         Ok(())
     }
 
+    // The Reply to the oldest message says that it stands.
+    fn receive_wrote(&mut self, z: Number, done: Number) -> Result<(), AllocError>
+        requires { self.old.taken < greatest_number }
+        ensures ok { (q n : ℕ) → fits_write self.old q n ≡ true → OnOk result
+            (self.new ≡ judge_reply (bring self.old z) self.old.queue q n done Kept.Wrote) }
+        ensures err { OnErr result (self.new ≡ self.old) }
+    {
+        let request = match self.mail.queue().front() {
+            Some(Queued::Write { request, .. } | Queued::Try { request, .. }) => *request,
+            _ => return self.unfit(z),
+        };
+        self.done(z, request, done)
+    }
+
+    // The Reply to the oldest message says that another write was before it, and what it found.
+    fn receive_stale(&mut self, z: Number, held: Option<Tree>) -> Result<(), AllocError>
+        requires { self.old.taken < greatest_number }
+        ensures ok { (q n done : ℕ) → fits_write self.old q n ≡ true → OnOk result
+            (self.new ≡ judge_reply (bring self.old z) self.old.queue q n done (Kept.Stale held)) }
+        ensures err { OnErr result (self.new ≡ self.old) }
+    {
+        let Some(
+            Queued::Try {
+                request,
+                attempt,
+                transaction,
+            },
+        ) = self.mail.queue().front()
+        else {
+            return self.unfit(z);
+        };
+        let (request, attempt) = (*request, *attempt);
+        let path = transaction.path().copy(self.alloc)?;
+        self.overtaken(z, request, attempt, path, held.unwrap_or(Tree::empty()))
+    }
+
     // A Reply is taken.
     fn receive_reply(
         &mut self,
@@ -217,28 +253,9 @@ impl Client {
         if !self.fits_write(q, n) {
             return self.unfit(z);
         }
-        let (request, attempt, path) = match self.mail.queue().front() {
-            Some(Queued::Write { request, .. }) => {
-                let request = *request;
-                return match out {
-                    Kept::Wrote => self.done(z, request, done),
-                    Kept::Stale(_) => self.unfit(z),
-                };
-            }
-            Some(
-                Queued::Try {
-                    request,
-                    attempt,
-                    transaction,
-                },
-            ) => (*request, *attempt, transaction.path().copy(self.alloc)?),
-            _ => return self.unfit(z),
-        };
         match out {
-            Kept::Wrote => self.done(z, request, done),
-            Kept::Stale(held) => {
-                self.overtaken(z, request, attempt, path, held.unwrap_or(Tree::empty()))
-            }
+            Kept::Wrote => self.receive_wrote(z, done),
+            Kept::Stale(held) => self.receive_stale(z, held),
         }
     }
 
