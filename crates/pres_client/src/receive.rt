@@ -11,7 +11,7 @@ ghost use Rattle.pres_client.specs.declared.fault.ClientFault.TheVariants.{Memor
 use crate::ask::Ask;
 use crate::client::{Client, Phase};
 use crate::fault::ClientFault;
-use crate::notice::Notice;
+use crate::notice::{Notice, alone};
 use crate::queued::Queued;
 use crate::watch::Watches;
 use pres_tree::{Path, Tree};
@@ -139,8 +139,7 @@ impl Client {
         ensures ok { OnOk result (self.new ≡ note self.old notice) }
         ensures err { OnErr result (self.new ≡ self.old) }
     {
-        let mut notices = Vec::new(self.alloc);
-        notices.push(notice)?;
+        let notices = alone(self.alloc, notice)?;
         self.mail.add(Vec::new(self.alloc), notices)
     }
 
@@ -181,21 +180,12 @@ impl Client {
             self.settle_write(z);
             return Ok(());
         }
-        let attempt = attempt + 1;
-        let mut notices = Vec::new(self.alloc);
-        notices.push(Notice::Ask {
-            request,
-            attempt,
-            value: value.copy(self.alloc)?,
-        })?;
-        self.mail.reserve(0, 0, notices.len())?;
         let ask = Ask {
             path,
-            attempt,
+            attempt: attempt + 1,
             value,
         };
-        self.asks.add(request, ask)?;
-        self.mail.put_out(Vec::new(self.alloc), notices);
+        self.ask(request, ask)?;
         self.settle_write(z);
         Ok(())
     }
