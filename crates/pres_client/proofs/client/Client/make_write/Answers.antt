@@ -1,4 +1,4 @@
-use Rattle.std.proofs.Common.{◌≡◌, ◌++◌, [], ◌∷◌, ap, sym, ◌∙◌, ◌+◌, if◌then◌else◌}
+use Rattle.std.proofs.Common.{◌≡◌, ◌++◌, ap, sym, ◌∙◌, ◌+◌, if◌then◌else◌}
 use Rattle.pres_client.specs.Clients.{State, is_online, no_message, no_write}
 use Rattle.pres_client.specs.Calls.{make_write, sent_now}
 use Rattle.pres_client.proofs.Ranges.{in_range-write, below}
