@@ -21,3 +21,9 @@ pub tried_fields : (c : State) (m : Queued) (k sent : ℕ) (queue : List Queued)
     → queue ≡ c.queue ++ m ∷ [] → sends ≡ c.sends ++ sent_now c m → notices ≡ c.notices → asks ≡ without_ask k c.asks → sent ≡ (if is_online c.phase then c.made + 1 else c.sent)
     → record c { made = c.made + 1; sent = sent; queue = queue; sends = sends; notices = notices; asks = asks } ≡ (let d = make_write c m in record d { asks = without_ask k c.asks })
 tried_fields c m k sent queue sends notices asks q s n a t = rw (q, s, n, a, t) refl
+
+-- one write more, field by field
+pub made_fields : (c : State) (m : Queued) (sent : ℕ) (queue : List Queued) (sends : List Up) (notices : List Notice)
+    → queue ≡ c.queue ++ m ∷ [] → sends ≡ c.sends ++ sent_now c m → notices ≡ c.notices → sent ≡ (if is_online c.phase then c.made + 1 else c.sent)
+    → record c { made = c.made + 1; sent = sent; queue = queue; sends = sends; notices = notices } ≡ make_write c m
+made_fields c m sent queue sends notices q s n t = rw (q, s, n, t) refl

@@ -257,11 +257,13 @@ impl Client {
         requires write { is_write queued.now ≡ true → no_write self.now ≡ false }
         ensures { IfOk result (λ v. v.items ≡ sent_now self.now queued.now) }
     {
-        let mut sends = Vec::new(self.alloc);
-        if self.phase.is_online() {
-            let n = self.base() + self.made + 1;
-            sends.push(queued.message(self.alloc, &self.session, self.next_q(), n)?)?;
+        if !self.phase.is_online() {
+            return Ok(Vec::new(self.alloc));
         }
+        let n = self.base() + self.made + 1;
+        let message = queued.message(self.alloc, &self.session, self.next_q(), n)?;
+        let mut sends = Vec::new(self.alloc);
+        sends.push(message)?;
         Ok(sends)
     }
 

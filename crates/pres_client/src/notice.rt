@@ -1,7 +1,10 @@
 //! What a client tells its caller.
 
+ghost use Rattle.std.specs.Prelude.{◌≡◌, ◌∷◌, [], IfOk};
+
 use pres_tree::{Path, Tree};
 use pres_wire::{Code, Limit, Number};
+use std::alloc::{AllocError, Global};
 
 /// What a client tells its caller. Requests are named by the number that their call answered.
 #[derive(Drop)]
@@ -49,4 +52,13 @@ pub enum Notice {
     },
     /// The server refused a message, or an answer fitted nothing: then the code is `Bad`.
     Faulted(Code),
+}
+
+// The list of this notice alone.
+pub(crate) fn alone(alloc: Global, notice: Notice) -> Result<Vec<Notice>, AllocError>
+    ensures { IfOk result (λ v. v.items ≡ notice ∷ []) }
+{
+    let mut notices = Vec::new(alloc);
+    notices.push(notice)?;
+    Ok(notices)
 }

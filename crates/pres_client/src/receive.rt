@@ -1,6 +1,6 @@
 //! The client: the messages that it receives.
 
-ghost use Rattle.std.specs.Prelude.{◌≡◌, ◌<◌, true, false, drop, fold, IfOk, IfErr, OnOk, OnErr, MatchOption, Some, None};
+ghost use Rattle.std.specs.Prelude.{◌≡◌, ◌<◌, ℕ, true, false, drop, fold, IfOk, IfErr, OnOk, OnErr, MatchOption, Some, None};
 ghost use Rattle.std.specs.List.{filter_map};
 ghost use Rattle.pres_wire.specs.Numbers.{greatest_number};
 ghost use Rattle.pres_client.specs.Clients.{is_opening, watch_of};
@@ -11,7 +11,7 @@ ghost use Rattle.pres_client.specs.declared.fault.ClientFault.TheVariants.{Memor
 use crate::ask::Ask;
 use crate::client::{Client, Phase};
 use crate::fault::ClientFault;
-use crate::notice::Notice;
+use crate::notice::{Notice, alone};
 use crate::queued::Queued;
 use crate::watch::Watches;
 use pres_tree::{Path, Tree};
@@ -139,8 +139,7 @@ impl Client {
         ensures ok { OnOk result (self.new ≡ note self.old notice) }
         ensures err { OnErr result (self.new ≡ self.old) }
     {
-        let mut notices = Vec::new(self.alloc);
-        notices.push(notice)?;
+        let notices = alone(self.alloc, notice)?;
         self.mail.add(Vec::new(self.alloc), notices)
     }
 
@@ -181,23 +180,50 @@ impl Client {
             self.settle_write(z);
             return Ok(());
         }
-        let attempt = attempt + 1;
-        let mut notices = Vec::new(self.alloc);
-        notices.push(Notice::Ask {
-            request,
-            attempt,
-            value: value.copy(self.alloc)?,
-        })?;
-        self.mail.reserve(0, 0, notices.len())?;
         let ask = Ask {
             path,
-            attempt,
+            attempt: attempt + 1,
             value,
         };
-        self.asks.add(request, ask)?;
-        self.mail.put_out(Vec::new(self.alloc), notices);
+        self.ask(request, ask)?;
         self.settle_write(z);
         Ok(())
+    }
+
+    // The Reply to the oldest message says that it stands.
+    fn receive_wrote(&mut self, z: Number, done: Number) -> Result<(), AllocError>
+        requires { self.old.taken < greatest_number }
+        ensures ok { (q n : ℕ) → fits_write self.old q n ≡ true → OnOk result
+            (self.new ≡ judge_reply (bring self.old z) self.old.queue q n done Kept.Wrote) }
+        ensures err { OnErr result (self.new ≡ self.old) }
+    {
+        let request = match self.mail.queue().front() {
+            Some(Queued::Write { request, .. } | Queued::Try { request, .. }) => *request,
+            _ => return self.unfit(z),
+        };
+        self.done(z, request, done)
+    }
+
+    // The Reply to the oldest message says that another write was before it, and what it found.
+    fn receive_stale(&mut self, z: Number, held: Option<Tree>) -> Result<(), AllocError>
+        requires { self.old.taken < greatest_number }
+        ensures ok { (q n done : ℕ) → fits_write self.old q n ≡ true → OnOk result
+            (self.new ≡ judge_reply (bring self.old z) self.old.queue q n done (Kept.Stale held)) }
+        ensures err { OnErr result (self.new ≡ self.old) }
+    {
+        let Some(
+            Queued::Try {
+                request,
+                attempt,
+                transaction,
+            },
+        ) = self.mail.queue().front()
+        else {
+            return self.unfit(z);
+        };
+        let (request, attempt) = (*request, *attempt);
+        let path = transaction.path().copy(self.alloc)?;
+        self.overtaken(z, request, attempt, path, held.unwrap_or(Tree::empty()))
     }
 
     // A Reply is taken.
@@ -217,28 +243,9 @@ impl Client {
         if !self.fits_write(q, n) {
             return self.unfit(z);
         }
-        let (request, attempt, path) = match self.mail.queue().front() {
-            Some(Queued::Write { request, .. }) => {
-                let request = *request;
-                return match out {
-                    Kept::Wrote => self.done(z, request, done),
-                    Kept::Stale(_) => self.unfit(z),
-                };
-            }
-            Some(
-                Queued::Try {
-                    request,
-                    attempt,
-                    transaction,
-                },
-            ) => (*request, *attempt, transaction.path().copy(self.alloc)?),
-            _ => return self.unfit(z),
-        };
         match out {
-            Kept::Wrote => self.done(z, request, done),
-            Kept::Stale(held) => {
-                self.overtaken(z, request, attempt, path, held.unwrap_or(Tree::empty()))
-            }
+            Kept::Wrote => self.receive_wrote(z, done),
+            Kept::Stale(held) => self.receive_stale(z, held),
         }
     }
 

@@ -1,8 +1,8 @@
 //! The client: its writes and transactions.
 
 ghost use Rattle.std.specs.Prelude.{◌≡◌, ◌≢◌, ◌+◌, ℕ, [], IfOk, IfErr, OnOk, OnErr, MatchResult, Some, None, false, unwrap_or, option_map};
-ghost use Rattle.pres_client.specs.Clients.{no_request, no_write, no_message, ask_of};
-ghost use Rattle.pres_client.specs.Calls.{known, set_fault, after_write, sent_now, try_of, is_too_deep, Answers, Does, Refuses, IsFew};
+ghost use Rattle.pres_client.specs.Clients.{no_request, no_write, no_message, ask_of, with_ask};
+ghost use Rattle.pres_client.specs.Calls.{known, note, set_fault, after_write, sent_now, try_of, is_too_deep, Answers, Does, Refuses, IsFew};
 ghost use Rattle.pres_write.specs.Updates.{update_of, update_fault};
 ghost use Rattle.pres_client.specs.declared.fault.ClientFault.TheVariants.{Memory, Write};
 
@@ -10,7 +10,7 @@ use crate::ask::Ask;
 use crate::call::{Answer, Call};
 use crate::client::Client;
 use crate::fault::ClientFault;
-use crate::notice::Notice;
+use crate::notice::{Notice, alone};
 use crate::queued::Queued;
 use pres_tree::{MAX_DEPTH, Path, Tree, TreeFault};
 use pres_wire::{Count, Up};
@@ -129,6 +129,30 @@ impl Client {
         }
     }
 
+    // The request's transaction waits for its caller's answer, and the notice Ask tells it.
+    pub(crate) fn ask(&mut self, request: u64, ask: Ask) -> Result<(), AllocError>
+        ensures ok { OnOk result (self.new
+            ≡ record (note self.old (Notice.Ask request ask.attempt ask.value)) {
+              asks = with_ask request ask self.old.asks;
+            }) }
+        ensures err { OnErr result (self.new ≡ self.old) }
+    {
+        let value = ask.value.copy(self.alloc)?;
+        let attempt = ask.attempt;
+        let notices = alone(
+            self.alloc,
+            Notice::Ask {
+                request,
+                attempt,
+                value,
+            },
+        )?;
+        self.mail.reserve(0, 0, notices.len())?;
+        self.asks.add(request, ask)?;
+        self.mail.put_out(Vec::new(self.alloc), notices);
+        Ok(())
+    }
+
     /// Asks by the notice Ask what to put in the place of the value at the path: of the view of
     /// this very path, or null, and then of the value that another write left, until the answer's
     /// value was put, up to 25 times. Refused, in this order: Spent, Memory.
@@ -141,24 +165,15 @@ impl Client {
             return Err(ClientFault::Spent);
         }
         let next = self.next_request();
-        let request = next.get();
         let value = self.known(&path)?;
-        let mut notices = Vec::new(self.alloc);
-        notices.push(Notice::Ask {
-            request,
-            attempt: 1,
-            value: value.copy(self.alloc)?,
-        })?;
-        self.mail.reserve(0, 0, notices.len())?;
         let ask = Ask {
             path,
             attempt: 1,
             value,
         };
-        self.asks.add(request, ask)?;
-        self.mail.put_out(Vec::new(self.alloc), notices);
+        self.ask(next.get(), ask)?;
         self.requests = Count::up_to(next);
-        Ok(request)
+        Ok(next.get())
     }
 
     /// Answers what the request's transaction asked. Refused, in this order: NoSuchRequest where
@@ -183,8 +198,7 @@ impl Client {
         ensures ok { OnOk result (Does self.old (Call.Answer request Answer.Abort) self.new) }
         ensures err { IfErr result (Refuses self.old (Call.Answer request Answer.Abort) self.new) }
     {
-        let mut notices = Vec::new(self.alloc);
-        notices.push(Notice::Aborted { request })?;
+        let notices = alone(self.alloc, Notice::Aborted { request })?;
         self.mail.add(Vec::new(self.alloc), notices)?;
         drop(self.asks.take(request));
         Ok(())
