@@ -1,16 +1,15 @@
 -- The watch of a path, in lists that change.
 use Rattle.std.proofs.Common.{refl, sym, ◌∙◌, ap, ◌≡◌, ℕ, List, [], ◌∷◌, map, fold, Bool, true, false, not, cond, ◌&&◌, true≢false, Option, Some, None, Ordering, Less, Equal, Greater, is_eq}
-use Rattle.std.specs.Bool.{Decides}
 use Rattle.std.specs.Option.{option_map}
 use Rattle.std.specs.Ordering.{eq_by_cmp, is_lt}
-use Rattle.std.specs.Cmp.{IsTotalOrder, tied_itself}
-use Rattle.std.specs.Cmp.Lexicographic.{nat_list_cmp_total, lists_total, bytes_decides, pointwise_decides}
-use Rattle.std.specs.FinMap.{IsAntisymmetric, slice_cmp-IsAntisymmetric, nat_cmp-IsAntisymmetric}
+use Rattle.std.specs.Cmp.{tied_itself}
 use Rattle.std.specs.FinMap.Entries.{find, find-put, find-where_key}
 use Rattle.std.proofs.lemmas.Bool.{and_parts, false_from_ne_true}
 use Rattle.pres_tree.specs.declared.scalar.Scalar.{Scalar}
 use Rattle.pres_tree.specs.Paths.{Path, path_cmp, same_path}
 use Rattle.pres_tree.specs.Rows.{Rows}
+use Rattle.pres_tree.specs.Falls.{path_total, path_same as path_apart}
+use Rattle.pres_tree.proofs.PathOrder.{path_same, path_itself, path_flip, same_by_cmp}
 use Rattle.pres_wire.specs.declared.values.PathValue.{PathValue}
 use Rattle.pres_wire.specs.Values.{rise, Rising}
 use Rattle.pres_wire.specs.Views.{value_in}
@@ -19,41 +18,10 @@ use Rattle.pres_client.specs.declared.watch.Shown.TheVariants as shown
 use Rattle.pres_client.specs.Clients.{Watches, watch_of, with_watch, without_watch, kept, frozen, tell, is_shown_live, is_live}
 use Rattle.pres_client.specs.Receiving.{tell_live}
 
--- ---- paths
-
-path_total : IsTotalOrder path_cmp
-path_total = lists_total nat_list_cmp_total
-
-path_apart : IsAntisymmetric path_cmp
-path_apart = slice_cmp-IsAntisymmetric (slice_cmp-IsAntisymmetric nat_cmp-IsAntisymmetric)
-
-path_decides : (p q : Path) → Decides (same_path p q) (p ≡ q)
-path_decides = pointwise_decides bytes_decides
-
-pub path_same : (p q : Path) → same_path p q ≡ true → p ≡ q
-path_same p q e = (path_decides p q).0 e
-
-pub path_itself : (p : Path) → same_path p p ≡ true
-path_itself p = (path_decides p p).1 refl
-
-pub path_flip : (p q : Path) → same_path p q ≡ false → same_path q p ≡ false
-path_flip p q e = false_from_ne_true _ (λ k. true≢false (sym (path_itself p) ∙ ap (same_path p) (sym (path_same q p k)) ∙ e))
-
--- the test of paths is the tie of their order
-same_by_cmp : (p q : Path) → eq_by_cmp path_cmp p q ≡ same_path p q
-same_by_cmp p q = elim (same_path p q) as (λ b. same_path p q ≡ b → eq_by_cmp path_cmp p q ≡ b) [
-  | true ↦ λ e. ap (λ x. eq_by_cmp path_cmp x q) (path_same p q e) ∙ ap is_eq (tied_itself path_total q)
-  | false ↦ λ e. false_from_ne_true _ (λ k. true≢false (sym (ap (same_path p) (sym (path_apart p q (tie _ k))) ∙ path_itself p) ∙ e))
-] refl where
-  tie : (o : Ordering) → is_eq o ≡ true → o ≡ Equal
-  tie Less h = absurd (true≢false (sym h))
-  tie Equal h = refl
-  tie Greater h = absurd (true≢false (sym h))
-
 -- ---- the list of watches
 
 pub watch_of-with : (p x : Path) (w : Watch) (ws : Watches) → watch_of p (with_watch x w ws) ≡ cond (same_path p x) (Some w) (watch_of p ws)
-watch_of-with p x w ws = find-put path_cmp path_total p x w ws ∙ ap (λ b. cond b (Some w) (find path_cmp p ws)) (same_by_cmp p x)
+watch_of-with p x w ws = find-put path_cmp path_total p x w ws ∙ ap (λ b. cond b (Some w) (find path_cmp p ws)) (sym (same_by_cmp p x))
 
 pub watch_of-without : (p x : Path) (ws : Watches) → watch_of p (without_watch x ws) ≡ cond (not (same_path x p)) (watch_of p ws) None
 watch_of-without p x ws = find-where_key path_cmp (λ k. not (same_path x k)) p (λ k e. ap (λ y. not (same_path x y)) (sym (path_apart p k e))) ws

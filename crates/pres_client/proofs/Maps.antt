@@ -2,7 +2,6 @@
 use Rattle.std.proofs.Common.{ℕ, ◌≡◌, Bool, true, false, not, List, [], ◌∷◌, cond, Some, Ordering, Less, Equal, Greater, is_eq, filter, refl, sym, ◌∙◌, ap}
 use Rattle.std.specs.Prelude.{◌==◌}
 use Rattle.std.specs.Cmp.{IsTotalOrder, eq_by_cmp_equiv, unsigned_ties}
-use Rattle.std.specs.Cmp.Lexicographic.{lists_total, lists_ties, nat_list_cmp_total, texts_ties}
 use Rattle.std.specs.Map.{keys_of, lookup, set_value, remove_entry}
 use Rattle.std.specs.BTreeMap.{is_at, insert_entry}
 use Rattle.std.specs.Ordering.{match_ordering, eq_by_cmp, nat_cmp}
@@ -11,8 +10,6 @@ use Rattle.std.specs.FinMap.Entries.{find, put, by_order}
 use Rattle.std.proofs.lemmas.Map.{NonePasses, lookup-none}
 use Rattle.std.proofs.lemmas.Map.Entries.{none_below_head, none_past_head}
 use Rattle.std.proofs.lemmas.Map.Keys.{sorted_tail, IsDistinct-from_sorted}
-use Rattle.pres_tree.specs.Keys.{key_cmp}
-use Rattle.pres_tree.specs.Paths.{Path, path_cmp, same_path}
 
 module _ {K X : Type 0} (R : K → K → Ordering) where
   pub find_at : (k : K) (es : List (K × X)) → lookup (is_at (R k)) es ≡ find R k es
@@ -60,9 +57,3 @@ module _ {K X : Type 0} (R : K → K → Ordering) where
 
 pub same_number : (x y : ℕ) → (x == y) ≡ eq_by_cmp nat_cmp x y
 same_number = unsigned_ties
-
-pub path_total : IsTotalOrder path_cmp
-path_total = lists_total nat_list_cmp_total
-
-pub same_by_cmp : (x y : Path) → same_path x y ≡ eq_by_cmp path_cmp x y
-same_by_cmp = lists_ties key_cmp texts_ties

@@ -45,7 +45,8 @@ use Rattle.pres_client.specs.Receiving.{is_next, fits, fits_write, bring, unfit,
 use Rattle.pres_client.specs.Steps.{Step, calls, receives, hands_out_sends, hands_out_notices, after, run, IsMessage, IsStep, AreMessages}
 use Rattle.pres_client.specs.Trails.{Trail, nothing, more, listens_to, with_snap, with_message, trail_step, kept_for, trail, ViewsHold}
 use Rattle.pres_client.proofs.Phases.{not_open, opening_off}
-use Rattle.pres_client.proofs.Found.{path_same, path_itself, path_flip, watch_of-with, watch_of-without, left, watch_of-frozen, now, told_there, told_elsewhere, push_passed, push_elsewhere, push_there}
+use Rattle.pres_tree.proofs.PathOrder.{path_same, path_itself, path_flip}
+use Rattle.pres_client.proofs.Found.{watch_of-with, watch_of-without, left, watch_of-frozen, now, told_there, told_elsewhere, push_passed, push_elsewhere, push_there}
 
 -- ---- what is seen, one message more
 

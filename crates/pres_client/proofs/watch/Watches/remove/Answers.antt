@@ -1,7 +1,9 @@
 use Rattle.std.proofs.Common.{◌∙◌, ap}
 use Rattle.pres_tree.specs.Paths.{path_cmp, same_path}
 use Rattle.pres_client.specs.Clients.{without_watch}
-use Rattle.pres_client.proofs.Maps.{without_entry, path_total, same_by_cmp}
+use Rattle.pres_tree.specs.Falls.{path_total}
+use Rattle.pres_tree.proofs.PathOrder.{same_by_cmp}
+use Rattle.pres_client.proofs.Maps.{without_entry}
 use Rattle.pres_client.proofs.watch.Watches.remove.Goals as goal
 
 pub returns : goal.returns

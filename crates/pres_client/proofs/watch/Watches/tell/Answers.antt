@@ -2,7 +2,8 @@ use Rattle.std.proofs.Common.{◌∙◌, ap, sym, ◌≡◌, Some, None}
 use Rattle.pres_tree.specs.Paths.{path_cmp}
 use Rattle.pres_client.specs.Clients.{tell, watch_of, with_watch}
 use Rattle.pres_client.specs.declared.watch.Watch.{Watch}
-use Rattle.pres_client.proofs.Maps.{find_at, put_value, path_total}
+use Rattle.pres_tree.specs.Falls.{path_total}
+use Rattle.pres_client.proofs.Maps.{find_at, put_value}
 use Rattle.pres_client.proofs.Watched.{tell_known, tell_unknown}
 use Rattle.pres_client.proofs.watch.Watches.tell.Goals as goal
 
