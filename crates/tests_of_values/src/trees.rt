@@ -269,12 +269,22 @@ fn kind_at(alloc: Global, tree: &Tree, path: &str) -> Result<String, Fail> {
     Ok(String::from_str(alloc, kind)?)
 }
 
-// The tree, its depth, and what stands at `/` and at `/a`.
+// What stands there, copied, as JSON.
+fn copied_at(alloc: Global, tree: &Tree, path: &str) -> Result<String, Fail> {
+    let path = path_of(alloc, path)?;
+    let copied = tree.copy_at(alloc, &path)?;
+    let text = printed(alloc, &copied);
+    drop(copied);
+    text
+}
+
+// The tree, its depth, what stands at `/` and at `/a`, and that as JSON.
 fn tree_answer(alloc: Global, tree: &Tree) -> Result<String, Fail> {
     let json = printed(alloc, tree)?;
     let root = kind_at(alloc, tree, "/")?;
     let a = kind_at(alloc, tree, "/a")?;
-    Ok(format!(in alloc; "{json} {} {root} {a}", tree.depth())?)
+    let there = copied_at(alloc, tree, "/a")?;
+    Ok(format!(in alloc; "{json} {} {root} {a} {there}", tree.depth())?)
 }
 
 // The same of the tree after the writes.
@@ -366,9 +376,9 @@ const VALUES: &str = r#"[1,null,2] => {"0":1,"2":2}
 {"a/":null,"b":1.5} => 4 BadKey
 [1,2,1.5,3,4,5,6,7,8,9,18446744073709551615] => 7 Range"#;
 
-const WRITES: &str = r#"/a 1;/a/b null => {"a":1} 1 object 1
-/a 1;/a/b null;/a/b true => {"a":{"b":true}} 2 object object
-/a 1;/a/b null;/a/b true;/a/b {} => null 0 nothing nothing"#;
+const WRITES: &str = r#"/a 1;/a/b null => {"a":1} 1 object 1 1
+/a 1;/a/b null;/a/b true => {"a":{"b":true}} 2 object object {"b":true}
+/a 1;/a/b null;/a/b true;/a/b {} => null 0 nothing nothing null"#;
 
 #[test]
 fn texts_are_compared_by_their_bytes(rt: HostRuntime) -> Result<(), Fail> {
