@@ -206,7 +206,8 @@ impl Update {
         let mut placements = Vec::new(alloc);
         for (place, draft) in self.places.iter() {
             let path = whole_path(alloc, &self.path, place)?;
-            placements.push(Placement::fitting(path, draft.copy(alloc)?))?;
+            let draft = draft.copy(alloc)?;
+            placements.push(Placement::fitting(path, draft))?;
         }
         Ok(Puts::of(placements))
     }
