@@ -45,6 +45,7 @@ impl Basic {
     {
         let value = value.unwrap_or(Tree::empty());
         if path.len() + value.depth() > MAX_DEPTH {
+            drop(value);
             return Err(TreeFault::TooDeep);
         }
         Ok(Basic {
@@ -127,7 +128,12 @@ pub(crate) fn settled_write(
 fn some_value(value: Tree) -> Option<Tree>
     ensures { result ≡ option_of value }
 {
-    if value.is_empty() { None } else { Some(value) }
+    if value.is_empty() {
+        drop(value);
+        None
+    } else {
+        Some(value)
+    }
 }
 
 /// Applies the writes in their order, with copies of their values. At Memory, the one refusal, a
@@ -188,6 +194,7 @@ fn put_last_first(alloc: Global, tree: &mut Tree, writes: &mut Vec<Basic>) -> Re
     let (path, value) = write.into_parts();
     let value = value.unwrap_or(Tree::empty());
     if value.is_empty() {
+        drop(value);
         put_last_first(alloc, tree, writes)?;
         tree.remove(&path);
         return Ok(());
@@ -197,5 +204,6 @@ fn put_last_first(alloc: Global, tree: &mut Tree, writes: &mut Vec<Basic>) -> Re
         tree.put_back(&path, depth, replaced);
         return Err(fault);
     }
+    drop(replaced);
     Ok(())
 }

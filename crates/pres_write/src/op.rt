@@ -6,18 +6,15 @@ ghost use Rattle.serde_json.specs.Data.{null, object, string, put as with_member
 ghost use Rattle.serde_json.specs.View.{view, members_view};
 ghost use Rattle.pres_tree.specs.declared.fault.TreeFault.TheVariants.{Memory};
 ghost use Rattle.serde_json.specs.Find.{as_object, get};
-ghost use Rattle.pres_tree.specs.Rows.{Fits};
 ghost use Rattle.pres_write.specs.Basics.{Apart};
 ghost use Rattle.pres_write.specs.Outcomes.{resolved, writes_in};
 ghost use Rattle.pres_write.specs.OpForms.{op_read, form_read, set_read, update_read, tx_read, with_part, IsRefusal, op_json, set_form, update_form, tx_form};
 ghost use Rattle.pres_write.specs.declared.fault.WriteFault.TheVariants.{Tree as TreeRefused};
 
-use crate::basic::settled_write;
 use crate::draft::{Draft, FixedForm};
 use crate::fault::WriteFault;
-use crate::items::Items;
 use crate::moment::Moment;
-use crate::outcome::Outcome;
+use crate::outcome::{Outcome, one_write};
 use crate::placement::Placement;
 use crate::transaction::Transaction;
 use crate::update::Update;
@@ -76,7 +73,10 @@ fn tx_form(alloc: Global, path: String, expect: Value, value: Value) -> Result<V
         view made ≡ tx_form (string_bytes path) (view expect) (view value)) }
 {
     let mut members = Map::new(alloc);
-    serde_json::put(&mut members, alloc, "expect", expect)?;
+    let Ok(()) = serde_json::put(&mut members, alloc, "expect", expect) else {
+        drop(value);
+        return Err(AllocError);
+    };
     serde_json::put(&mut members, alloc, "value", value)?;
     form_value(alloc, "tx", path, members)
 }
@@ -98,7 +98,10 @@ fn tx_value(alloc: Global, tx: &Transaction) -> Result<Value, AllocError>
 {
     let path = tx.path().text(alloc)?;
     let expect = tx.expect().to_value(alloc)?;
-    let value = tx.draft().to_value(alloc)?;
+    let Ok(value) = tx.draft().to_value(alloc) else {
+        drop(expect);
+        return Err(AllocError);
+    };
     tx_form(alloc, path, expect, value)
 }
 
@@ -112,29 +115,15 @@ pub(crate) fn set_value(alloc: Global, placement: &Placement) -> Result<Value, A
     set_form(alloc, path, value)
 }
 
-// What the draft at its path comes to at the moment.
-fn one_write(
-    alloc: Global,
-    path: Path,
-    draft: &Draft,
-    moment: Moment,
-) -> Result<Outcome, AllocError>
-    requires { Fits path draft.now }
-    ensures outcome { IfOk result (λ outcome.
-        outcome ≡ resolved [] moment (Op.Set (path, draft.now))) }
-    ensures apart { IfOk result (λ outcome. Apart (writes_in outcome)) }
-{
-    let write = settled_write(alloc, path, draft, moment)?;
-    Ok(Outcome::Wrote(Items::one(alloc, write)?))
-}
-
-// The same of a placement that isn't needed any more.
+// What a placement that isn't needed any more comes to at the moment.
 fn owned_write(alloc: Global, placement: Placement, moment: Moment) -> Result<Outcome, AllocError>
     ensures outcome { IfOk result (λ outcome. outcome ≡ resolved [] moment (Op.Set placement)) }
     ensures apart { IfOk result (λ outcome. Apart (writes_in outcome)) }
 {
     let (path, draft) = placement.into_parts();
-    one_write(alloc, path, &draft, moment)
+    let outcome = one_write(alloc, path, &draft, moment);
+    drop(draft);
+    outcome
 }
 
 // The set of a path's text and a JSON value.
@@ -197,8 +186,13 @@ fn read_comparison(
 {
     let path = Path::parse(alloc, text)?;
     let expect = Tree::from_value_as::<FixedForm>(alloc, expect, &path)?;
-    let new = Draft::from_value_below(alloc, value, &path)?;
-    Ok(Op::Tx(Transaction::fitting(path, expect, new)))
+    match Draft::from_value_below(alloc, value, &path) {
+        Ok(new) => Ok(Op::Tx(Transaction::fitting(path, expect, new))),
+        Err(fault) => {
+            drop(expect);
+            Err(WriteFault::Tree(fault))
+        }
+    }
 }
 
 // The transaction of the JSON value of its form, at a path's text.
@@ -294,7 +288,11 @@ impl Op {
     {
         match self {
             Op::Set(placement) => Ok(owned_write(alloc, placement, moment)?),
-            op => op.resolve(alloc, tree, moment),
+            op => {
+                let outcome = op.resolve(alloc, tree, moment);
+                drop(op);
+                outcome
+            }
         }
     }
 

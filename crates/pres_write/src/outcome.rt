@@ -1,11 +1,16 @@
 //! What operations come to.
 
-ghost use Rattle.std.specs.Prelude.{◌≡◌, IfOk};
-ghost use Rattle.pres_write.specs.Outcomes.{kept_of};
+ghost use Rattle.std.specs.Prelude.{◌≡◌, [], IfOk};
+ghost use Rattle.pres_tree.specs.Rows.{Fits};
+ghost use Rattle.pres_write.specs.Basics.{Apart};
+ghost use Rattle.pres_write.specs.Outcomes.{kept_of, resolved, writes_in};
+ghost use Rattle.pres_write.specs.declared.op.Op.TheVariants.{Set};
 
-use crate::basic::{Basic, copy_value, copy_writes};
+use crate::basic::{Basic, copy_value, copy_writes, settled_write};
+use crate::draft::Draft;
 use crate::items::Items;
-use pres_tree::Tree;
+use crate::moment::Moment;
+use pres_tree::{Path, Tree};
 use std::alloc::{AllocError, Global};
 
 /// What an operation comes to at a moment.
@@ -56,4 +61,20 @@ impl Kept {
             Kept::Stale(held) => Ok(Kept::Stale(copy_value(alloc, held.as_ref())?)),
         }
     }
+}
+
+// What the draft at its path comes to at the moment.
+pub(crate) fn one_write(
+    alloc: Global,
+    path: Path,
+    draft: &Draft,
+    moment: Moment,
+) -> Result<Outcome, AllocError>
+    requires { Fits path draft.now }
+    ensures outcome { IfOk result (λ outcome.
+        outcome ≡ resolved [] moment (Set (path, draft.now))) }
+    ensures apart { IfOk result (λ outcome. Apart (writes_in outcome)) }
+{
+    let write = settled_write(alloc, path, draft, moment)?;
+    Ok(Outcome::Wrote(Items::one(alloc, write)?))
 }

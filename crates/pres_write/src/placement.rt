@@ -38,6 +38,7 @@ impl Placement {
             (λ e. (e ≡ TreeFault.TooDeep) × (max_depth < length path + depth_of draft)) }
     {
         if path.len() + draft.depth() > MAX_DEPTH {
+            drop(draft);
             return Err(TreeFault::TooDeep);
         }
         Ok(Placement { path, draft })

@@ -6,11 +6,10 @@ ghost use Rattle.pres_tree.specs.Rows.{Fits, depth_of, rows_in};
 ghost use Rattle.pres_write.specs.Basics.{Apart};
 ghost use Rattle.pres_write.specs.Outcomes.{compared, writes_in};
 
-use crate::basic::{copy_value, settled_write};
+use crate::basic::copy_value;
 use crate::draft::Draft;
-use crate::items::Items;
 use crate::moment::Moment;
-use crate::outcome::Outcome;
+use crate::outcome::{Outcome, one_write};
 use pres_tree::{MAX_DEPTH, Path, Tree, TreeFault};
 use std::alloc::{AllocError, Global};
 use std::marker::Model;
@@ -46,6 +45,8 @@ impl Transaction {
     {
         let keys = path.len();
         if keys + expect.depth() > MAX_DEPTH || keys + new.depth() > MAX_DEPTH {
+            drop(expect);
+            drop(new);
             return Err(TreeFault::TooDeep);
         }
         Ok(Transaction { path, expect, new })
@@ -106,18 +107,19 @@ impl Transaction {
             return Ok(Outcome::Stale(copy_value(alloc, held)?));
         }
         let path = self.path.copy(alloc)?;
-        let write = settled_write(alloc, path, &self.new, moment)?;
-        Ok(Outcome::Wrote(Items::one(alloc, write)?))
+        one_write(alloc, path, &self.new, moment)
     }
 
     /// An equal transaction.
     pub fn copy(&self, alloc: Global) -> Result<Transaction, AllocError>
         ensures { IfOk result (λ made. made ≡ self.now) }
     {
-        Ok(Transaction {
-            path: self.path.copy(alloc)?,
-            expect: self.expect.copy(alloc)?,
-            new: self.new.copy(alloc)?,
-        })
+        let path = self.path.copy(alloc)?;
+        let expect = self.expect.copy(alloc)?;
+        let Ok(new) = self.new.copy(alloc) else {
+            drop(expect);
+            return Err(AllocError);
+        };
+        Ok(Transaction { path, expect, new })
     }
 }

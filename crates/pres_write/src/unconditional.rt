@@ -55,7 +55,10 @@ impl Unconditional {
         match op {
             Op::Set(placement) => Some(Unconditional::Set(placement)),
             Op::Update(update) => Some(Unconditional::Update(update)),
-            Op::Tx(_) => None,
+            Op::Tx(tx) => {
+                drop(tx);
+                None
+            }
         }
     }
 

@@ -127,11 +127,15 @@ impl Update {
         let mut is_twice = false;
         for (name, value) in members.iter() {
             let (place, draft) = read_place(alloc, &path, name.as_str(), value)?;
-            if places.insert(place, draft)?.is_some() {
+            let earlier = places.insert(place, draft)?;
+            let is_again = earlier.is_some();
+            drop(earlier);
+            if is_again {
                 is_twice = true;
             }
         }
         if is_twice || overlaps(&places) {
+            drop(places);
             return Err(WriteFault::Overlap);
         }
         Ok(Update { path, places })
@@ -202,7 +206,8 @@ impl Update {
         let mut placements = Vec::new(alloc);
         for (place, draft) in self.places.iter() {
             let path = whole_path(alloc, &self.path, place)?;
-            placements.push(Placement::fitting(path, draft.copy(alloc)?))?;
+            let draft = draft.copy(alloc)?;
+            placements.push(Placement::fitting(path, draft))?;
         }
         Ok(Puts::of(placements))
     }

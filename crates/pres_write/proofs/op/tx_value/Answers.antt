@@ -20,11 +20,11 @@ pub returns-clause-reads_back : goal.returns-clause-reads_back
 returns-clause-reads_back c =
     let t = c.args.tx.now in
     let e = view c.in_ok-expect.expect in
-    let d = view c.in_ok-value.value in
+    let d = view c.in-Ok.value in
     let keys = c.path.ensures.keys in
     reads_made c.tx_form.result (tx_form (string_bytes c.in_ok-path.path) e d) (Tx t) c.tx_form.ensures
     (ap (λ text. op_read (tx_form text e d)) (c.in_ok-path.ensures.text ∙ ap path_text c.path.ensures.path)
     ∙ reads_tx t e d (segments-path_text t.path keys) (path_fault-path_text t.path keys)
     (reads_fixed t.expect e (subst (λ (v : Rows Scalar). ReadsBack scalar_reading v e) c.expect.ensures c.in_ok-expect.ensures.reads_back))
-    (subst (λ (v : Rows Slot). ReadsBack slot_reading v d) c.draft.ensures c.in_ok-value.ensures.reads_back)
+    (subst (λ (v : Rows Slot). ReadsBack slot_reading v d) c.draft.ensures c.in-Ok.ensures.reads_back)
     (fits_height t.path t.expect c.path.ensures.expect) (fits_height t.path t.new c.path.ensures.new))

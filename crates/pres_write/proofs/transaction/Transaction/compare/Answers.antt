@@ -1,5 +1,5 @@
-use Rattle.std.proofs.Common.{◌≡◌, [], ◌∷◌, true, false, cond, sym, ap, ◌∙◌, rules}
-use Rattle.std.specs.Prelude.{IsTrue, ◌↔◌, option_copied}
+use Rattle.std.proofs.Common.{◌≡◌, [], ◌∷◌, true, false, cond, sym, ap, subst, ◌∙◌, rules}
+use Rattle.std.specs.Prelude.{IfOk, IsTrue, ◌↔◌, option_copied}
 use Rattle.pres_tree.specs.Rows.{option_of, rows_in, value_at}
 use Rattle.pres_write.specs.declared.outcome.Outcome.TheVariants.{Wrote, Stale}
 use Rattle.pres_write.specs.Basics.{basic}
@@ -28,5 +28,8 @@ returns-clause-outcome c =
     let rows : rows_in (option_copied c.at-held.result) ≡ v = ap rows_in held ∙ rows_of_option v in
     let test : IsTrue c.is_expected.result ↔ (v ≡ t.expect) = (λ h. sym rows ∙ c.is_expected.ensures.0 h, λ e. c.is_expected.ensures.1 (rows ∙ e)) in
     let yes : c.is_expected.result ≡ true = search rules in
-    ap Wrote (c.in_ok-one.ensures ∙ ap (λ w. w ∷ []) (c.in_ok-write.ensures ∙ (λ i. basic (c.in_ok-path.ensures i) (settled c.args.moment c.self.inside.new)) ∙ ap (λ s. basic s.path (settled c.args.moment s.new)) c.self.view_is))
-    ∙ sym (compared_as c.args.tree.now c.args.moment t c.is_expected.result test ∙ ap (λ b. cond b (Wrote (basic t.path (settled c.args.moment t.new) ∷ [])) (Stale (option_of v))) yes)
+    let write : basic c.in_ok-path.path (settled c.args.moment c.self.inside.new) ≡ basic t.path (settled c.args.moment t.new) = (λ i. basic (c.in_ok-path.ensures i) (settled c.args.moment c.self.inside.new)) ∙ ap (λ s. basic s.path (settled c.args.moment s.new)) c.self.view_is in
+    subst (λ w. IfOk c.one_write.result (λ outcome. outcome ≡ w))
+    (ap (λ w. Wrote (w ∷ [])) write
+    ∙ sym (compared_as c.args.tree.now c.args.moment t c.is_expected.result test ∙ ap (λ b. cond b (Wrote (basic t.path (settled c.args.moment t.new) ∷ [])) (Stale (option_of v))) yes))
+    c.one_write.ensures.outcome

@@ -15,7 +15,7 @@ use Rattle.pres_write.specs.OpForms.{below_read, place_fault, places_read}
 use Rattle.pres_write.specs.Updates.{PlacesBelow, most_places}
 use Rattle.pres_write.proofs.Members.{Read, read_start, read_more, read_again, length-members, read_many, read_bad, read_overlap, read_all, read_few, refused_as}
 use Rattle.pres_write.proofs.update.Update.from_members.Goals as goal
-use Rattle.pres_write.proofs.update.Update.from_members.Goals.{In-Some, In-None, After-insert, then-is_twice-via-then-is_twice, then-is_twice-via-else-is_twice+then-overlaps}
+use Rattle.pres_write.proofs.update.Update.from_members.Goals.{In-Some, In-None, then-is_twice-via-then-is_twice, then-is_twice-via-else-is_twice+then-overlaps}
 
 -- the next member is that of this turn
 turn : (c : In-Some) → Read c.args.path (members_view c.args.members.now.entries) (member (string_bytes c.in-Some.name.now) (view c.in-Some.value.now) (members_view c.next.new.self)) c.loop-name.is_twice c.loop-name.places.entries
@@ -59,8 +59,8 @@ returns-in_err-place c =
       | inr bad ↦ inr (read_bad p all (members_view c.next.new.self) k d c.loop-name.is_twice c.loop-name.places.entries e here (ap (λ n. place_fault p n d) (sym c.as_str.ensures.value) ∙ bad) small)
     ])
 
-pub loop-name-preserved-then-is_some : goal.loop-name-preserved-then-is_some
-loop-name-preserved-then-is_some c =
+pub loop-name-preserved-then-is_again : goal.loop-name-preserved-then-is_again
+loop-name-preserved-then-is_again c =
     let p = c.args.path in
     let all = members_view c.args.members.now.entries in
     let k = string_bytes c.in-Some.name.now in
@@ -69,14 +69,14 @@ loop-name-preserved-then-is_some c =
     let es = c.loop-name.places.entries in
     let same = c.as_str.ensures.value in
     let read = c.in_ok-place.ensures.read in
-    let here = turn (goal.at.loop-name-preserved-then-is_some c).In-Some in
-    let found : is_some (lookup (is_at (path_cmp q)) es) ≡ true = ap is_some (sym c.in_ok-insert.ensures.old) ∙ sym c.is_some.ensures ∙ c.if-is_some.true in (
-      subst (Read p all (members_view c.next.new.self) true) (sym c.in_ok-insert.ensures.entries)
+    let here = turn (goal.at.loop-name-preserved-then-is_again c).In-Some in
+    let found : is_some (lookup (is_at (path_cmp q)) es) ≡ true = ap is_some (sym c.in_ok-earlier.ensures.old) ∙ sym c.is_some-is_again.ensures ∙ c.if-is_again.true in (
+      subst (Read p all (members_view c.next.new.self) true) (sym c.in_ok-earlier.ensures.entries)
           (read_again p all (members_view c.next.new.self) k d c.loop-name.is_twice es here q c.in_ok-place.draft
           (read.1 ∙ ap (λ n. (segments n, rows_of slot_reading d)) same)
           (ap (λ n. place_fault p n d) (sym same) ∙ read.0)
           c.in_ok-place.ensures.fits found),
-      c.in_ok-insert.ensures.ordered,
+      c.in_ok-earlier.ensures.ordered,
     )
 
 pub loop-name-preserved : goal.loop-name-preserved
@@ -90,13 +90,13 @@ loop-name-preserved c =
     let same = c.as_str.ensures.value in
     let read = c.in_ok-place.ensures.read in
     let here = turn (goal.at.loop-name-preserved c).In-Some in (
-      subst (Read p all (members_view c.next.new.self) c.loop-name.is_twice) (sym c.in_ok-insert.ensures.entries)
+      subst (Read p all (members_view c.next.new.self) c.loop-name.is_twice) (sym c.in_ok-earlier.ensures.entries)
           (read_more p all (members_view c.next.new.self) k d c.loop-name.is_twice es here q c.in_ok-place.draft
           (read.1 ∙ ap (λ n. (segments n, rows_of slot_reading d)) same)
           (ap (λ n. place_fault p n d) (sym same) ∙ read.0)
           c.in_ok-place.ensures.fits
-          (none_of c.in_ok-insert.field-0 c.if-is_some.ensures ∙ c.in_ok-insert.ensures.old)),
-      c.in_ok-insert.ensures.ordered,
+          (none_of c.in_ok-earlier.earlier (sym c.if-is_again.false ∙ c.is_some-is_again.ensures) ∙ c.in_ok-earlier.ensures.old)),
+      c.in_ok-earlier.ensures.ordered,
     )
 
 pub returns-then-is_twice : goal.returns-then-is_twice

@@ -18,7 +18,7 @@ loop-place-preserved c =
     let p = c.args.self.now.path in
     let all : c.args.self.now.places ≡ done ++ e ∷ left = l.invariant.1 ∙ ap (λ es. done ++ es) c.in-Some.ensures.steps in
     let path : c.in_ok-path.path ≡ p ++ e.0 = c.in_ok-path.ensures ∙ ap (λ u. u.path ++ e.0) c.self.view_is in
-    let is : c.fitting.result ≡ (p ++ e.0, e.1) = c.fitting.ensures ∙ (λ i. (path i, c.in_ok-copy.ensures i)) in (
+    let is : c.fitting.result ≡ (p ++ e.0, e.1) = c.fitting.ensures ∙ (λ i. (path i, c.in_ok-draft.ensures i)) in (
       done ++ e ∷ [],
       all ∙ sym (append_assoc done (e ∷ []) left),
       c.in_ok-push.ensures.items
@@ -56,7 +56,7 @@ whole_path-requires c = (here c).0
 pub fitting-requires : goal.fitting-requires
 fitting-requires c =
     let p = c.self.inside.path ++ c.in-Some.place.now in
-    let is : (c.in_ok-path.path, c.in_ok-copy.field-0) ≡ (p, c.in-Some.draft.now) = λ i. (c.in_ok-path.ensures i, c.in_ok-copy.ensures i) in
+    let is : (c.in_ok-path.path, c.in_ok-draft.draft) ≡ (p, c.in-Some.draft.now) = λ i. (c.in_ok-path.ensures i, c.in_ok-draft.ensures i) in
     subst (λ (q : Path × Rows Slot). Fits q.0 q.1) (sym is) (here (goal.at.fitting-requires c).In-Some).1
 
 pub returns : goal.returns
