@@ -1,6 +1,6 @@
 //! Messages to the server.
 
-ghost use Rattle.std.specs.Prelude.{◌≡◌, ◌≤◌, ◌⊎◌, ◌∷◌, [], IfOk, MatchResult, Ok, Err, Some, codes, length, string_bytes};
+ghost use Rattle.std.specs.Prelude.{ℕ, List, Result, ◌≡◌, ◌≤◌, ◌⊎◌, ◌∷◌, [], IfOk, MatchResult, Ok, Err, Some, codes, length, string_bytes};
 ghost use Rattle.serde_json.specs.Data.{depth};
 ghost use Rattle.serde_json.specs.View.{view};
 ghost use Rattle.serde_json.specs.Written.{compact_text};
@@ -8,8 +8,13 @@ ghost use Rattle.pres_write.specs.OpForms.{op_json, op_read};
 ghost use Rattle.pres_write.specs.Unconditionals.{as_op, unconditional_read};
 ghost use Rattle.pres_wire.specs.Fields.{message, whole, path_json, session_json, message_number, path_of, session_of};
 ghost use Rattle.pres_wire.specs.Messages.{session_in, q_in};
-ghost use Rattle.pres_wire.specs.UpForms.{up_json, up_read, hello_read, op_message_read, bye_read, left_read, cancel_read, beat_read, on_read, off_read, decoded, longest_text};
+ghost use Rattle.pres_wire.specs.UpForms.{and_then, number_field, op_field, left_field, path_field, up_json, up_read, hello_read, op_message_read, bye_read, left_read, cancel_read, beat_read, on_read, off_read, decoded, longest_text};
+ghost use Rattle.pres_wire.specs.declared.up.Up.{Up};
+ghost use Rattle.pres_wire.specs.declared.fault.Field.TheVariants as field;
+ghost use Rattle.pres_wire.specs.declared.fault.WireFault.{WireFault};
 ghost use Rattle.pres_wire.specs.declared.fault.WireFault.TheVariants.{Memory};
+ghost use Rattle.pres_write.specs.declared.op.Op.{Op};
+ghost use Rattle.pres_write.specs.declared.unconditional.Unconditional.{Unconditional};
 
 use crate::fault::{Field, WireFault};
 use crate::field::{left_field, number_field, op_field, path_field, session_field};
@@ -226,16 +231,36 @@ fn read_hello(alloc: Global, message: &Value) -> Result<Up, WireFault>
     Ok(Up::Hello { session })
 }
 
+// The fields of an Op after its session.
+fn op_parts(alloc: Global, message: &Value) -> Result<(Number, Number, Op), WireFault>
+    ensures { MatchResult result
+        (λ found. (number_field field.Q (view message.now) ≡ Ok found.0)
+            × (number_field field.N (view message.now) ≡ Ok found.1)
+            × (op_field (view message.now) ≡ Ok found.2))
+        (λ e. (e ≡ Memory) ⊎ ((f : ℕ → ℕ → Op → Result Up WireFault)
+            → and_then (number_field field.Q (view message.now)) (λ q.
+            and_then (number_field field.N (view message.now)) (λ n.
+            and_then (op_field (view message.now)) (λ op. f q n op))) ≡ Err e)) }
+{
+    let q = number_field(message, Field::Q)?;
+    let n = number_field(message, Field::N)?;
+    let op = op_field(alloc, message)?;
+    Ok((q, n, op))
+}
+
 fn read_op(alloc: Global, message: &Value) -> Result<Up, WireFault>
     ensures { MatchResult result
         (λ m. op_message_read (view message.now) ≡ Ok m)
         (λ e. (e ≡ Memory) ⊎ (op_message_read (view message.now) ≡ Err e)) }
 {
     let session = session_field(alloc, message)?;
-    let q = number_field(message, Field::Q)?;
-    let n = number_field(message, Field::N)?;
-    let op = op_field(alloc, message)?;
-    Ok(Up::Op { session, q, n, op })
+    match op_parts(alloc, message) {
+        Ok((q, n, op)) => Ok(Up::Op { session, q, n, op }),
+        Err(fault) => {
+            drop(session);
+            Err(fault)
+        }
+    }
 }
 
 fn read_bye(alloc: Global, message: &Value) -> Result<Up, WireFault>
@@ -248,15 +273,47 @@ fn read_bye(alloc: Global, message: &Value) -> Result<Up, WireFault>
     Ok(Up::Bye { session, q })
 }
 
+// The fields of a Left after its session.
+fn left_parts(alloc: Global, message: &Value) -> Result<(Number, Unconditional), WireFault>
+    ensures { MatchResult result
+        (λ found. (number_field field.Q (view message.now) ≡ Ok found.0)
+            × (left_field (view message.now) ≡ Ok found.1))
+        (λ e. (e ≡ Memory) ⊎ ((f : ℕ → Unconditional → Result Up WireFault)
+            → and_then (number_field field.Q (view message.now)) (λ q.
+            and_then (left_field (view message.now)) (λ op. f q op)) ≡ Err e)) }
+{
+    let q = number_field(message, Field::Q)?;
+    let op = left_field(alloc, message)?;
+    Ok((q, op))
+}
+
 fn read_left(alloc: Global, message: &Value) -> Result<Up, WireFault>
     ensures { MatchResult result
         (λ m. left_read (view message.now) ≡ Ok m)
         (λ e. (e ≡ Memory) ⊎ (left_read (view message.now) ≡ Err e)) }
 {
     let session = session_field(alloc, message)?;
+    match left_parts(alloc, message) {
+        Ok((q, op)) => Ok(Up::Left { session, q, op }),
+        Err(fault) => {
+            drop(session);
+            Err(fault)
+        }
+    }
+}
+
+// The number and the path of a message, as they are read after its session.
+fn place_parts(alloc: Global, message: &Value) -> Result<(Number, Path), WireFault>
+    ensures { MatchResult result
+        (λ found. (number_field field.Q (view message.now) ≡ Ok found.0)
+            × (path_field (view message.now) ≡ Ok found.1))
+        (λ e. (e ≡ Memory) ⊎ ((f : ℕ → List (List ℕ) → Result Up WireFault)
+            → and_then (number_field field.Q (view message.now)) (λ q.
+            and_then (path_field (view message.now)) (λ path. f q path)) ≡ Err e)) }
+{
     let q = number_field(message, Field::Q)?;
-    let op = left_field(alloc, message)?;
-    Ok(Up::Left { session, q, op })
+    let path = path_field(alloc, message)?;
+    Ok((q, path))
 }
 
 fn read_cancel(alloc: Global, message: &Value) -> Result<Up, WireFault>
@@ -265,9 +322,13 @@ fn read_cancel(alloc: Global, message: &Value) -> Result<Up, WireFault>
         (λ e. (e ≡ Memory) ⊎ (cancel_read (view message.now) ≡ Err e)) }
 {
     let session = session_field(alloc, message)?;
-    let q = number_field(message, Field::Q)?;
-    let path = path_field(alloc, message)?;
-    Ok(Up::Cancel { session, q, path })
+    match place_parts(alloc, message) {
+        Ok((q, path)) => Ok(Up::Cancel { session, q, path }),
+        Err(fault) => {
+            drop(session);
+            Err(fault)
+        }
+    }
 }
 
 fn read_beat(alloc: Global, message: &Value) -> Result<Up, WireFault>
@@ -285,9 +346,13 @@ fn read_on(alloc: Global, message: &Value) -> Result<Up, WireFault>
         (λ e. (e ≡ Memory) ⊎ (on_read (view message.now) ≡ Err e)) }
 {
     let session = session_field(alloc, message)?;
-    let q = number_field(message, Field::Q)?;
-    let path = path_field(alloc, message)?;
-    Ok(Up::On { session, q, path })
+    match place_parts(alloc, message) {
+        Ok((q, path)) => Ok(Up::On { session, q, path }),
+        Err(fault) => {
+            drop(session);
+            Err(fault)
+        }
+    }
 }
 
 fn read_off(alloc: Global, message: &Value) -> Result<Up, WireFault>
@@ -296,9 +361,13 @@ fn read_off(alloc: Global, message: &Value) -> Result<Up, WireFault>
         (λ e. (e ≡ Memory) ⊎ (off_read (view message.now) ≡ Err e)) }
 {
     let session = session_field(alloc, message)?;
-    let q = number_field(message, Field::Q)?;
-    let path = path_field(alloc, message)?;
-    Ok(Up::Off { session, q, path })
+    match place_parts(alloc, message) {
+        Ok((q, path)) => Ok(Up::Off { session, q, path }),
+        Err(fault) => {
+            drop(session);
+            Err(fault)
+        }
+    }
 }
 
 // The JSON value of a message of this word that has no field but its session.
