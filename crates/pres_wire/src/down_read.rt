@@ -1,19 +1,13 @@
 //! Messages to a client, read.
 
-ghost use Rattle.std.specs.Prelude.{◌≡◌, ◌⊎◌, ℕ, List, Result, MatchResult, Ok, Err};
+ghost use Rattle.std.specs.Prelude.{◌≡◌, ◌⊎◌, ℕ, Result, MatchResult, Ok, Err};
 ghost use Rattle.serde_json.specs.View.{view};
-ghost use Rattle.pres_wire.specs.UpForms.{and_then, number_field, path_field};
+ghost use Rattle.pres_wire.specs.UpForms.{and_then, number_field};
 ghost use Rattle.pres_wire.specs.declared.fault.Field.TheVariants as field;
-ghost use Rattle.pres_wire.specs.DownReads.{out_field, why_field, limit_field, value_field, values_field, welcome_read, reply_read, gone_read, fault_read, armed_read, denied_read, snap_read, push_read, off_done_read, down_read};
+ghost use Rattle.pres_wire.specs.DownReads.{welcome_read, reply_read, gone_read, fault_read, armed_read, denied_read, snap_read, push_read, off_done_read, down_read};
 ghost use Rattle.pres_wire.specs.declared.fault.WireFault.{WireFault};
 ghost use Rattle.pres_wire.specs.declared.fault.WireFault.TheVariants.{Memory};
 ghost use Rattle.pres_wire.specs.declared.down.Down.{Down};
-ghost use Rattle.pres_wire.specs.declared.down.Limit.{Limit};
-ghost use Rattle.pres_write.specs.declared.outcome.Kept.{Kept};
-ghost use Rattle.pres_tree.specs.Rows.{Rows};
-ghost use Rattle.pres_tree.specs.declared.scalar.Scalar.{Scalar};
-ghost use Rattle.pres_wire.specs.declared.id.Why.{Why};
-ghost use Rattle.pres_wire.specs.declared.values.PathValue.{PathValue};
 
 use crate::down::{Down, Limit};
 use crate::down_field::{
@@ -22,11 +16,8 @@ use crate::down_field::{
 };
 use crate::fault::{Field, WireFault};
 use crate::field::{number_field, path_field, session_field};
-use crate::id::Why;
+use crate::id::SessionId;
 use crate::number::Number;
-use crate::values::Values;
-use pres_tree::{Path, Tree};
-use pres_write::Kept;
 use serde_json::Value;
 use std::alloc::Global;
 
@@ -64,70 +55,27 @@ fn read_welcome(alloc: Global, message: &Value) -> Result<Down, WireFault>
     Ok(Down::Welcome { session, z, ops })
 }
 
-// The fields of a Reply after its session.
-fn reply_parts(alloc: Global, message: &Value) -> Result<(Number, Number, Number, Number, Number, Kept), WireFault>
-    ensures { MatchResult result
-        (λ found. (number_field field.R (view message.now) ≡ Ok found.0)
-            × (number_field field.Z (view message.now) ≡ Ok found.1)
-            × (number_field field.Q (view message.now) ≡ Ok found.2)
-            × (number_field field.N (view message.now) ≡ Ok found.3)
-            × (number_field field.Done (view message.now) ≡ Ok found.4)
-            × (out_field (view message.now) ≡ Ok found.5))
-        (λ e. (e ≡ Memory) ⊎ ((f : ℕ → ℕ → ℕ → ℕ → ℕ → Kept → Result Down WireFault)
-            → and_then (number_field field.R (view message.now)) (λ r.
-            and_then (number_field field.Z (view message.now)) (λ z.
-            and_then (number_field field.Q (view message.now)) (λ q.
-            and_then (number_field field.N (view message.now)) (λ n.
-            and_then (number_field field.Done (view message.now)) (λ done.
-            and_then (out_field (view message.now)) (λ out. f r z q n done out)))))) ≡ Err e)) }
-{
-    let r = number_field(message, Field::R)?;
-    let z = number_field(message, Field::Z)?;
-    let q = number_field(message, Field::Q)?;
-    let n = number_field(message, Field::N)?;
-    let done = number_field(message, Field::Done)?;
-    let out = out_field(alloc, message)?;
-    Ok((r, z, q, n, done, out))
-}
-
 fn read_reply(alloc: Global, message: &Value) -> Result<Down, WireFault>
     ensures { MatchResult result
         (λ m. reply_read (view message.now) ≡ Ok m)
         (λ e. (e ≡ Memory) ⊎ (reply_read (view message.now) ≡ Err e)) }
 {
     let session = session_field(alloc, message)?;
-    match reply_parts(alloc, message) {
-        Ok((r, z, q, n, done, out)) => Ok(Down::Reply {
-            session,
-            r,
-            z,
-            q,
-            n,
-            done,
-            out,
-        }),
-        Err(fault) => {
-            drop(session);
-            Err(fault)
-        }
-    }
-}
-
-// The fields of a Gone after its session.
-fn gone_parts(message: &Value) -> Result<(Number, Number, Why), WireFault>
-    ensures { MatchResult result
-        (λ found. (number_field field.R (view message.now) ≡ Ok found.0)
-            × (number_field field.Z (view message.now) ≡ Ok found.1)
-            × (why_field (view message.now) ≡ Ok found.2))
-        (λ e. (f : ℕ → ℕ → Why → Result Down WireFault)
-            → and_then (number_field field.R (view message.now)) (λ r.
-            and_then (number_field field.Z (view message.now)) (λ z.
-            and_then (why_field (view message.now)) (λ why. f r z why))) ≡ Err e) }
-{
     let r = number_field(message, Field::R)?;
     let z = number_field(message, Field::Z)?;
-    let why = why_field(message)?;
-    Ok((r, z, why))
+    let q = number_field(message, Field::Q)?;
+    let n = number_field(message, Field::N)?;
+    let done = number_field(message, Field::Done)?;
+    let out = out_field(alloc, message)?;
+    Ok(Down::Reply {
+        session,
+        r,
+        z,
+        q,
+        n,
+        done,
+        out,
+    })
 }
 
 fn read_gone(alloc: Global, message: &Value) -> Result<Down, WireFault>
@@ -136,13 +84,10 @@ fn read_gone(alloc: Global, message: &Value) -> Result<Down, WireFault>
         (λ e. (e ≡ Memory) ⊎ (gone_read (view message.now) ≡ Err e)) }
 {
     let session = session_field(alloc, message)?;
-    match gone_parts(message) {
-        Ok((r, z, why)) => Ok(Down::Gone { session, r, z, why }),
-        Err(fault) => {
-            drop(session);
-            Err(fault)
-        }
-    }
+    let r = number_field(message, Field::R)?;
+    let z = number_field(message, Field::Z)?;
+    let why = why_field(message)?;
+    Ok(Down::Gone { session, r, z, why })
 }
 
 fn read_fault(alloc: Global, message: &Value) -> Result<Down, WireFault>
@@ -159,12 +104,12 @@ fn read_fault(alloc: Global, message: &Value) -> Result<Down, WireFault>
 fn answer_numbers(message: &Value) -> Result<(Number, Number, Number), WireFault>
     ensures { MatchResult result
         (λ found. (number_field field.R (view message.now) ≡ Ok found.0)
-            × (number_field field.Z (view message.now) ≡ Ok found.1)
-            × (number_field field.Q (view message.now) ≡ Ok found.2))
+        × (number_field field.Z (view message.now) ≡ Ok found.1)
+        × (number_field field.Q (view message.now) ≡ Ok found.2))
         (λ e. (f : ℕ → ℕ → ℕ → Result Down WireFault)
-            → and_then (number_field field.R (view message.now)) (λ r.
-            and_then (number_field field.Z (view message.now)) (λ z.
-            and_then (number_field field.Q (view message.now)) (λ q. f r z q))) ≡ Err e) }
+        → and_then (number_field field.R (view message.now)) (λ r.
+        and_then (number_field field.Z (view message.now)) (λ z.
+        and_then (number_field field.Q (view message.now)) (λ q. f r z q))) ≡ Err e) }
 {
     let r = number_field(message, Field::R)?;
     let z = number_field(message, Field::Z)?;
@@ -187,34 +132,18 @@ fn read_armed(alloc: Global, message: &Value) -> Result<Down, WireFault>
     }
 }
 
-// The fields of a Denied after its session.
-fn denied_parts(message: &Value) -> Result<(Number, Number, Number, Limit), WireFault>
-    ensures { MatchResult result
-        (λ found. (number_field field.R (view message.now) ≡ Ok found.0)
-            × (number_field field.Z (view message.now) ≡ Ok found.1)
-            × (number_field field.Q (view message.now) ≡ Ok found.2)
-            × (limit_field (view message.now) ≡ Ok found.3))
-        (λ e. (f : ℕ → ℕ → ℕ → Limit → Result Down WireFault)
-            → and_then (number_field field.R (view message.now)) (λ r.
-            and_then (number_field field.Z (view message.now)) (λ z.
-            and_then (number_field field.Q (view message.now)) (λ q.
-            and_then (limit_field (view message.now)) (λ why. f r z q why)))) ≡ Err e) }
+// The Denied of these, unless the limit was refused.
+fn denied_of(
+    session: SessionId,
+    r: Number,
+    z: Number,
+    q: Number,
+    limit: Result<Limit, WireFault>,
+) -> Result<Down, WireFault>
+    ensures { result ≡ and_then limit (λ why. Ok (Down.Denied session r z q why)) }
 {
-    let r = number_field(message, Field::R)?;
-    let z = number_field(message, Field::Z)?;
-    let q = number_field(message, Field::Q)?;
-    let why = limit_field(message)?;
-    Ok((r, z, q, why))
-}
-
-fn read_denied(alloc: Global, message: &Value) -> Result<Down, WireFault>
-    ensures { MatchResult result
-        (λ m. denied_read (view message.now) ≡ Ok m)
-        (λ e. (e ≡ Memory) ⊎ (denied_read (view message.now) ≡ Err e)) }
-{
-    let session = session_field(alloc, message)?;
-    match denied_parts(message) {
-        Ok((r, z, q, why)) => Ok(Down::Denied {
+    match limit {
+        Ok(why) => Ok(Down::Denied {
             session,
             r,
             z,
@@ -228,29 +157,16 @@ fn read_denied(alloc: Global, message: &Value) -> Result<Down, WireFault>
     }
 }
 
-// The fields of a Snap after its session.
-fn snap_parts(alloc: Global, message: &Value) -> Result<(Number, Number, Number, Path, Tree), WireFault>
+fn read_denied(alloc: Global, message: &Value) -> Result<Down, WireFault>
     ensures { MatchResult result
-        (λ found. (number_field field.R (view message.now) ≡ Ok found.0)
-            × (number_field field.Z (view message.now) ≡ Ok found.1)
-            × (number_field field.Q (view message.now) ≡ Ok found.2)
-            × (path_field (view message.now) ≡ Ok found.3)
-            × (value_field (view message.now) ≡ Ok found.4))
-        (λ e. (e ≡ Memory) ⊎ ((f : ℕ → ℕ → ℕ → List (List ℕ) → Rows Scalar → Result Down WireFault)
-            → and_then (number_field field.R (view message.now)) (λ r.
-            and_then (number_field field.Z (view message.now)) (λ z.
-            and_then (number_field field.Q (view message.now)) (λ q.
-            and_then (path_field (view message.now)) (λ path.
-            and_then (value_field (view message.now)) (λ value. f r z q path value))))) ≡ Err e)) }
+        (λ m. denied_read (view message.now) ≡ Ok m)
+        (λ e. (e ≡ Memory) ⊎ (denied_read (view message.now) ≡ Err e)) }
 {
-    let r = number_field(message, Field::R)?;
-    let z = number_field(message, Field::Z)?;
-    let q = number_field(message, Field::Q)?;
-    let path = path_field(alloc, message)?;
-    match value_field(alloc, message) {
-        Ok(value) => Ok((r, z, q, path, value)),
+    let session = session_field(alloc, message)?;
+    match answer_numbers(message) {
+        Ok((r, z, q)) => denied_of(session, r, z, q, limit_field(message)),
         Err(fault) => {
-            drop(path);
+            drop(session);
             Err(fault)
         }
     }
@@ -262,37 +178,19 @@ fn read_snap(alloc: Global, message: &Value) -> Result<Down, WireFault>
         (λ e. (e ≡ Memory) ⊎ (snap_read (view message.now) ≡ Err e)) }
 {
     let session = session_field(alloc, message)?;
-    match snap_parts(alloc, message) {
-        Ok((r, z, q, path, value)) => Ok(Down::Snap {
-            session,
-            r,
-            z,
-            q,
-            path,
-            value,
-        }),
-        Err(fault) => {
-            drop(session);
-            Err(fault)
-        }
-    }
-}
-
-// The fields of a Push after its session.
-fn push_parts(alloc: Global, message: &Value) -> Result<(Number, Number, Values), WireFault>
-    ensures { MatchResult result
-        (λ found. (number_field field.R (view message.now) ≡ Ok found.0)
-            × (number_field field.Z (view message.now) ≡ Ok found.1)
-            × (values_field (view message.now) ≡ Ok found.2))
-        (λ e. (e ≡ Memory) ⊎ ((f : ℕ → ℕ → List PathValue → Result Down WireFault)
-            → and_then (number_field field.R (view message.now)) (λ r.
-            and_then (number_field field.Z (view message.now)) (λ z.
-            and_then (values_field (view message.now)) (λ values. f r z values))) ≡ Err e)) }
-{
     let r = number_field(message, Field::R)?;
     let z = number_field(message, Field::Z)?;
-    let values = values_field(alloc, message)?;
-    Ok((r, z, values))
+    let q = number_field(message, Field::Q)?;
+    let path = path_field(alloc, message)?;
+    let value = value_field(alloc, message)?;
+    Ok(Down::Snap {
+        session,
+        r,
+        z,
+        q,
+        path,
+        value,
+    })
 }
 
 fn read_push(alloc: Global, message: &Value) -> Result<Down, WireFault>
@@ -301,18 +199,15 @@ fn read_push(alloc: Global, message: &Value) -> Result<Down, WireFault>
         (λ e. (e ≡ Memory) ⊎ (push_read (view message.now) ≡ Err e)) }
 {
     let session = session_field(alloc, message)?;
-    match push_parts(alloc, message) {
-        Ok((r, z, values)) => Ok(Down::Push {
-            session,
-            r,
-            z,
-            values,
-        }),
-        Err(fault) => {
-            drop(session);
-            Err(fault)
-        }
-    }
+    let r = number_field(message, Field::R)?;
+    let z = number_field(message, Field::Z)?;
+    let values = values_field(alloc, message)?;
+    Ok(Down::Push {
+        session,
+        r,
+        z,
+        values,
+    })
 }
 
 fn read_off_done(alloc: Global, message: &Value) -> Result<Down, WireFault>

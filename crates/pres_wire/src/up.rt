@@ -8,13 +8,11 @@ ghost use Rattle.pres_write.specs.OpForms.{op_json, op_read};
 ghost use Rattle.pres_write.specs.Unconditionals.{as_op, unconditional_read};
 ghost use Rattle.pres_wire.specs.Fields.{message, whole, path_json, session_json, message_number, path_of, session_of};
 ghost use Rattle.pres_wire.specs.Messages.{session_in, q_in};
-ghost use Rattle.pres_wire.specs.UpForms.{and_then, number_field, op_field, left_field, path_field, up_json, up_read, hello_read, op_message_read, bye_read, left_read, cancel_read, beat_read, on_read, off_read, decoded, longest_text};
+ghost use Rattle.pres_wire.specs.UpForms.{and_then, number_field, path_field, up_json, up_read, hello_read, op_message_read, bye_read, left_read, cancel_read, beat_read, on_read, off_read, decoded, longest_text};
 ghost use Rattle.pres_wire.specs.declared.up.Up.{Up};
 ghost use Rattle.pres_wire.specs.declared.fault.Field.TheVariants as field;
 ghost use Rattle.pres_wire.specs.declared.fault.WireFault.{WireFault};
 ghost use Rattle.pres_wire.specs.declared.fault.WireFault.TheVariants.{Memory};
-ghost use Rattle.pres_write.specs.declared.op.Op.{Op};
-ghost use Rattle.pres_write.specs.declared.unconditional.Unconditional.{Unconditional};
 
 use crate::fault::{Field, WireFault};
 use crate::field::{left_field, number_field, op_field, path_field, session_field};
@@ -231,36 +229,16 @@ fn read_hello(alloc: Global, message: &Value) -> Result<Up, WireFault>
     Ok(Up::Hello { session })
 }
 
-// The fields of an Op after its session.
-fn op_parts(alloc: Global, message: &Value) -> Result<(Number, Number, Op), WireFault>
-    ensures { MatchResult result
-        (λ found. (number_field field.Q (view message.now) ≡ Ok found.0)
-            × (number_field field.N (view message.now) ≡ Ok found.1)
-            × (op_field (view message.now) ≡ Ok found.2))
-        (λ e. (e ≡ Memory) ⊎ ((f : ℕ → ℕ → Op → Result Up WireFault)
-            → and_then (number_field field.Q (view message.now)) (λ q.
-            and_then (number_field field.N (view message.now)) (λ n.
-            and_then (op_field (view message.now)) (λ op. f q n op))) ≡ Err e)) }
-{
-    let q = number_field(message, Field::Q)?;
-    let n = number_field(message, Field::N)?;
-    let op = op_field(alloc, message)?;
-    Ok((q, n, op))
-}
-
 fn read_op(alloc: Global, message: &Value) -> Result<Up, WireFault>
     ensures { MatchResult result
         (λ m. op_message_read (view message.now) ≡ Ok m)
         (λ e. (e ≡ Memory) ⊎ (op_message_read (view message.now) ≡ Err e)) }
 {
     let session = session_field(alloc, message)?;
-    match op_parts(alloc, message) {
-        Ok((q, n, op)) => Ok(Up::Op { session, q, n, op }),
-        Err(fault) => {
-            drop(session);
-            Err(fault)
-        }
-    }
+    let q = number_field(message, Field::Q)?;
+    let n = number_field(message, Field::N)?;
+    let op = op_field(alloc, message)?;
+    Ok(Up::Op { session, q, n, op })
 }
 
 fn read_bye(alloc: Global, message: &Value) -> Result<Up, WireFault>
@@ -273,43 +251,25 @@ fn read_bye(alloc: Global, message: &Value) -> Result<Up, WireFault>
     Ok(Up::Bye { session, q })
 }
 
-// The fields of a Left after its session.
-fn left_parts(alloc: Global, message: &Value) -> Result<(Number, Unconditional), WireFault>
-    ensures { MatchResult result
-        (λ found. (number_field field.Q (view message.now) ≡ Ok found.0)
-            × (left_field (view message.now) ≡ Ok found.1))
-        (λ e. (e ≡ Memory) ⊎ ((f : ℕ → Unconditional → Result Up WireFault)
-            → and_then (number_field field.Q (view message.now)) (λ q.
-            and_then (left_field (view message.now)) (λ op. f q op)) ≡ Err e)) }
-{
-    let q = number_field(message, Field::Q)?;
-    let op = left_field(alloc, message)?;
-    Ok((q, op))
-}
-
 fn read_left(alloc: Global, message: &Value) -> Result<Up, WireFault>
     ensures { MatchResult result
         (λ m. left_read (view message.now) ≡ Ok m)
         (λ e. (e ≡ Memory) ⊎ (left_read (view message.now) ≡ Err e)) }
 {
     let session = session_field(alloc, message)?;
-    match left_parts(alloc, message) {
-        Ok((q, op)) => Ok(Up::Left { session, q, op }),
-        Err(fault) => {
-            drop(session);
-            Err(fault)
-        }
-    }
+    let q = number_field(message, Field::Q)?;
+    let op = left_field(alloc, message)?;
+    Ok(Up::Left { session, q, op })
 }
 
 // The number and the path of a message, as they are read after its session.
 fn place_parts(alloc: Global, message: &Value) -> Result<(Number, Path), WireFault>
     ensures { MatchResult result
         (λ found. (number_field field.Q (view message.now) ≡ Ok found.0)
-            × (path_field (view message.now) ≡ Ok found.1))
+        × (path_field (view message.now) ≡ Ok found.1))
         (λ e. (e ≡ Memory) ⊎ ((f : ℕ → List (List ℕ) → Result Up WireFault)
-            → and_then (number_field field.Q (view message.now)) (λ q.
-            and_then (path_field (view message.now)) (λ path. f q path)) ≡ Err e)) }
+        → and_then (number_field field.Q (view message.now)) (λ q.
+        and_then (path_field (view message.now)) (λ path. f q path)) ≡ Err e)) }
 {
     let q = number_field(message, Field::Q)?;
     let path = path_field(alloc, message)?;
