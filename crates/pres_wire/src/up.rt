@@ -1,6 +1,6 @@
 //! Messages to the server.
 
-ghost use Rattle.std.specs.Prelude.{ℕ, List, Result, ◌≡◌, ◌≤◌, ◌⊎◌, ◌∷◌, [], IfOk, MatchResult, Ok, Err, Some, codes, length, string_bytes};
+ghost use Rattle.std.specs.Prelude.{◌≡◌, ◌≤◌, ◌⊎◌, ◌∷◌, [], ℕ, List, Result, IfOk, MatchResult, Ok, Err, Some, codes, length, string_bytes};
 ghost use Rattle.serde_json.specs.Data.{depth};
 ghost use Rattle.serde_json.specs.View.{view};
 ghost use Rattle.serde_json.specs.Written.{compact_text};

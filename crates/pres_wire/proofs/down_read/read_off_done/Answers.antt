@@ -1,4 +1,4 @@
-use Rattle.std.proofs.Common.{inl, inr}
+use Rattle.std.proofs.Common.{inr}
 use Rattle.pres_wire.proofs.After.{after}
 use Rattle.pres_wire.proofs.down_read.read_off_done.Goals as goal
 
