@@ -1,3 +1,4 @@
+pub mod After
 pub mod Listed
 pub mod Nesting
 pub mod OpNesting

@@ -243,8 +243,11 @@ pub(crate) fn place_form(
 {
     let value = tree_value(alloc, value)?;
     let form = Form::new(alloc).value(alloc, "value", value)?;
-    let text = Value::String(path.text(alloc)?);
-    let form = form.value(alloc, "path", text)?;
+    let Ok(text) = path.text(alloc) else {
+        drop(form);
+        return Err(AllocError);
+    };
+    let form = form.value(alloc, "path", Value::String(text))?;
     form.number(alloc, "q", q)
 }
 

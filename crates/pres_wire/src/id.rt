@@ -222,22 +222,21 @@ impl SessionId {
         let Some(text) = client.as_str() else {
             return Ok(None);
         };
-        let client = match ClientId::parse(alloc, text) {
-            Ok(client) => client,
-            Err(IdFault::NotAnId) => return Ok(None),
-            Err(IdFault::Memory) => return Err(AllocError),
-        };
         let Some(incarnation) = Number::from_value(incarnation) else {
             return Ok(None);
         };
         let Some(attempt) = Number::from_value(attempt) else {
             return Ok(None);
         };
-        Ok(Some(SessionId {
-            client,
-            incarnation,
-            attempt,
-        }))
+        match ClientId::parse(alloc, text) {
+            Ok(client) => Ok(Some(SessionId {
+                client,
+                incarnation,
+                attempt,
+            })),
+            Err(IdFault::NotAnId) => Ok(None),
+            Err(IdFault::Memory) => Err(AllocError),
+        }
     }
 }
 

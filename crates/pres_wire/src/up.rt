@@ -1,6 +1,6 @@
 //! Messages to the server.
 
-ghost use Rattle.std.specs.Prelude.{◌≡◌, ◌≤◌, ◌⊎◌, ◌∷◌, [], IfOk, MatchResult, Ok, Err, Some, codes, length, string_bytes};
+ghost use Rattle.std.specs.Prelude.{◌≡◌, ◌≤◌, ◌⊎◌, ◌∷◌, [], ℕ, List, Result, IfOk, MatchResult, Ok, Err, Some, codes, length, string_bytes};
 ghost use Rattle.serde_json.specs.Data.{depth};
 ghost use Rattle.serde_json.specs.View.{view};
 ghost use Rattle.serde_json.specs.Written.{compact_text};
@@ -8,7 +8,10 @@ ghost use Rattle.pres_write.specs.OpForms.{op_json, op_read};
 ghost use Rattle.pres_write.specs.Unconditionals.{as_op, unconditional_read};
 ghost use Rattle.pres_wire.specs.Fields.{message, whole, path_json, session_json, message_number, path_of, session_of};
 ghost use Rattle.pres_wire.specs.Messages.{session_in, q_in};
-ghost use Rattle.pres_wire.specs.UpForms.{up_json, up_read, hello_read, op_message_read, bye_read, left_read, cancel_read, beat_read, on_read, off_read, decoded, longest_text};
+ghost use Rattle.pres_wire.specs.UpForms.{and_then, number_field, path_field, up_json, up_read, hello_read, op_message_read, bye_read, left_read, cancel_read, beat_read, on_read, off_read, decoded, longest_text};
+ghost use Rattle.pres_wire.specs.declared.up.Up.{Up};
+ghost use Rattle.pres_wire.specs.declared.fault.Field.TheVariants as field;
+ghost use Rattle.pres_wire.specs.declared.fault.WireFault.{WireFault};
 ghost use Rattle.pres_wire.specs.declared.fault.WireFault.TheVariants.{Memory};
 
 use crate::fault::{Field, WireFault};
@@ -259,15 +262,33 @@ fn read_left(alloc: Global, message: &Value) -> Result<Up, WireFault>
     Ok(Up::Left { session, q, op })
 }
 
+// The number and the path of a message, as they are read after its session.
+fn place_parts(alloc: Global, message: &Value) -> Result<(Number, Path), WireFault>
+    ensures { MatchResult result
+        (λ found. (number_field field.Q (view message.now) ≡ Ok found.0)
+        × (path_field (view message.now) ≡ Ok found.1))
+        (λ e. (e ≡ Memory) ⊎ ((f : ℕ → List (List ℕ) → Result Up WireFault)
+        → and_then (number_field field.Q (view message.now)) (λ q.
+        and_then (path_field (view message.now)) (λ path. f q path)) ≡ Err e)) }
+{
+    let q = number_field(message, Field::Q)?;
+    let path = path_field(alloc, message)?;
+    Ok((q, path))
+}
+
 fn read_cancel(alloc: Global, message: &Value) -> Result<Up, WireFault>
     ensures { MatchResult result
         (λ m. cancel_read (view message.now) ≡ Ok m)
         (λ e. (e ≡ Memory) ⊎ (cancel_read (view message.now) ≡ Err e)) }
 {
     let session = session_field(alloc, message)?;
-    let q = number_field(message, Field::Q)?;
-    let path = path_field(alloc, message)?;
-    Ok(Up::Cancel { session, q, path })
+    match place_parts(alloc, message) {
+        Ok((q, path)) => Ok(Up::Cancel { session, q, path }),
+        Err(fault) => {
+            drop(session);
+            Err(fault)
+        }
+    }
 }
 
 fn read_beat(alloc: Global, message: &Value) -> Result<Up, WireFault>
@@ -285,9 +306,13 @@ fn read_on(alloc: Global, message: &Value) -> Result<Up, WireFault>
         (λ e. (e ≡ Memory) ⊎ (on_read (view message.now) ≡ Err e)) }
 {
     let session = session_field(alloc, message)?;
-    let q = number_field(message, Field::Q)?;
-    let path = path_field(alloc, message)?;
-    Ok(Up::On { session, q, path })
+    match place_parts(alloc, message) {
+        Ok((q, path)) => Ok(Up::On { session, q, path }),
+        Err(fault) => {
+            drop(session);
+            Err(fault)
+        }
+    }
 }
 
 fn read_off(alloc: Global, message: &Value) -> Result<Up, WireFault>
@@ -296,9 +321,13 @@ fn read_off(alloc: Global, message: &Value) -> Result<Up, WireFault>
         (λ e. (e ≡ Memory) ⊎ (off_read (view message.now) ≡ Err e)) }
 {
     let session = session_field(alloc, message)?;
-    let q = number_field(message, Field::Q)?;
-    let path = path_field(alloc, message)?;
-    Ok(Up::Off { session, q, path })
+    match place_parts(alloc, message) {
+        Ok((q, path)) => Ok(Up::Off { session, q, path }),
+        Err(fault) => {
+            drop(session);
+            Err(fault)
+        }
+    }
 }
 
 // The JSON value of a message of this word that has no field but its session.

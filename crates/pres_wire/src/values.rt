@@ -40,11 +40,9 @@ impl PathValue {
             path_value_of (path_value_json self.now) ≡ Some self.now) }
         ensures low { IfOk result (λ _. depth (path_value_json self.now) ≤ 34) }
     {
-        let path = Value::String(self.path.text(alloc)?);
-        let value = tree_value(alloc, &self.value)?;
         let mut pair = Vec::new(alloc);
-        pair.push(path)?;
-        pair.push(value)?;
+        pair.push(Value::String(self.path.text(alloc)?))?;
+        pair.push(tree_value(alloc, &self.value)?)?;
         Ok(Value::Array(pair))
     }
 
