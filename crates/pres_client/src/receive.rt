@@ -23,12 +23,7 @@ use std::alloc::{AllocError, Global};
 pub const MOST_TRIES: u64 = 25;
 
 // The notice of the value.
-fn value_notice(
-    alloc: Global,
-    z: Number,
-    path: &Path,
-    value: &Tree,
-) -> Result<Notice, AllocError>
+fn value_notice(alloc: Global, z: Number, path: &Path, value: &Tree) -> Result<Notice, AllocError>
     ensures { IfOk result (λ n. n ≡ Notice.Value path.now z value.now) }
 {
     let path = path.copy(alloc)?;
@@ -453,8 +448,14 @@ impl Client {
         ensures ok { OnOk result (self.new ≡ after_push (bring self.old z) z values) }
         ensures err { OnErr result (self.new ≡ self.old) }
     {
-        let notices = news(self.alloc, &self.watches, z, values.as_slice())?;
-        self.mail.add(Vec::new(self.alloc), notices)?;
+        let Ok(notices) = news(self.alloc, &self.watches, z, values.as_slice()) else {
+            drop(values);
+            return Err(AllocError);
+        };
+        let Ok(()) = self.mail.add(Vec::new(self.alloc), notices) else {
+            drop(values);
+            return Err(AllocError);
+        };
         self.bring(z);
         tell_all(&mut self.watches, values.into_vec());
         Ok(())
