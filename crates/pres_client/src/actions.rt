@@ -65,6 +65,7 @@ impl Client {
         ensures few { IsFew self.old self.new }
     {
         if let Some(fault) = self.action_fault() {
+            drop(draft);
             return Err(fault);
         }
         let placement = placed(path, draft)?;
@@ -129,9 +130,18 @@ impl Client {
         }) }
         ensures err { OnErr result (self.new ≡ self.old) }
     {
-        let sends = self.outgoing_of(&queued)?;
-        self.mail.reserve(1, sends.len(), 0)?;
-        self.watches.add(path, request)?;
+        let Ok(sends) = self.outgoing_of(&queued) else {
+            drop(queued);
+            return Err(AllocError);
+        };
+        let Ok(()) = self.mail.reserve(1, sends.len(), 0) else {
+            drop(queued);
+            return Err(AllocError);
+        };
+        let Ok(()) = self.watches.add(path, request) else {
+            drop(queued);
+            return Err(AllocError);
+        };
         self.mail.put(queued, sends, Vec::new(self.alloc));
         Ok(())
     }

@@ -1,10 +1,11 @@
 //! Transactions that wait for their callers' answers.
 
-ghost use Rattle.std.specs.Prelude.{◌≡◌, [], false, IfOk, OnOk, OnErr, option_copied};
+ghost use Rattle.std.specs.Prelude.{◌≡◌, ◌∷◌, [], false, IfOk, OnOk, OnErr, option_copied};
 ghost use Rattle.pres_write.specs.Transactions.{comparison};
 ghost use Rattle.pres_client.specs.Calls.{is_too_deep};
 ghost use Rattle.pres_client.specs.Clients.{ask_of, with_ask, without_ask};
 
+use crate::notice::{Notice, alone};
 use pres_tree::{MAX_DEPTH, Path, Tree};
 use pres_write::{Draft, Transaction};
 use std::alloc::{AllocError, Global};
@@ -42,6 +43,23 @@ impl Ask {
         transaction
     }
 
+    // The notice that asks, in a list of its own.
+    pub(crate) fn notices(&self, alloc: Global, request: u64) -> Result<Vec<Notice>, AllocError>
+        ensures { IfOk result (λ v. v.items
+            ≡ Notice.Ask request self.now.attempt self.now.value ∷ []) }
+    {
+        let value = self.value.copy(alloc)?;
+        let attempt = self.attempt;
+        alone(
+            alloc,
+            Notice::Ask {
+                request,
+                attempt,
+                value,
+            },
+        )
+    }
+
     // The same of copies.
     pub(crate) fn transaction(
         &self,
@@ -56,7 +74,11 @@ impl Ask {
             attempt: self.attempt,
             value: self.value.copy(alloc)?,
         };
-        Ok(copy.into_transaction(draft.copy(alloc)?))
+        let Ok(draft) = draft.copy(alloc) else {
+            drop(copy);
+            return Err(AllocError);
+        };
+        Ok(copy.into_transaction(draft))
     }
 }
 

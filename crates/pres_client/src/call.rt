@@ -48,17 +48,17 @@ impl Client {
         ensures few { IsFew self.old self.new }
     {
         match call {
-            Call::Set(path, draft) => Ok(Some(self.set(path, draft)?)),
-            Call::Update(path, places) => Ok(Some(self.update(path, places)?)),
-            Call::Remove(path) => Ok(Some(self.remove(path)?)),
-            Call::Transact(path) => Ok(Some(self.transact(path)?)),
-            Call::OnDisconnectSet(path, draft) => Ok(Some(self.on_disconnect_set(path, draft)?)),
+            Call::Set(path, draft) => self.set(path, draft).map(Some),
+            Call::Update(path, places) => self.update(path, places).map(Some),
+            Call::Remove(path) => self.remove(path).map(Some),
+            Call::Transact(path) => self.transact(path).map(Some),
+            Call::OnDisconnectSet(path, draft) => self.on_disconnect_set(path, draft).map(Some),
             Call::OnDisconnectUpdate(path, places) => {
-                Ok(Some(self.on_disconnect_update(path, places)?))
+                self.on_disconnect_update(path, places).map(Some)
             }
-            Call::OnDisconnectRemove(path) => Ok(Some(self.on_disconnect_remove(path)?)),
-            Call::OnDisconnectCancel(path) => Ok(Some(self.on_disconnect_cancel(path)?)),
-            Call::Listen(path) => Ok(Some(self.listen(path)?)),
+            Call::OnDisconnectRemove(path) => self.on_disconnect_remove(path).map(Some),
+            Call::OnDisconnectCancel(path) => self.on_disconnect_cancel(path).map(Some),
+            Call::Listen(path) => self.listen(path).map(Some),
             Call::Answer(request, answer) => {
                 self.answer(request, answer)?;
                 Ok(None)

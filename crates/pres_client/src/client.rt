@@ -286,7 +286,10 @@ impl Client {
         ensures ok { OnOk result (self.new ≡ enqueue self.old queued) }
         ensures err { OnErr result (self.new ≡ self.old) }
     {
-        let sends = self.outgoing_of(&queued)?;
+        let Ok(sends) = self.outgoing_of(&queued) else {
+            drop(queued);
+            return Err(AllocError);
+        };
         self.mail.push(queued, sends)?;
         Ok(())
     }
@@ -299,8 +302,11 @@ impl Client {
         ensures ok { OnOk result (self.new ≡ make_write self.old queued) }
         ensures err { OnErr result (self.new ≡ self.old) }
     {
-        let sends = self.outgoing_of(&queued)?;
         let sent = self.sent_with_one();
+        let Ok(sends) = self.outgoing_of(&queued) else {
+            drop(queued);
+            return Err(AllocError);
+        };
         self.mail.push(queued, sends)?;
         self.made += 1;
         self.sent = sent;

@@ -8,6 +8,7 @@ ghost use Rattle.pres_client.specs.declared.fault.ClientFault.TheVariants.{Memor
 use crate::call::Call;
 use crate::client::{Client, Phase};
 use crate::fault::ClientFault;
+use crate::mail::sole;
 use pres_wire::{Code, Count, Number, SessionId, Up};
 use pres_write::MAX_SAFE_INTEGER;
 use std::alloc::AllocError;
@@ -58,8 +59,7 @@ impl Client {
             return Err(ClientFault::Spent);
         };
         let session = self.next_session(attempt)?;
-        let mut sends = Vec::new(self.alloc);
-        sends.push(Up::Hello { session })?;
+        let sends = sole(self.alloc, Up::Hello { session })?;
         self.mail.add(sends, Vec::new(self.alloc))?;
         self.session.attempt = attempt;
         self.attempts = Count::up_to(attempt);
@@ -75,11 +75,11 @@ impl Client {
         ensures err { IfErr result (λ e. (e ≡ Memory) × (self.new ≡ self.old)) }
     {
         let session = self.session.copy(self.alloc)?;
-        let mut sends = Vec::new(self.alloc);
-        sends.push(Up::Bye {
+        let goodbye = Up::Bye {
             session,
             q: self.next_q(),
-        })?;
+        };
+        let sends = sole(self.alloc, goodbye)?;
         let notices = self.mail.farewell(None)?;
         self.mail.add(sends, notices)?;
         self.close();
@@ -129,8 +129,7 @@ impl Client {
             return Ok(());
         }
         let session = self.session.copy(self.alloc)?;
-        let mut sends = Vec::new(self.alloc);
-        sends.push(Up::Beat { session })?;
+        let sends = sole(self.alloc, Up::Beat { session })?;
         self.mail.add(sends, Vec::new(self.alloc))?;
         Ok(())
     }
@@ -143,12 +142,11 @@ impl Client {
             let n = self.base() + self.answered + 1;
             return self.mail.messages(&self.session, self.heard + 1, n);
         }
-        let mut sends = Vec::new(self.alloc);
-        if self.phase.is_opening() {
-            let session = self.session.copy(self.alloc)?;
-            sends.push(Up::Hello { session })?;
+        if !self.phase.is_opening() {
+            return Ok(Vec::new(self.alloc));
         }
-        Ok(sends)
+        let session = self.session.copy(self.alloc)?;
+        sole(self.alloc, Up::Hello { session })
     }
 
     /// Sends all messages of the session that have no answer again, or the Hello, with the

@@ -8,7 +8,7 @@ ghost use Rattle.pres_client.specs.Calls.{farewell, lost_action};
 ghost use Rattle.pres_client.specs.Mails.{HasRoom, MayNumber};
 ghost use Rattle.pres_client.specs.declared.queued.Queued.{Queued as Message};
 
-use crate::notice::Notice;
+use crate::notice::{Notice, alone};
 use crate::queued::{Queued, number};
 use pres_tree::Path;
 use pres_wire::{Code, SessionId, Up};
@@ -43,6 +43,15 @@ impl Model for Mail {
       sends_room = vec_capacity m.sends - vec_len m.sends;
       notices_room = vec_capacity m.notices - vec_len m.notices;
     } };
+}
+
+// The list of this message alone.
+pub(crate) fn sole(alloc: Global, message: Up) -> Result<Vec<Up>, AllocError>
+    ensures { IfOk result (λ v. v.items ≡ message ∷ []) }
+{
+    let mut sends = Vec::new(alloc);
+    sends.push(message)?;
+    Ok(sends)
 }
 
 // Adds the messages with their numbers, from `from_q` and `from_n` on.
@@ -181,7 +190,10 @@ impl Mail {
         ensures no_queue { OnErr result (self.new.queue ≡ self.old.queue) }
         ensures no_sends { OnErr result (self.new.sends ≡ self.old.sends) }
     {
-        self.reserve(1, sends.len(), 0)?;
+        let Ok(()) = self.reserve(1, sends.len(), 0) else {
+            drop(queued);
+            return Err(AllocError);
+        };
         self.put(queued, sends, Vec::new(self.alloc));
         Ok(())
     }
@@ -277,10 +289,9 @@ impl Mail {
         ensures no_sends { OnErr result (self.new.sends ≡ self.old.sends) }
         ensures no_notices { OnErr result (self.new.notices ≡ self.old.notices) }
     {
-        let mut notices = Vec::new(self.alloc);
-        notices.push(Notice::Connected(true))?;
-        let sends = all_messages(self.alloc, session, n, &first, &self.queue)?;
         first.reserve(self.queue.len())?;
+        let sends = all_messages(self.alloc, session, n, &first, &self.queue)?;
+        let notices = alone(self.alloc, Notice::Connected(true))?;
         self.reserve(0, sends.len(), notices.len())?;
         let _joined = first.append(&mut self.queue);
         self.queue = first;

@@ -22,6 +22,19 @@ use std::alloc::{AllocError, Global};
 /// The tries of a transaction before it is given up.
 pub const MOST_TRIES: u64 = 25;
 
+// The notice of the value.
+fn value_notice(alloc: Global, z: Number, path: &Path, value: &Tree) -> Result<Notice, AllocError>
+    ensures { IfOk result (λ n. n ≡ Notice.Value path.now z value.now) }
+{
+    let path = path.copy(alloc)?;
+    let value = value.copy(alloc)?;
+    Ok(Notice::Value {
+        path,
+        number: z,
+        value,
+    })
+}
+
 // Notices of the values that the watches show.
 fn news(
     alloc: Global,
@@ -34,13 +47,7 @@ fn news(
     let mut notices = Vec::new(alloc);
     for told in values {
         if watches.is_live(&told.path) {
-            let path = told.path.copy(alloc)?;
-            let value = told.value.copy(alloc)?;
-            notices.push(Notice::Value {
-                path,
-                number: z,
-                value,
-            })?;
+            notices.push(value_notice(alloc, z, &told.path, &told.value)?)?;
         }
     }
     Ok(notices)
@@ -176,6 +183,7 @@ impl Client {
         ensures err { OnErr result (self.new ≡ self.old) }
     {
         if attempt >= MOST_TRIES {
+            drop(value);
             self.note(Notice::TooManyTries { request })?;
             self.settle_write(z);
             return Ok(());
@@ -219,10 +227,14 @@ impl Client {
             },
         ) = self.mail.queue().front()
         else {
+            drop(held);
             return self.unfit(z);
         };
         let (request, attempt) = (*request, *attempt);
-        let path = transaction.path().copy(self.alloc)?;
+        let Ok(path) = transaction.path().copy(self.alloc) else {
+            drop(held);
+            return Err(AllocError);
+        };
         self.overtaken(z, request, attempt, path, held.unwrap_or(Tree::empty()))
     }
 
@@ -241,6 +253,7 @@ impl Client {
         ensures err { OnErr result (self.new ≡ self.old) }
     {
         if !self.fits_write(q, n) {
+            drop(out);
             return self.unfit(z);
         }
         match out {
@@ -349,6 +362,15 @@ impl Client {
         }
     }
 
+    // The notice of the value waits to be read, or nothing is changed.
+    fn note_value(&mut self, z: Number, path: &Path, value: &Tree) -> Result<(), AllocError>
+        ensures ok { OnOk result (self.new ≡ note self.old (Notice.Value path.now z value.now)) }
+        ensures err { OnErr result (self.new ≡ self.old) }
+    {
+        let notice = value_notice(self.alloc, z, path, value)?;
+        self.note(notice)
+    }
+
     // The value that a Snap tells is shown.
     fn show(&mut self, z: Number, path: Path, value: Tree) -> Result<(), AllocError>
         requires taken { self.old.taken < greatest_number }
@@ -359,15 +381,14 @@ impl Client {
         ensures err { OnErr result (self.new ≡ self.old) }
     {
         if self.watches.get(&path).is_none() {
+            drop(value);
             self.settle(z);
             return Ok(());
         }
-        let notice = Notice::Value {
-            path: path.copy(self.alloc)?,
-            number: z,
-            value: value.copy(self.alloc)?,
+        let Ok(()) = self.note_value(z, &path, &value) else {
+            drop(value);
+            return Err(AllocError);
         };
-        self.note(notice)?;
         self.settle(z);
         self.watches.tell(&path, value);
         Ok(())
@@ -387,12 +408,15 @@ impl Client {
         ensures err { OnErr result (self.new ≡ self.old) }
     {
         let Some((_, asked)) = self.first_listen() else {
+            drop(value);
             return self.unfit(z);
         };
         if !self.fits(q) || *asked != path {
+            drop(value);
             return self.unfit(z);
         }
         if self.mail.listens_later(&path) {
+            drop(value);
             self.settle(z);
             return Ok(());
         }
@@ -424,8 +448,14 @@ impl Client {
         ensures ok { OnOk result (self.new ≡ after_push (bring self.old z) z values) }
         ensures err { OnErr result (self.new ≡ self.old) }
     {
-        let notices = news(self.alloc, &self.watches, z, values.as_slice())?;
-        self.mail.add(Vec::new(self.alloc), notices)?;
+        let Ok(notices) = news(self.alloc, &self.watches, z, values.as_slice()) else {
+            drop(values);
+            return Err(AllocError);
+        };
+        let Ok(()) = self.mail.add(Vec::new(self.alloc), notices) else {
+            drop(values);
+            return Err(AllocError);
+        };
         self.bring(z);
         tell_all(&mut self.watches, values.into_vec());
         Ok(())
@@ -550,6 +580,7 @@ impl Client {
                 out,
             } => {
                 if !self.is_next(&session, r) {
+                    drop(out);
                     return Ok(());
                 }
                 self.receive_reply(z, q, n, done, out)
@@ -588,6 +619,7 @@ impl Client {
                 value,
             } => {
                 if !self.is_next(&session, r) {
+                    drop(value);
                     return Ok(());
                 }
                 self.receive_snap(z, q, path, value)
@@ -599,6 +631,7 @@ impl Client {
                 values,
             } => {
                 if !self.is_next(&session, r) {
+                    drop(values);
                     return Ok(());
                 }
                 self.receive_push(z, values)

@@ -10,6 +10,7 @@ use crate::ask::Ask;
 use crate::call::{Answer, Call};
 use crate::client::Client;
 use crate::fault::ClientFault;
+use crate::mail::sole;
 use crate::notice::{Notice, alone};
 use crate::queued::Queued;
 use pres_tree::{MAX_DEPTH, Path, Tree, TreeFault};
@@ -24,6 +25,7 @@ pub(crate) fn placed(path: Path, draft: Draft) -> Result<Placement, ClientFault>
         (λ e. option_map Write (set_fault path draft) ≡ Some e) }
 {
     if path.len() + draft.depth() > MAX_DEPTH {
+        drop(draft);
         return Err(ClientFault::Write(WriteFault::Tree(TreeFault::TooDeep)));
     }
     match Placement::new(path, draft) {
@@ -84,6 +86,7 @@ impl Client {
         ensures few { IsFew self.old self.new }
     {
         if self.cannot_write() {
+            drop(draft);
             return Err(ClientFault::Spent);
         }
         let placement = placed(path, draft)?;
@@ -137,17 +140,14 @@ impl Client {
             }) }
         ensures err { OnErr result (self.new ≡ self.old) }
     {
-        let value = ask.value.copy(self.alloc)?;
-        let attempt = ask.attempt;
-        let notices = alone(
-            self.alloc,
-            Notice::Ask {
-                request,
-                attempt,
-                value,
-            },
-        )?;
-        self.mail.reserve(0, 0, notices.len())?;
+        let Ok(notices) = ask.notices(self.alloc, request) else {
+            drop(ask);
+            return Err(AllocError);
+        };
+        let Ok(()) = self.mail.reserve(0, 0, notices.len()) else {
+            drop(ask);
+            return Err(AllocError);
+        };
         self.asks.add(request, ask)?;
         self.mail.put_out(Vec::new(self.alloc), notices);
         Ok(())
@@ -184,6 +184,7 @@ impl Client {
         ensures few { IsFew self.old self.new }
     {
         if self.asks.get(request).is_none() {
+            drop(answer);
             return Err(ClientFault::NoSuchRequest);
         }
         match answer {
@@ -211,15 +212,14 @@ impl Client {
         requires fits { is_too_deep ask.now draft.now ≡ false }
         ensures { (k : ℕ) → IfOk result (λ v. v.items ≡ sent_now self.now (try_of k ask.now draft.now)) }
     {
-        let mut sends = Vec::new(self.alloc);
-        if self.phase.is_online() {
-            let session = self.session.copy(self.alloc)?;
-            let q = self.next_q();
-            let n = self.next_n();
-            let op = Op::Tx(ask.transaction(self.alloc, draft)?);
-            sends.push(Up::Op { session, q, n, op })?;
+        if !self.phase.is_online() {
+            return Ok(Vec::new(self.alloc));
         }
-        Ok(sends)
+        let session = self.session.copy(self.alloc)?;
+        let q = self.next_q();
+        let n = self.next_n();
+        let op = Op::Tx(ask.transaction(self.alloc, draft)?);
+        sole(self.alloc, Up::Op { session, q, n, op })
     }
 
     // The transaction's next try puts the draft.
@@ -229,17 +229,25 @@ impl Client {
         ensures err { IfErr result (Refuses self.old (Call.Answer request (Answer.New draft)) self.new) }
     {
         if self.no_write() || self.no_message() {
+            drop(draft);
             return Err(ClientFault::Spent);
         }
         let Some(ask) = self.asks.get(request) else {
             unreachable!()
         };
         if ask.is_too_deep(&draft) {
+            drop(draft);
             return Err(ClientFault::Write(WriteFault::Tree(TreeFault::TooDeep)));
         }
-        let sends = self.try_now(ask, &draft)?;
         let sent = self.sent_with_one();
-        self.mail.reserve(1, sends.len(), 0)?;
+        let Ok(sends) = self.try_now(ask, &draft) else {
+            drop(draft);
+            return Err(ClientFault::Memory);
+        };
+        let Ok(()) = self.mail.reserve(1, sends.len(), 0) else {
+            drop(draft);
+            return Err(ClientFault::Memory);
+        };
         let Some(ask) = self.asks.take(request) else {
             unreachable!()
         };

@@ -41,7 +41,7 @@ returns-clause-ok c =
       notices = i.mail.notices;
     } in
     let queue : c.put.new.self.queue ≡ i.mail.queue ++ m ∷ [] = c.put.ensures.queue ∙ rw (c.reserve.ensures.queue, c.into_transaction.ensures) refl in
-    let out : c.in_ok-sends.sends.items ≡ sent_now before m = c.in_ok-sends.ensures c.args.request ∙ (ap (λ a. sent_now s (try_of c.args.request a c.args.draft)) same ∙ ap (λ t. sent_now t m) (sym c.self.view_is)) in
+    let out : c.in-Ok.sends.items ≡ sent_now before m = c.in-Ok.ensures c.args.request ∙ (ap (λ a. sent_now s (try_of c.args.request a c.args.draft)) same ∙ ap (λ t. sent_now t m) (sym c.self.view_is)) in
     let sends : c.put.new.self.sends ≡ i.mail.sends ++ sent_now before m = c.put.ensures.sends ∙ rw (c.reserve.ensures.sends, out) refl in
     let notices : c.put.new.self.notices ≡ i.mail.notices = c.put.ensures.notices ∙ rw (c.reserve.ensures.notices, c.new.ensures.items) (append-nil i.mail.notices) in
     let sent : c.sent_with_one-sent.result ≡ (if is_online i.phase then i.made + 1 else i.sent) = c.sent_with_one-sent.ensures ∙ ap (λ t. if is_online t.phase then t.made + 1 else t.sent) (sym c.self.view_is) in

@@ -1,4 +1,4 @@
-use Rattle.std.proofs.Common.{◌≡◌, ◌++◌, [], ◌∷◌, refl, ap, sym, ◌∙◌, append-nil}
+use Rattle.std.proofs.Common.{◌≡◌, ◌++◌, [], ◌∷◌, refl, ap, sym, ◌∙◌, append-nil, rules}
 use Rattle.pres_client.specs.Clients.{State, no_message, with_watch, fresh}
 use Rattle.pres_client.specs.Calls.{enqueue, sent_now}
 use Rattle.pres_client.proofs.Ranges.{in_range-other, below}
@@ -34,8 +34,9 @@ returns-clause-ok c =
       notices = i.mail.notices;
     } in
     let queue : c.put.new.self.queue ≡ i.mail.queue ++ m ∷ [] = c.put.ensures.queue ∙ rw c.reserve.ensures.queue refl in
-    let out : c.in_ok-sends.sends.items ≡ sent_now before m = c.in_ok-sends.ensures ∙ ap (λ t. sent_now t m) (sym c.self.view_is) in
+    let out : c.in-Ok.sends.items ≡ sent_now before m = c.in-Ok.ensures ∙ ap (λ t. sent_now t m) (sym c.self.view_is) in
     let sends : c.put.new.self.sends ≡ i.mail.sends ++ sent_now before m = c.put.ensures.sends ∙ rw (c.reserve.ensures.sends, out) refl in
     let notices : c.put.new.self.notices ≡ i.mail.notices = c.put.ensures.notices ∙ rw (c.reserve.ensures.notices, c.new.ensures.items) (append-nil i.mail.notices) in
-    watched_fields before m c.args.path c.args.request c.put.new.self.queue c.put.new.self.sends c.put.new.self.notices c.add.new.self queue sends notices c.in_ok-add.ensures.ok
+    let added : c.add.new.self ≡ with_watch c.args.path (fresh c.args.request) i.watches = search rules in
+    watched_fields before m c.args.path c.args.request c.put.new.self.queue c.put.new.self.sends c.put.new.self.notices c.add.new.self queue sends notices added
     ∙ ap (λ (t : State). record (enqueue t m) { watches = with_watch c.args.path (fresh c.args.request) t.watches }) c.self.view_is
