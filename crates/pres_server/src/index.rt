@@ -6,9 +6,7 @@ ghost use Rattle.pres_write.specs.Outcomes.{kept_of};
 ghost use Rattle.pres_fan.specs.Listeners.{touched};
 ghost use Rattle.pres_write.specs.declared.op.Op.{Op};
 ghost use Rattle.pres_retry.specs.Tables.{row, rows_of, recorded};
-ghost use Rattle.pres_tree.specs.Rows.{value_at};
 ghost use Rattle.pres_wire.specs.Ids.{ClientId, client_cmp, stamp_of};
-ghost use Rattle.pres_wire.specs.declared.down.Down.TheVariants as down;
 ghost use Rattle.pres_log.specs.declared.entry.Entry.TheVariants as entry;
 ghost use Rattle.pres_server.specs.Streams.{answers};
 ghost use Rattle.pres_server.specs.Heard.{Heard, heard_after_all};
@@ -280,29 +278,6 @@ impl Index {
         })
     }
 
-    // The Snap of what stands at the path.
-    fn snap(
-        &self,
-        alloc: Global,
-        session: &SessionId,
-        r: Number,
-        z: Number,
-        q: Number,
-        path: &Path,
-    ) -> Result<Down, Reopen>
-        ensures { IfOk result (λ m.
-            m ≡ down.Snap session.now r z q path.now (value_at path.now self.now.tree)) }
-    {
-        Ok(Down::Snap {
-            session: session.copy(alloc)?,
-            r,
-            z,
-            q,
-            path: path.copy(alloc)?,
-            value: value_of(alloc, &self.tree, path)?,
-        })
-    }
-
     // Takes in that the session listens to the path by its message `q`, and answers it.
     fn listen(
         &mut self,
@@ -325,7 +300,14 @@ impl Index {
             Err(FanFault::Memory) => return Err(Reopen),
             Err(FanFault::Full) => unreachable!(),
         }
-        self.snap(alloc, session, r, made.number, q, path)
+        Ok(Down::Snap {
+            session: session.copy(alloc)?,
+            r,
+            z: made.number,
+            q,
+            path: path.copy(alloc)?,
+            value: value_of(alloc, &self.tree, path)?,
+        })
     }
 
     // Takes in that the session listens to the path no more by its message `q`, and answers it.
