@@ -3,6 +3,7 @@
 ghost use Rattle.std.specs.Prelude.{◌≡◌, IsTrue, IfOk};
 ghost use Rattle.pres_log.specs.Batches.{may_hold};
 ghost use Rattle.pres_log.specs.Logs.{writes_of};
+ghost use Rattle.pres_log.specs.declared.entry.Entry.TheVariants as entry;
 
 use pres_tree::Path;
 use pres_wire::{Limit, Number, SessionId, Why};
@@ -72,6 +73,79 @@ pub enum Entry {
     },
 }
 
+// An equal entry of a write.
+fn copied_op(
+    alloc: Global,
+    session: &SessionId,
+    q: Number,
+    n: Number,
+    op: &Op,
+    outcome: &Outcome,
+) -> Result<Entry, AllocError>
+    ensures { IfOk result (λ made. made ≡ entry.Op session.now q n op.now outcome.now) }
+{
+    let session = session.copy(alloc)?;
+    let op = op.copy(alloc)?;
+    let Ok(outcome) = outcome.copy(alloc) else {
+        drop(op);
+        return Err(AllocError);
+    };
+    Ok(Entry::Op {
+        session,
+        q,
+        n,
+        op,
+        outcome,
+    })
+}
+
+// An equal entry of an end.
+fn copied_end(
+    alloc: Global,
+    session: &SessionId,
+    q: Option<Number>,
+    why: Why,
+    rows: &[Basic],
+) -> Result<Entry, AllocError>
+    ensures { IfOk result (λ made. made ≡ entry.Ended session.now q why rows.now) }
+{
+    Ok(Entry::Ended {
+        session: session.copy(alloc)?,
+        q,
+        why,
+        rows: copy_writes(alloc, rows)?,
+    })
+}
+
+// An equal entry of puts that were left.
+fn copied_left(
+    alloc: Global,
+    session: &SessionId,
+    q: Number,
+    puts: &Puts,
+) -> Result<Entry, AllocError>
+    ensures { IfOk result (λ made. made ≡ entry.Left session.now q puts.now) }
+{
+    Ok(Entry::Left {
+        session: session.copy(alloc)?,
+        q,
+        puts: puts.copy(alloc)?,
+    })
+}
+
+// An equal session and an equal path.
+fn copied_place(
+    alloc: Global,
+    session: &SessionId,
+    path: &Path,
+) -> Result<(SessionId, Path), AllocError>
+    ensures { IfOk result (λ made. (made.0 ≡ session.now) × (made.1 ≡ path.now)) }
+{
+    let session = session.copy(alloc)?;
+    let path = path.copy(alloc)?;
+    Ok((session, path))
+}
+
 impl Entry {
     /// An equal entry.
     pub fn copy(&self, alloc: Global) -> Result<Entry, AllocError>
@@ -87,13 +161,7 @@ impl Entry {
                 n,
                 op,
                 outcome,
-            } => Ok(Entry::Op {
-                session: session.copy(alloc)?,
-                q: *q,
-                n: *n,
-                op: op.copy(alloc)?,
-                outcome: outcome.copy(alloc)?,
-            }),
+            } => copied_op(alloc, session, *q, *n, op, outcome),
             Entry::Again { session, q, n } => Ok(Entry::Again {
                 session: session.copy(alloc)?,
                 q: *q,
@@ -104,37 +172,37 @@ impl Entry {
                 q,
                 why,
                 rows,
-            } => Ok(Entry::Ended {
-                session: session.copy(alloc)?,
-                q: *q,
-                why: *why,
-                rows: copy_writes(alloc, rows.as_slice())?,
-            }),
-            Entry::Left { session, q, puts } => Ok(Entry::Left {
-                session: session.copy(alloc)?,
-                q: *q,
-                puts: puts.copy(alloc)?,
-            }),
-            Entry::Cancelled { session, q, path } => Ok(Entry::Cancelled {
-                session: session.copy(alloc)?,
-                q: *q,
-                path: path.copy(alloc)?,
-            }),
+            } => copied_end(alloc, session, *q, *why, rows.as_slice()),
+            Entry::Left { session, q, puts } => copied_left(alloc, session, *q, puts),
+            Entry::Cancelled { session, q, path } => {
+                let (session, path) = copied_place(alloc, session, path)?;
+                Ok(Entry::Cancelled {
+                    session,
+                    q: *q,
+                    path,
+                })
+            }
             Entry::Denied { session, q, why } => Ok(Entry::Denied {
                 session: session.copy(alloc)?,
                 q: *q,
                 why: *why,
             }),
-            Entry::On { session, q, path } => Ok(Entry::On {
-                session: session.copy(alloc)?,
-                q: *q,
-                path: path.copy(alloc)?,
-            }),
-            Entry::Off { session, q, path } => Ok(Entry::Off {
-                session: session.copy(alloc)?,
-                q: *q,
-                path: path.copy(alloc)?,
-            }),
+            Entry::On { session, q, path } => {
+                let (session, path) = copied_place(alloc, session, path)?;
+                Ok(Entry::On {
+                    session,
+                    q: *q,
+                    path,
+                })
+            }
+            Entry::Off { session, q, path } => {
+                let (session, path) = copied_place(alloc, session, path)?;
+                Ok(Entry::Off {
+                    session,
+                    q: *q,
+                    path,
+                })
+            }
         }
     }
 

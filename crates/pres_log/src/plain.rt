@@ -70,6 +70,7 @@ impl Plain {
         ensures err { OnErr result (self.new ≡ self.old) }
     {
         let Some(number) = self.count.next() else {
+            drop(op);
             return Err(Fault::Spent);
         };
         let moment = self.moment.max(now);

@@ -24,6 +24,10 @@ refused_by from d (Err x) f h q = subst (IsRefusal d) (sym h.1) q
 pub refused_as : (n o : ℕ) (d e : Decision) (f : Fault) → d ≡ e → IsRefusal (limited_by n o e) f → IsRefusal (limited_by n o d) f
 refused_as n o d e f same h = subst (λ x. IsRefusal (limited_by n o x) f) (sym same) h
 
+-- what is decided of a decision is so of the same one
+pub decided_as : (from : Option SessionId) (n o : ℕ) (d e : Decision) (r : Result Step Fault) → d ≡ e → Decides from (limited_by n o e) r → Decides from (limited_by n o d) r
+decided_as from n o d e r same h = subst (λ x. Decides from (limited_by n o x) r) (sym same) h
+
 -- a session is open where the check of a message passes
 pub live_if_said : (l : Option LivePart) (s : SessionId) (q : ℕ) (b : Bool) → ((d : Decision) → said_by l s q d ≡ said (Ok b) d) → IsSome l
 live_if_said None s q true h = let e = h quiet in absurd (cc)

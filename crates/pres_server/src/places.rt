@@ -126,6 +126,16 @@ impl Places {
         self.live.len() as u64
     }
 
+    // Keeps the client's session, which begins.
+    fn begin(&mut self, client: ClientId, live: Live<Plan>) -> Result<(), AllocError>
+        ensures live { OnOk result
+            (Updates client_cmp self.old.live self.new.live client (Some live)) }
+        ensures gone { self.new.gone ≡ self.old.gone }
+    {
+        drop(self.live.insert(client, live)?);
+        Ok(())
+    }
+
     /// Opens a session of a client that has none open.
     pub(crate) fn open(
         &mut self,
@@ -140,17 +150,15 @@ impl Places {
             session.now.client None) }
     {
         let stamp = session.stamp();
-        let plan = Plan::new(alloc);
         let Some((client, gone)) = take(&mut self.gone, &session.client) else {
             let client = session.client.copy(alloc)?;
-            drop(self.live.insert(client, first(stamp, moment, plan))?);
-            return Ok(());
+            let live = first(stamp, moment, Plan::new(alloc));
+            return self.begin(client, live);
         };
-        let Ok(live) = gone.open(stamp, moment, plan) else {
+        let Ok(live) = gone.open(stamp, moment, Plan::new(alloc)) else {
             unreachable!()
         };
-        drop(self.live.insert(client, live)?);
-        Ok(())
+        self.begin(client, live)
     }
 
     /// Counts a message of the client's open session, which was accepted at the moment, and its

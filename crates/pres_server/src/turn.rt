@@ -1,7 +1,8 @@
 //! What an input asks for.
 
-ghost use Rattle.std.specs.Prelude.{◌≡◌, ◌<◌, ◌∷◌, ◌^◌, [], IfOk, IfErr, IsSome, Some, None};
+ghost use Rattle.std.specs.Prelude.{◌≡◌, ◌<◌, ◌∷◌, ◌^◌, [], IfOk, IfErr, IsSome, Option, Some, None};
 ghost use Rattle.pres_wire.specs.Ids.{stamp_of};
+ghost use Rattle.pres_wire.specs.declared.id.SessionId.{SessionId};
 ghost use Rattle.pres_wire.specs.declared.up.Up.TheVariants as up;
 ghost use Rattle.pres_log.specs.declared.fault.Fault.TheVariants.{Busy};
 ghost use Rattle.pres_server.specs.Turns.{Decision, makes, Makes, Decides};
@@ -63,6 +64,14 @@ fn limits(number: u64, open_count: u64) -> Result<(), Fault>
     Ok(())
 }
 
+// One entry.
+fn one(alloc: Global, entry: Entry) -> Result<Items<Entry>, Fault>
+    ensures ok { IfOk result (λ made. made ≡ entry ∷ []) }
+    ensures err { IfErr result (λ e. e ≡ Busy) }
+{
+    Ok(Items::one(alloc, entry)?)
+}
+
 // Two entries.
 fn pair(alloc: Global, first: Entry, second: Entry) -> Result<Items<Entry>, Fault>
     ensures ok { IfOk result (λ made. made ≡ first ∷ second ∷ []) }
@@ -70,6 +79,17 @@ fn pair(alloc: Global, first: Entry, second: Entry) -> Result<Items<Entry>, Faul
 {
     let entries = Vec::from_array(alloc, [first, second])?;
     Ok(Items::of(entries))
+}
+
+// The step that makes the entries.
+fn making(entries: Result<Items<Entry>, Fault>) -> Result<Step, Fault>
+    ensures { (from : Option SessionId) (decision : Decision)
+        → Makes decision entries → Decides from decision result }
+{
+    match entries {
+        Ok(entries) => Ok(Step::Makes(entries)),
+        Err(fault) => Err(fault),
+    }
 }
 
 impl Index {
@@ -149,7 +169,7 @@ impl Index {
         };
         limits(now.number + 1, self.places.open_count() - 1)?;
         let ended = self.ended(alloc, live, session, q, why, now)?;
-        Ok(Items::one(alloc, ended)?)
+        one(alloc, ended)
     }
 
     // The opening of a session, after the end of the client's open one.
@@ -186,7 +206,7 @@ impl Index {
             return self.superseding(alloc, session, live, now);
         }
         limits(now.number + 1, self.places.open_count() + 1)?;
-        Ok(Items::one(alloc, Entry::Open { session })?)
+        one(alloc, Entry::Open { session })
     }
 
     // The entry of a write that is done.
@@ -211,7 +231,10 @@ impl Index {
                 op,
                 outcome,
             }),
-            Err(_) => Err(Fault::Busy),
+            Err(_) => {
+                drop(op);
+                Err(Fault::Busy)
+            }
         }
     }
 
@@ -229,9 +252,12 @@ impl Index {
         ensures { Makes (limited_on self.now now.number (makes
             (entry.Op session q n op (resolved self.now.tree now.moment op) ∷ []))) result }
     {
-        limits(now.number + 1, self.places.open_count())?;
+        if let Err(fault) = limits(now.number + 1, self.places.open_count()) {
+            drop(op);
+            return Err(fault);
+        }
         let entry = self.op_entry(alloc, session, q, n, op, now.moment)?;
-        Ok(Items::one(alloc, entry)?)
+        one(alloc, entry)
     }
 
     // What an answered write makes that is sent again.
@@ -248,7 +274,7 @@ impl Index {
             (entry.Again session q n ∷ []))) result }
     {
         limits(now.number + 1, self.places.open_count())?;
-        Ok(Items::one(alloc, Entry::Again { session, q, n })?)
+        one(alloc, Entry::Again { session, q, n })
     }
 
     // What an operation makes, which came as the open session's next message.
@@ -267,8 +293,14 @@ impl Index {
     {
         match self.retry.find(&session.client, n) {
             Verdict::New => self.fresh(alloc, session, q, n, op, now),
-            Verdict::Again(_) => self.repeated(alloc, session, q, n, now),
-            Verdict::Gap => Err(Fault::Order),
+            Verdict::Again(_) => {
+                drop(op);
+                self.repeated(alloc, session, q, n, now)
+            }
+            Verdict::Gap => {
+                drop(op);
+                Err(Fault::Order)
+            }
         }
     }
 
@@ -285,10 +317,17 @@ impl Index {
         requires { Ready self.now now }
         ensures { DecidesOn self.now now (input.Up (up.Op session q n op)) result }
     {
-        if !self.is_next(&session, q)? {
-            return Ok(Step::Quiet(Some(session)));
+        match self.is_next(&session, q) {
+            Ok(true) => making(self.operation(alloc, session, q, n, op, now)),
+            Ok(false) => {
+                drop(op);
+                Ok(Step::Quiet(Some(session)))
+            }
+            Err(fault) => {
+                drop(op);
+                Err(fault)
+            }
         }
-        Ok(Step::Makes(self.operation(alloc, session, q, n, op, now)?))
     }
 
     // What a Bye asks for.
@@ -305,7 +344,7 @@ impl Index {
         if !self.is_next(&session, q)? {
             return Ok(Step::Quiet(Some(session)));
         }
-        Ok(Step::Makes(self.ending(alloc, session, Some(q), Why::Bye, now)?))
+        making(self.ending(alloc, session, Some(q), Why::Bye, now))
     }
 
     // The entry of puts that are left, or of their denial.
@@ -341,7 +380,7 @@ impl Index {
         limits(now.number + 1, self.places.open_count())?;
         let puts = op.puts(alloc)?;
         let entry = self.left_entry(session, q, puts);
-        Ok(Items::one(alloc, entry)?)
+        one(alloc, entry)
     }
 
     // What a Left asks for.
@@ -350,16 +389,16 @@ impl Index {
         alloc: Global,
         session: SessionId,
         q: Number,
-        op: Unconditional,
+        op: &Unconditional,
         now: Now,
     ) -> Result<Step, Fault>
         requires { Ready self.now now }
-        ensures { DecidesOn self.now now (input.Up (up.Left session q op)) result }
+        ensures { DecidesOn self.now now (input.Up (up.Left session q op.now)) result }
     {
         if !self.is_next(&session, q)? {
             return Ok(Step::Quiet(Some(session)));
         }
-        Ok(Step::Makes(self.leaving(alloc, session, q, &op, now)?))
+        making(self.leaving(alloc, session, q, op, now))
     }
 
     // The entry of a cancel, or of its denial.
@@ -394,7 +433,7 @@ impl Index {
     {
         limits(now.number + 1, self.places.open_count())?;
         let entry = self.cancel_entry(session, q, path);
-        Ok(Items::one(alloc, entry)?)
+        one(alloc, entry)
     }
 
     // What a Cancel asks for.
@@ -412,7 +451,7 @@ impl Index {
         if !self.is_next(&session, q)? {
             return Ok(Step::Quiet(Some(session)));
         }
-        Ok(Step::Makes(self.cancelling(alloc, session, q, path, now)?))
+        making(self.cancelling(alloc, session, q, path, now))
     }
 
     // The entry of a session that listens, or of its denial.
@@ -441,7 +480,7 @@ impl Index {
     {
         limits(now.number + 1, self.places.open_count())?;
         let entry = self.listening_entry(session, q, path);
-        Ok(Items::one(alloc, entry)?)
+        one(alloc, entry)
     }
 
     // What an On asks for.
@@ -459,7 +498,7 @@ impl Index {
         if !self.is_next(&session, q)? {
             return Ok(Step::Quiet(Some(session)));
         }
-        Ok(Step::Makes(self.listening(alloc, session, q, path, now)?))
+        making(self.listening(alloc, session, q, path, now))
     }
 
     // What an Off makes that is the open session's next message.
@@ -476,7 +515,7 @@ impl Index {
             (makes (entry.Off session q path ∷ []))) result }
     {
         limits(now.number + 1, self.places.open_count())?;
-        Ok(Items::one(alloc, Entry::Off { session, q, path })?)
+        one(alloc, Entry::Off { session, q, path })
     }
 
     // What an Off asks for.
@@ -494,7 +533,7 @@ impl Index {
         if !self.is_next(&session, q)? {
             return Ok(Step::Quiet(Some(session)));
         }
-        Ok(Step::Makes(self.unlistening(alloc, session, q, path, now)?))
+        making(self.unlistening(alloc, session, q, path, now))
     }
 
     // What a Beat asks for: nothing, but its client was heard of.
@@ -513,9 +552,13 @@ impl Index {
         ensures { DecidesOn self.now now (input.Up up) result }
     {
         match up {
-            Up::Hello { session } => Ok(Step::Makes(self.hello(alloc, session, now)?)),
+            Up::Hello { session } => making(self.hello(alloc, session, now)),
             Up::Op { session, q, n, op } => self.op_message(alloc, session, q, n, op, now),
-            Up::Left { session, q, op } => self.left_message(alloc, session, q, op, now),
+            Up::Left { session, q, op } => {
+                let step = self.left_message(alloc, session, q, &op, now);
+                drop(op);
+                step
+            }
             Up::Cancel { session, q, path } => self.cancel_message(alloc, session, q, path, now),
             Up::Bye { session, q } => self.bye_message(alloc, session, q, now),
             Up::Beat { session } => self.beat(session, now),
@@ -533,7 +576,7 @@ impl Index {
         if !self.is_live(&session) {
             return Ok(Step::Quiet(None));
         }
-        Ok(Step::Makes(self.ending(alloc, session, None, why, now)?))
+        making(self.ending(alloc, session, None, why, now))
     }
 
     // The end of the client's open session, where it has one.
@@ -548,7 +591,7 @@ impl Index {
         limits(now.number + 1, self.places.open_count() - 1)?;
         let session = SessionId::of(client.copy(alloc)?, live.stamp());
         let ended = self.ended(alloc, live, session, None, why, now)?;
-        Ok(Step::Makes(Items::one(alloc, ended)?))
+        making(one(alloc, ended))
     }
 
     // The end of the first session whose client is silent for longer than its lease.

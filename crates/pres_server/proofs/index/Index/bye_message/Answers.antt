@@ -4,7 +4,7 @@ use Rattle.pres_server.specs.Turns.{Decision, makes, quiet}
 use Rattle.pres_server.specs.Parts.{limited_by, end_by}
 use Rattle.pres_server.specs.Places.{open_count}
 use Rattle.pres_server.specs.Index.{live_at}
-use Rattle.pres_server.proofs.Checks.{refused_by, refused_as, live_if_said}
+use Rattle.pres_server.proofs.Checks.{refused_by, decided_as, live_if_said}
 use Rattle.pres_server.proofs.index.Index.bye_message.Goals as goal
 
 pub ending-requires-clause-open : goal.ending-requires-clause-open
@@ -16,9 +16,8 @@ returns-in_err-is_next c =
     refused_by _ _ c.from_residual.result c.in_err-is_next.field-0.0 c.from_residual.ensures
     (inl (ap (limited_by c.args.now.number (open_count c.args.self.now.places)) (c.in_err-is_next.ensures accepted)))
 
-pub returns-in_err-ending : goal.returns-in_err-ending
-returns-in_err-ending c =
+pub returns : goal.returns
+returns c =
     let accepted : Decision = makes (end_by (live_at c.args.self.now c.args.session) c.args.self.now.tree c.args.now.moment (Some c.args.q) why.Bye c.args.session ∷ []) in
     let next : c.in_ok-is_next.field-0 ≡ true = search rules in
-    refused_by _ _ c.from_residual-in_err-ending.result c.in_err-ending.field-0.0 c.from_residual-in_err-ending.ensures
-    (refused_as _ _ _ accepted _ (c.in_ok-is_next.ensures accepted ∙ ap (λ b. cond b accepted quiet) next) c.in_err-ending.ensures)
+    decided_as _ _ _ _ accepted _ (c.in_ok-is_next.ensures accepted ∙ ap (λ b. cond b accepted quiet) next) (c.making.ensures _ _ c.ending.ensures)

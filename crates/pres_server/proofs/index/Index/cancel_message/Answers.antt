@@ -4,7 +4,7 @@ use Rattle.pres_server.specs.Turns.{Decision, quiet}
 use Rattle.pres_server.specs.Parts.{limited_by, leaves_by}
 use Rattle.pres_server.specs.Places.{open_count}
 use Rattle.pres_server.specs.Index.{live_at}
-use Rattle.pres_server.proofs.Checks.{refused_by, refused_as, live_if_said}
+use Rattle.pres_server.proofs.Checks.{refused_by, decided_as, live_if_said}
 use Rattle.pres_server.proofs.index.Index.cancel_message.Goals as goal
 
 pub cancelling-requires-clause-open : goal.cancelling-requires-clause-open
@@ -16,9 +16,8 @@ returns-in_err-is_next c =
     refused_by _ _ c.from_residual.result c.in_err-is_next.field-0.0 c.from_residual.ensures
     (inl (ap (limited_by c.args.now.number (open_count c.args.self.now.places)) (c.in_err-is_next.ensures accepted)))
 
-pub returns-in_err-cancelling : goal.returns-in_err-cancelling
-returns-in_err-cancelling c =
+pub returns : goal.returns
+returns c =
     let accepted : Decision = leaves_by (live_at c.args.self.now c.args.session) (entry.Cancelled c.args.session c.args.q c.args.path) c.args.session c.args.q in
     let next : c.in_ok-is_next.field-0 ≡ true = search rules in
-    refused_by _ _ c.from_residual-in_err-cancelling.result c.in_err-cancelling.field-0.0 c.from_residual-in_err-cancelling.ensures
-    (refused_as _ _ _ accepted _ (c.in_ok-is_next.ensures accepted ∙ ap (λ b. cond b accepted quiet) next) c.in_err-cancelling.ensures)
+    decided_as _ _ _ _ accepted _ (c.in_ok-is_next.ensures accepted ∙ ap (λ b. cond b accepted quiet) next) (c.making.ensures _ _ c.cancelling.ensures)

@@ -5,7 +5,7 @@ use Rattle.pres_server.specs.Turns.{Decision, quiet}
 use Rattle.pres_server.specs.Parts.{limited_by, leaves_by}
 use Rattle.pres_server.specs.Places.{open_count}
 use Rattle.pres_server.specs.Index.{live_at}
-use Rattle.pres_server.proofs.Checks.{refused_by, refused_as, live_if_said}
+use Rattle.pres_server.proofs.Checks.{refused_by, decided_as, live_if_said}
 use Rattle.pres_server.proofs.index.Index.left_message.Goals as goal
 
 pub leaving-requires-clause-open : goal.leaving-requires-clause-open
@@ -13,13 +13,12 @@ leaving-requires-clause-open c = live_if_said _ c.args.session c.args.q c.in_ok-
 
 pub returns-in_err-is_next : goal.returns-in_err-is_next
 returns-in_err-is_next c =
-    let accepted : Decision = leaves_by (live_at c.args.self.now c.args.session) (entry.Left c.args.session c.args.q (puts_of c.args.op)) c.args.session c.args.q in
+    let accepted : Decision = leaves_by (live_at c.args.self.now c.args.session) (entry.Left c.args.session c.args.q (puts_of c.args.op.now)) c.args.session c.args.q in
     refused_by _ _ c.from_residual.result c.in_err-is_next.field-0.0 c.from_residual.ensures
     (inl (ap (limited_by c.args.now.number (open_count c.args.self.now.places)) (c.in_err-is_next.ensures accepted)))
 
-pub returns-in_err-leaving : goal.returns-in_err-leaving
-returns-in_err-leaving c =
-    let accepted : Decision = leaves_by (live_at c.args.self.now c.args.session) (entry.Left c.args.session c.args.q (puts_of c.args.op)) c.args.session c.args.q in
+pub returns : goal.returns
+returns c =
+    let accepted : Decision = leaves_by (live_at c.args.self.now c.args.session) (entry.Left c.args.session c.args.q (puts_of c.args.op.now)) c.args.session c.args.q in
     let next : c.in_ok-is_next.field-0 ≡ true = search rules in
-    refused_by _ _ c.from_residual-in_err-leaving.result c.in_err-leaving.field-0.0 c.from_residual-in_err-leaving.ensures
-    (refused_as _ _ _ accepted _ (c.in_ok-is_next.ensures accepted ∙ ap (λ b. cond b accepted quiet) next) c.in_err-leaving.ensures)
+    decided_as _ _ _ _ accepted _ (c.in_ok-is_next.ensures accepted ∙ ap (λ b. cond b accepted quiet) next) (c.making.ensures _ _ c.leaving.ensures)

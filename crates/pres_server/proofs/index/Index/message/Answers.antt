@@ -1,18 +1,10 @@
-use Rattle.std.proofs.Common.{subst, sym, Ok}
+use Rattle.std.proofs.Common.{subst, sym}
 use Rattle.pres_server.specs.declared.input.Input.TheVariants as input
-use Rattle.pres_server.specs.declared.turn.Step.TheVariants as step
 use Rattle.pres_server.specs.Index.{DecidesOn}
-use Rattle.pres_server.proofs.Checks.{refused_by}
 use Rattle.pres_server.proofs.index.Index.message.Goals as goal
 
-pub returns-in_err-hello-in-Hello : goal.returns-in_err-hello-in-Hello
-returns-in_err-hello-in-Hello c =
-    subst (λ m. DecidesOn c.args.self.now c.args.now (input.Up m) c.from_residual.result) (sym c.in-Hello.is)
-    (refused_by _ _ c.from_residual.result c.in_err-hello-in-Hello.field-0.0 c.from_residual.ensures c.in_err-hello-in-Hello.ensures)
-
-pub returns-in_ok-hello-in-Hello : goal.returns-in_ok-hello-in-Hello
-returns-in_ok-hello-in-Hello c =
-    subst (λ m. DecidesOn c.args.self.now c.args.now (input.Up m) (Ok (step.Makes c.in_ok-hello-in-Hello.field-0))) (sym c.in-Hello.is) c.in_ok-hello-in-Hello.ensures
+pub returns-in-Hello : goal.returns-in-Hello
+returns-in-Hello c = subst (λ m. DecidesOn c.args.self.now c.args.now (input.Up m) c.making.result) (sym c.in-Hello.is) (c.making.ensures _ _ c.hello.ensures)
 
 pub returns-in-Op : goal.returns-in-Op
 returns-in-Op c = subst (λ m. DecidesOn c.args.self.now c.args.now (input.Up m) c.op_message.result) (sym c.in-Op.is) c.op_message.ensures
@@ -21,7 +13,7 @@ pub returns-in-Bye : goal.returns-in-Bye
 returns-in-Bye c = subst (λ m. DecidesOn c.args.self.now c.args.now (input.Up m) c.bye_message.result) (sym c.in-Bye.is) c.bye_message.ensures
 
 pub returns-in-Left : goal.returns-in-Left
-returns-in-Left c = subst (λ m. DecidesOn c.args.self.now c.args.now (input.Up m) c.left_message.result) (sym c.in-Left.is) c.left_message.ensures
+returns-in-Left c = subst (λ m. DecidesOn c.args.self.now c.args.now (input.Up m) c.left_message-step.result) (sym c.in-Left.is) c.left_message-step.ensures
 
 pub returns-in-Cancel : goal.returns-in-Cancel
 returns-in-Cancel c = subst (λ m. DecidesOn c.args.self.now c.args.now (input.Up m) c.cancel_message.result) (sym c.in-Cancel.is) c.cancel_message.ensures

@@ -3,7 +3,7 @@ use Rattle.pres_server.specs.Turns.{Decision, makes, quiet}
 use Rattle.pres_server.specs.Parts.{limited_by}
 use Rattle.pres_server.specs.Places.{open_count}
 use Rattle.pres_log.specs.declared.entry.Entry.TheVariants as entry
-use Rattle.pres_server.proofs.Checks.{refused_by, refused_as}
+use Rattle.pres_server.proofs.Checks.{refused_by, decided_as}
 use Rattle.pres_server.proofs.index.Index.off_message.Goals as goal
 
 pub returns-in_err-is_next : goal.returns-in_err-is_next
@@ -12,9 +12,8 @@ returns-in_err-is_next c =
     refused_by _ _ c.from_residual.result c.in_err-is_next.field-0.0 c.from_residual.ensures
     (inl (ap (limited_by c.args.now.number (open_count c.args.self.now.places)) (c.in_err-is_next.ensures accepted)))
 
-pub returns-in_err-unlistening : goal.returns-in_err-unlistening
-returns-in_err-unlistening c =
+pub returns : goal.returns
+returns c =
     let accepted : Decision = makes (entry.Off c.args.session c.args.q c.args.path ∷ []) in
     let next : c.in_ok-is_next.field-0 ≡ true = search rules in
-    refused_by _ _ c.from_residual-in_err-unlistening.result c.in_err-unlistening.field-0.0 c.from_residual-in_err-unlistening.ensures
-    (refused_as _ _ _ accepted _ (c.in_ok-is_next.ensures accepted ∙ ap (λ b. cond b accepted quiet) next) c.in_err-unlistening.ensures)
+    decided_as _ _ _ _ accepted _ (c.in_ok-is_next.ensures accepted ∙ ap (λ b. cond b accepted quiet) next) (c.making.ensures _ _ c.unlistening.ensures)
