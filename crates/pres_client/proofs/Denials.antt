@@ -3,8 +3,10 @@ use Rattle.std.proofs.Common.{ℕ, ◌≡◌, true, false, drop, Some, refl}
 use Rattle.std.specs.List.{list_any}
 use Rattle.pres_tree.specs.Paths.{Path}
 use Rattle.pres_wire.specs.declared.down.Limit.TheVariants as limit
-use Rattle.pres_client.specs.declared.notice.Notice.TheVariants as notice
-use Rattle.pres_client.specs.Clients.{State, is_on, without_watch}
+use Rattle.pres_mail.specs.declared.notice.Notice.TheVariants as notice
+use Rattle.pres_mail.specs.Watches.{without_watch}
+use Rattle.pres_mail.specs.Queues.{is_on}
+use Rattle.pres_client.specs.Clients.{State}
 use Rattle.pres_client.specs.Calls.{note}
 use Rattle.pres_client.specs.Receiving.{bring, fits, answered, first_listen, listen_denied}
 

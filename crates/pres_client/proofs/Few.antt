@@ -1,13 +1,14 @@
 -- No call makes more messages than was said before it.
 use Rattle.std.proofs.Common.{ℕ, ◌+◌, ◌≤◌, ◌≡◌, Bool, true, false, List, [], ◌∷◌, ◌++◌, length, max, refl, ap, arith, suc, if◌then◌else◌, length-append, append-nil}
 use Rattle.std.proofs.lemmas.Bool.Decides.{nat_tests}
-use Rattle.pres_wire.specs.declared.id.SessionId.{SessionId}
+use Rattle.pres_ids.specs.declared.id.SessionId.{SessionId}
 use Rattle.pres_wire.specs.declared.up.Up.{Up}
 use Rattle.pres_wire.specs.declared.up.Up.TheVariants as up
 use Rattle.pres_client.specs.declared.client.Phase.{Phase}
 use Rattle.pres_client.specs.declared.client.Phase.TheVariants as phase
-use Rattle.pres_client.specs.declared.queued.Queued.{Queued}
-use Rattle.pres_client.specs.Clients.{State, is_online, is_opening, base_of, message, messages, next_write, outstanding, most_sends}
+use Rattle.pres_mail.specs.declared.queued.Queued.{Queued}
+use Rattle.pres_mail.specs.Queues.{message, messages, next_write}
+use Rattle.pres_client.specs.Clients.{State, is_online, is_opening, base_of, outstanding, most_sends}
 use Rattle.pres_client.specs.Calls.{sent_now, outgoing}
 
 pub length-messages : (s : SessionId) (q n : ℕ) (ms : List Queued) → length (messages s q n ms) ≡ length ms

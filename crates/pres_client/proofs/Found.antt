@@ -13,9 +13,9 @@ use Rattle.pres_tree.proofs.PathOrder.{path_same, path_itself, path_flip, same_b
 use Rattle.pres_wire.specs.declared.values.PathValue.{PathValue}
 use Rattle.pres_wire.specs.Values.{rise, Rising}
 use Rattle.pres_wire.specs.Views.{value_in}
-use Rattle.pres_client.specs.declared.watch.Watch.{Watch}
-use Rattle.pres_client.specs.declared.watch.Shown.TheVariants as shown
-use Rattle.pres_client.specs.Clients.{Watches, watch_of, with_watch, without_watch, kept, frozen, tell, is_shown_live, is_live}
+use Rattle.pres_mail.specs.declared.watch.Watch.{Watch}
+use Rattle.pres_mail.specs.declared.watch.Shown.TheVariants as shown
+use Rattle.pres_mail.specs.Watches.{Watches, watch_of, with_watch, without_watch, kept, frozen, tell, is_shown_live, is_live}
 use Rattle.pres_client.specs.Receiving.{tell_live}
 
 -- ---- the list of watches

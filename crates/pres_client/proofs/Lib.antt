@@ -1,7 +1,5 @@
 pub mod Ranges
 pub mod Few
-pub mod Maps
-pub mod Queues
 pub mod Watched
 pub mod Welcomes
 pub mod Denials

@@ -1,10 +1,11 @@
 -- The numbers of a client stay in range.
 use Rattle.std.proofs.Common.{ℕ, ◌+◌, ◌≤◌, ◌<◌, ◌≡◌, Bool, true, false, List, [], ◌∷◌, ◌++◌, length, filter, Option, refl, ap, ◌∙◌, arith, nat_le, unwrap_or, length-append, if◌then◌else◌}
 use Rattle.std.proofs.lemmas.Bool.Decides.{nat_tests}
-use Rattle.pres_wire.specs.Numbers.{greatest_number}
-use Rattle.pres_client.specs.declared.queued.Queued.{Queued}
-use Rattle.pres_client.specs.declared.queued.Queued.TheVariants.{Write, Try, Left, Cancel, On, Off}
-use Rattle.pres_client.specs.Clients.{InRange, count_writes, next_write, is_write}
+use Rattle.pres_ids.specs.Numbers.{greatest_number}
+use Rattle.pres_mail.specs.declared.queued.Queued.{Queued}
+use Rattle.pres_mail.specs.declared.queued.Queued.TheVariants.{Write, Try, Left, Cancel, On, Off}
+use Rattle.pres_mail.specs.Queues.{count_writes, next_write, is_write}
+use Rattle.pres_client.specs.Clients.{InRange}
 
 -- the number of the next write, by whether the message is one
 next_by : (b c : Bool) (n : ℕ) → (if c then (if b then n + 1 else n) + 1 else (if b then n + 1 else n)) ≡ (if b then (if c then n + 1 else n) + 1 else (if c then n + 1 else n))

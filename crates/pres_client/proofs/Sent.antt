@@ -8,13 +8,13 @@ use Rattle.std.proofs.lemmas.List.Folds.{list_all-append}
 use Rattle.pres_tree.specs.Paths.{Path}
 use Rattle.pres_write.specs.declared.op.Op.{Op}
 use Rattle.pres_write.specs.declared.op.Op.TheVariants as op
-use Rattle.pres_wire.specs.declared.id.SessionId.{SessionId}
+use Rattle.pres_ids.specs.declared.id.SessionId.{SessionId}
 use Rattle.pres_wire.specs.declared.up.Up.TheVariants as up
-use Rattle.pres_client.specs.declared.queued.Queued.{Queued}
-use Rattle.pres_client.specs.declared.queued.Queued.TheVariants as queued
-use Rattle.pres_client.specs.declared.watch.Watch.{Watch}
-use Rattle.pres_client.specs.Clients.{is_write, message, next_write, messages, count_writes}
-use Rattle.pres_client.specs.Receiving.{on_of}
+use Rattle.pres_mail.specs.declared.queued.Queued.{Queued}
+use Rattle.pres_mail.specs.declared.queued.Queued.TheVariants as queued
+use Rattle.pres_mail.specs.declared.watch.Watch.{Watch}
+use Rattle.pres_mail.specs.Queues.{is_write, message, next_write, messages, count_writes}
+use Rattle.pres_mail.specs.Watches.{on_of}
 use Rattle.pres_client.specs.Sends.{Made, numbered, on_messages, op_messages}
 
 -- ---- the writes of a queue

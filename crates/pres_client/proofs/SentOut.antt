@@ -15,7 +15,7 @@ use Rattle.pres_write.specs.declared.outcome.Kept.TheVariants.{Wrote, Stale}
 use Rattle.pres_write.specs.declared.unconditional.Unconditional.TheVariants as unconditional
 use Rattle.pres_write.specs.Transactions.{comparison}
 use Rattle.pres_write.specs.Updates.{update_of}
-use Rattle.pres_wire.specs.declared.id.SessionId.{SessionId}
+use Rattle.pres_ids.specs.declared.id.SessionId.{SessionId}
 use Rattle.pres_wire.specs.declared.down.Code.{Code}
 use Rattle.pres_wire.specs.declared.down.Code.TheVariants as code
 use Rattle.pres_wire.specs.declared.down.Limit.{Limit}
@@ -24,19 +24,22 @@ use Rattle.pres_wire.specs.declared.down.Down.{Down}
 use Rattle.pres_wire.specs.declared.down.Down.TheVariants as down
 use Rattle.pres_wire.specs.declared.up.Up.{Up}
 use Rattle.pres_wire.specs.declared.up.Up.TheVariants as up
-use Rattle.pres_wire.specs.Ids.{same_session}
-use Rattle.pres_client.specs.declared.ask.Ask.{Ask}
+use Rattle.pres_ids.specs.Ids.{same_session}
+use Rattle.pres_mail.specs.declared.ask.Ask.{Ask}
 use Rattle.pres_client.specs.declared.call.Answer.{Answer}
 use Rattle.pres_client.specs.declared.call.Answer.TheVariants as answer
 use Rattle.pres_client.specs.declared.call.Call.{Call}
 use Rattle.pres_client.specs.declared.call.Call.TheVariants as call
 use Rattle.pres_client.specs.declared.client.Phase.TheVariants as phase
-use Rattle.pres_client.specs.declared.notice.Notice.{Notice}
-use Rattle.pres_client.specs.declared.notice.Notice.TheVariants as notice
-use Rattle.pres_client.specs.declared.queued.Queued.{Queued}
-use Rattle.pres_client.specs.declared.queued.Queued.TheVariants as queued
-use Rattle.pres_client.specs.declared.watch.Watch.{Watch}
-use Rattle.pres_client.specs.Clients.{State, start, is_online, is_opening, session_of, base_of, message, outstanding, watch_of, with_watch, without_watch, fresh, ask_of}
+use Rattle.pres_mail.specs.declared.notice.Notice.{Notice}
+use Rattle.pres_mail.specs.declared.notice.Notice.TheVariants as notice
+use Rattle.pres_mail.specs.declared.queued.Queued.{Queued}
+use Rattle.pres_mail.specs.declared.queued.Queued.TheVariants as queued
+use Rattle.pres_mail.specs.declared.watch.Watch.{Watch}
+use Rattle.pres_mail.specs.Watches.{watch_of, with_watch, without_watch, fresh}
+use Rattle.pres_mail.specs.Queues.{message}
+use Rattle.pres_mail.specs.Asks.{ask_of}
+use Rattle.pres_client.specs.Clients.{State, start, is_online, is_opening, session_of, base_of, outstanding}
 use Rattle.pres_client.specs.Calls.{refusal, sent_now, after_write, after_call, end_session, with_request, enqueue, outgoing, note, try_of, after_answer, after_listen, after_unlisten}
 use Rattle.pres_client.specs.Receiving as receiving
 use Rattle.pres_client.specs.Receiving.{is_next, fits, fits_write, bring, is_last, first_listen, first_action, first_is_off, after_receive, after_welcome, after_fault, own_fault, ends_session, is_fit, judge_reply, write_outcome, try_outcome, ask_again, action_answered, judge_denied, listen_denied, listen_answered, armed, denied}

@@ -14,7 +14,7 @@ use Rattle.pres_write.specs.declared.outcome.Kept.TheVariants.{Wrote, Stale}
 use Rattle.pres_write.specs.declared.unconditional.Unconditional.TheVariants as unconditional
 use Rattle.pres_write.specs.Transactions.{Comparison}
 use Rattle.pres_write.specs.Updates.{update_of}
-use Rattle.pres_wire.specs.declared.id.SessionId.{SessionId}
+use Rattle.pres_ids.specs.declared.id.SessionId.{SessionId}
 use Rattle.pres_wire.specs.declared.down.Code.{Code}
 use Rattle.pres_wire.specs.declared.down.Code.TheVariants as code
 use Rattle.pres_wire.specs.declared.down.Limit.{Limit}
@@ -22,23 +22,25 @@ use Rattle.pres_wire.specs.declared.down.Limit.TheVariants as limit
 use Rattle.pres_wire.specs.declared.down.Down.{Down}
 use Rattle.pres_wire.specs.declared.down.Down.TheVariants as down
 use Rattle.pres_wire.specs.declared.values.PathValue.{PathValue}
-use Rattle.pres_wire.specs.Ids.{same_session}
+use Rattle.pres_ids.specs.Ids.{same_session}
 use Rattle.pres_wire.specs.Messages.{number_in}
 use Rattle.pres_wire.specs.Values.{Rising}
 use Rattle.pres_wire.specs.Views.{value_in, told, seen, seen_in}
-use Rattle.pres_client.specs.declared.ask.Ask.{Ask}
+use Rattle.pres_mail.specs.declared.ask.Ask.{Ask}
 use Rattle.pres_client.specs.declared.call.Answer.{Answer}
 use Rattle.pres_client.specs.declared.call.Answer.TheVariants as answer
 use Rattle.pres_client.specs.declared.call.Call.{Call}
 use Rattle.pres_client.specs.declared.call.Call.TheVariants as call
-use Rattle.pres_client.specs.declared.notice.Notice.{Notice}
-use Rattle.pres_client.specs.declared.notice.Notice.TheVariants as notice
-use Rattle.pres_client.specs.declared.queued.Queued.{Queued}
-use Rattle.pres_client.specs.declared.queued.Queued.TheVariants as queued
-use Rattle.pres_client.specs.declared.watch.Watch.{Watch}
-use Rattle.pres_client.specs.declared.watch.Shown.{Shown}
-use Rattle.pres_client.specs.declared.watch.Shown.TheVariants as shown
-use Rattle.pres_client.specs.Clients.{State, start, is_online, is_opening, is_on, is_write, session_of, watch_of, without_watch, with_watch, fresh, kept, is_shown_live, is_live, shown_at, watched_at}
+use Rattle.pres_mail.specs.declared.notice.Notice.{Notice}
+use Rattle.pres_mail.specs.declared.notice.Notice.TheVariants as notice
+use Rattle.pres_mail.specs.declared.queued.Queued.{Queued}
+use Rattle.pres_mail.specs.declared.queued.Queued.TheVariants as queued
+use Rattle.pres_mail.specs.declared.watch.Watch.{Watch}
+use Rattle.pres_mail.specs.declared.watch.Shown.{Shown}
+use Rattle.pres_mail.specs.declared.watch.Shown.TheVariants as shown
+use Rattle.pres_mail.specs.Watches.{watch_of, without_watch, with_watch, fresh, kept, is_shown_live, is_live, shown_at, watched_at}
+use Rattle.pres_mail.specs.Queues.{is_on, is_write}
+use Rattle.pres_client.specs.Clients.{State, start, is_online, is_opening, session_of}
 use Rattle.pres_client.specs.Calls.{refusal, after_call, end_session, with_request, enqueue, note, try_of, after_answer, after_listen, after_unlisten}
 use Rattle.pres_client.specs.Receiving as receiving
 use Rattle.pres_client.specs.Receiving.{is_next, fits, fits_write, bring, unfit, is_last, first_listen, first_action, first_is_off, after_receive, after_welcome, after_fault, own_fault, ends_session, is_fit, judge_reply, write_outcome, try_outcome, ask_again, answered, write_answered, action_answered, judge_action, judge_denied, listen_denied, listen_answered, judge_off_done, after_push, armed, denied, tell_live}

@@ -3,12 +3,14 @@ use Rattle.std.proofs.Common.{ℕ, ◌≡◌, ◌+◌, ◌++◌, List, [], ◌�
 use Rattle.pres_tree.specs.Rows.{Rows}
 use Rattle.pres_write.specs.declared.draft.Slot.{Slot}
 use Rattle.pres_wire.specs.declared.up.Up.{Up}
-use Rattle.pres_client.specs.declared.ask.Ask.{Ask}
-use Rattle.pres_client.specs.declared.notice.Notice.{Notice}
-use Rattle.pres_client.specs.declared.queued.Queued.{Queued}
+use Rattle.pres_mail.specs.declared.ask.Ask.{Ask}
+use Rattle.pres_mail.specs.declared.notice.Notice.{Notice}
+use Rattle.pres_mail.specs.declared.queued.Queued.{Queued}
 use Rattle.pres_client.specs.declared.call.Answer.TheVariants.{New}
-use Rattle.pres_client.specs.Clients.{State, Asks, is_online, no_write, no_message, without_ask}
-use Rattle.pres_client.specs.Calls.{answer_refusal, after_answer, make_write, sent_now, try_of, is_too_deep}
+use Rattle.pres_mail.specs.Asks.{Asks, without_ask}
+use Rattle.pres_client.specs.Clients.{State, is_online, no_write, no_message}
+use Rattle.pres_mail.specs.Asks.{is_too_deep}
+use Rattle.pres_client.specs.Calls.{answer_refusal, after_answer, make_write, sent_now, try_of}
 
 pub try_accepted : (c : State) (new : Rows Slot) (o : Option Ask) (a : Ask) → o ≡ Some a → no_write c ≡ false → no_message c ≡ false → is_too_deep a new ≡ false → answer_refusal c (New new) o ≡ None
 try_accepted c new o a found write message deep = rw (found, write, message, deep) refl

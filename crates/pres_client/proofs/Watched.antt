@@ -4,18 +4,13 @@ use Rattle.pres_tree.specs.declared.scalar.Scalar.{Scalar}
 use Rattle.pres_tree.specs.Paths.{Path}
 use Rattle.pres_tree.specs.Rows.{Rows}
 use Rattle.pres_wire.specs.declared.up.Up.{Up}
-use Rattle.pres_client.specs.declared.notice.Notice.{Notice}
-use Rattle.pres_client.specs.declared.queued.Queued.{Queued}
-use Rattle.pres_client.specs.declared.watch.Watch.{Watch}
-use Rattle.pres_client.specs.declared.watch.Shown.TheVariants.{Live}
-use Rattle.pres_client.specs.Clients.{State, Watches, watch_of, with_watch, fresh, tell}
+use Rattle.pres_mail.specs.declared.notice.Notice.{Notice}
+use Rattle.pres_mail.specs.declared.queued.Queued.{Queued}
+use Rattle.pres_mail.specs.declared.watch.Watch.{Watch}
+use Rattle.pres_mail.specs.declared.watch.Shown.TheVariants.{Live}
+use Rattle.pres_mail.specs.Watches.{Watches, watch_of, with_watch, fresh, tell}
+use Rattle.pres_client.specs.Clients.{State}
 use Rattle.pres_client.specs.Calls.{enqueue, sent_now}
-
-pub tell_known : (p : Path) (v : Rows Scalar) (ws : Watches) (w : Watch) → watch_of p ws ≡ Some w → with_watch p (record w { shown = Live v }) ws ≡ tell p v ws
-tell_known p v ws w known = rw known refl
-
-pub tell_unknown : (p : Path) (v : Rows Scalar) (ws : Watches) → watch_of p ws ≡ None → ws ≡ tell p v ws
-tell_unknown p v ws known = rw known refl
 
 -- the path is listened to from now on, and the message says so, field by field
 pub watched_fields : (c : State) (m : Queued) (p : Path) (k : ℕ) (queue : List Queued) (sends : List Up) (notices : List Notice) (watches : Watches)

@@ -2,15 +2,18 @@
 use Rattle.std.proofs.Common.{ℕ, ◌+◌, ◌≤◌, ◌≡◌, Bool, true, false, ◌&&◌, List, [], ◌∷◌, ◌++◌, length, max, map, Some, refl, arith, nat_le, unwrap_or, length-append, Result, Ok, Err, if◌then◌else◌}
 use Rattle.std.specs.Result.{OnOk, OnErr}
 use Rattle.std.proofs.lemmas.Bool.Decides.{nat_tests}
-use Rattle.pres_wire.specs.Numbers.{greatest_number}
+use Rattle.pres_ids.specs.Numbers.{greatest_number}
 use Rattle.pres_client.specs.declared.client.Phase.{Phase}
 use Rattle.pres_client.specs.declared.client.Phase.TheVariants as phase
-use Rattle.pres_client.specs.declared.notice.Notice.TheVariants as notice
+use Rattle.pres_mail.specs.declared.notice.Notice.TheVariants as notice
 use Rattle.pres_wire.specs.declared.down.Code.TheVariants as code
-use Rattle.pres_client.specs.declared.queued.Queued.{Queued}
-use Rattle.pres_client.specs.Clients.{State, InRange, Watches, count_writes, is_online, is_opening, most_sends, base_of, outstanding}
+use Rattle.pres_mail.specs.declared.queued.Queued.{Queued}
+use Rattle.pres_mail.specs.Watches.{Watches}
+use Rattle.pres_mail.specs.Queues.{count_writes}
+use Rattle.pres_client.specs.Clients.{State, InRange, is_online, is_opening, most_sends, base_of, outstanding}
 use Rattle.pres_client.specs.Calls.{IsFew, note}
-use Rattle.pres_client.specs.Receiving.{on_of, is_fit, opened, after_welcome}
+use Rattle.pres_mail.specs.Watches.{on_of}
+use Rattle.pres_client.specs.Receiving.{is_fit, opened, after_welcome}
 use Rattle.pres_client.proofs.Few.{length-messages}
 
 pub count-ons : (ws : Watches) → count_writes (map on_of ws) ≡ 0

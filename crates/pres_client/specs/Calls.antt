@@ -18,8 +18,11 @@ use Rattle.pres_write.specs.Updates.{update_of, update_fault}
 use Rattle.pres_wire.specs.declared.down.Code.{Code}
 use Rattle.pres_wire.specs.declared.up.Up.{Up}
 use Rattle.pres_wire.specs.declared.up.Up.TheVariants as up
-use Rattle.pres_wire.specs.Numbers.{greatest_number}
-use Rattle.pres_client.specs.declared.ask.Ask.{Ask}
+use Rattle.pres_ids.specs.Numbers.{greatest_number}
+use Rattle.pres_mail.specs.declared.ask.Ask.{Ask}
+use Rattle.pres_mail.specs.Queues.{is_write, message, farewell}
+use Rattle.pres_mail.specs.Watches.{watch_of, with_watch, without_watch, fresh, frozen}
+use Rattle.pres_mail.specs.Asks.{ask_of, with_ask, without_ask, is_deep, is_too_deep}
 use Rattle.pres_client.specs.declared.call.Answer.{Answer}
 use Rattle.pres_client.specs.declared.call.Answer.TheVariants as answer
 use Rattle.pres_client.specs.declared.call.Call.{Call}
@@ -27,12 +30,12 @@ use Rattle.pres_client.specs.declared.call.Call.TheVariants as call
 use Rattle.pres_client.specs.declared.client.Phase.TheVariants as phase
 use Rattle.pres_client.specs.declared.fault.ClientFault.{ClientFault}
 use Rattle.pres_client.specs.declared.fault.ClientFault.TheVariants.{Memory, Offline, NoSuchRequest, Spent, Write}
-use Rattle.pres_client.specs.declared.notice.Notice.{Notice}
-use Rattle.pres_client.specs.declared.notice.Notice.TheVariants as notice
-use Rattle.pres_client.specs.declared.queued.Queued.{Queued}
-use Rattle.pres_client.specs.declared.queued.Queued.TheVariants as queued
-use Rattle.pres_client.specs.declared.watch.Watch.{Watch}
-use Rattle.pres_client.specs.Clients.{State, is_online, is_opening, is_write, session_of, base_of, message, outstanding, no_request, no_write, no_message, watch_of, with_watch, without_watch, fresh, frozen, view, ask_of, with_ask, without_ask, most_sends}
+use Rattle.pres_mail.specs.declared.notice.Notice.{Notice}
+use Rattle.pres_mail.specs.declared.notice.Notice.TheVariants as notice
+use Rattle.pres_mail.specs.declared.queued.Queued.{Queued}
+use Rattle.pres_mail.specs.declared.queued.Queued.TheVariants as queued
+use Rattle.pres_mail.specs.declared.watch.Watch.{Watch}
+use Rattle.pres_client.specs.Clients.{State, is_online, is_opening, session_of, base_of, outstanding, no_request, no_write, no_message, view, most_sends}
 
 -- ---- steps that calls share
 
@@ -54,26 +57,9 @@ with_request c = record c { requests = c.requests + 1 }
 abbrev pub note : State → Notice → State
 note c n = record c { notices = c.notices ++ n ∷ [] }
 
--- what was left for the end of the session, or taken back, and has no answer
-abbrev pub lost_action : Queued → Option Notice
-lost_action (queued.Write k o) = None
-lost_action (queued.Try k attempt t) = None
-lost_action (queued.Left k o) = Some (notice.ActionLost k)
-lost_action (queued.Cancel k p) = Some (notice.ActionLost k)
-lost_action (queued.On k p) = None
-lost_action (queued.Off p) = None
-
 -- the session is left: its writes without an answer stay, and what it showed
 abbrev pub closed : State → State
 closed c = record c { phase = phase.Off; heard = 0; taken = 0; queue = filter is_write c.queue; watches = frozen c.seen c.watches }
-
-abbrev pub faulted : Option Code → List Notice
-faulted None = []
-faulted (Some reason) = notice.Faulted reason ∷ []
-
--- what is noted when a session is left, with the fault that ends it
-abbrev pub farewell : Option Code → List Queued → List Notice
-farewell fault ms = notice.Connected false ∷ (filter_map lost_action ms ++ faulted fault)
 
 -- the session is left
 abbrev pub end_session : State → Option Code → State
@@ -106,10 +92,6 @@ try_of k a new = queued.Try k a.attempt (comparison a.path a.value new)
 
 -- ---- refusals
 
--- data is nested too deep at the path
-abbrev pub is_deep : {A : Type 0} → Path → Rows A → Bool
-is_deep p v = nat_lt max_depth (length p + depth_of v)
-
 abbrev pub set_fault : Path → Rows Slot → Option WriteFault
 set_fault p draft = if is_deep p draft then Some (Tree TooDeep) else None
 
@@ -118,9 +100,6 @@ write_refusal c fault = if no_request c || (no_write c || no_message c) then Som
 
 abbrev pub action_refusal : State → Option WriteFault → Option ClientFault
 action_refusal c fault = if not (is_online c.phase) then Some Offline else (if no_request c || no_message c then Some Spent else option_map Write fault)
-
-abbrev pub is_too_deep : Ask → Rows Slot → Bool
-is_too_deep a new = is_deep a.path a.value || is_deep a.path new
 
 abbrev pub try_fault : Ask → Rows Slot → Option WriteFault
 try_fault a new = if is_too_deep a new then Some (Tree TooDeep) else None

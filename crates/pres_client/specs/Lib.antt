@@ -1,6 +1,5 @@
 pub mod Faults
 pub mod Clients
-pub mod Mails
 pub mod Calls
 pub mod Receiving
 pub mod Steps

@@ -7,7 +7,7 @@ use Rattle.pres_tree.specs.Rows.{Rows, rows_in}
 use Rattle.pres_write.specs.declared.outcome.Kept.{Kept}
 use Rattle.pres_write.specs.declared.outcome.Kept.TheVariants.{Wrote, Stale}
 use Rattle.pres_write.specs.Transactions.{Comparison}
-use Rattle.pres_wire.specs.declared.id.SessionId.{SessionId}
+use Rattle.pres_ids.specs.declared.id.SessionId.{SessionId}
 use Rattle.pres_wire.specs.declared.down.Code.{Code}
 use Rattle.pres_wire.specs.declared.down.Code.TheVariants as code
 use Rattle.pres_wire.specs.declared.down.Limit.{Limit}
@@ -15,15 +15,18 @@ use Rattle.pres_wire.specs.declared.down.Limit.TheVariants as limit
 use Rattle.pres_wire.specs.declared.down.Down.{Down}
 use Rattle.pres_wire.specs.declared.down.Down.TheVariants as down
 use Rattle.pres_wire.specs.declared.values.PathValue.{PathValue}
-use Rattle.pres_wire.specs.Ids.{same_session}
-use Rattle.pres_wire.specs.Numbers.{greatest_number}
+use Rattle.pres_ids.specs.Ids.{same_session}
+use Rattle.pres_ids.specs.Numbers.{greatest_number}
+use Rattle.pres_mail.specs.Queues.{is_write, is_on, action_of}
+use Rattle.pres_mail.specs.Watches.{Watches, watch_of, without_watch, tell, is_live, on_of}
+use Rattle.pres_mail.specs.Asks.{with_ask}
 use Rattle.pres_client.specs.declared.client.Phase.TheVariants as phase
-use Rattle.pres_client.specs.declared.notice.Notice.{Notice}
-use Rattle.pres_client.specs.declared.notice.Notice.TheVariants as notice
-use Rattle.pres_client.specs.declared.queued.Queued.{Queued}
-use Rattle.pres_client.specs.declared.queued.Queued.TheVariants as queued
-use Rattle.pres_client.specs.declared.watch.Watch.{Watch}
-use Rattle.pres_client.specs.Clients.{State, Watches, is_online, is_opening, is_on, is_write, base_of, outstanding, watch_of, without_watch, tell, is_live, with_ask, most_tries}
+use Rattle.pres_mail.specs.declared.notice.Notice.{Notice}
+use Rattle.pres_mail.specs.declared.notice.Notice.TheVariants as notice
+use Rattle.pres_mail.specs.declared.queued.Queued.{Queued}
+use Rattle.pres_mail.specs.declared.queued.Queued.TheVariants as queued
+use Rattle.pres_mail.specs.declared.watch.Watch.{Watch}
+use Rattle.pres_client.specs.Clients.{State, is_online, is_opening, base_of, outstanding, most_tries}
 use Rattle.pres_client.specs.Calls.{note, end_session}
 
 -- ---- which messages are taken
@@ -88,15 +91,6 @@ judge_reply c (queued.Off p ∷ rest) q n done out = unfit c
 judge_reply c [] q n done out = unfit c
 
 -- ---- answers to what is left for the end of the session, and taken back
-
--- the request of such a message
-abbrev pub action_of : Queued → Option ℕ
-action_of (queued.Write k o) = None
-action_of (queued.Try k attempt t) = None
-action_of (queued.Left k o) = Some k
-action_of (queued.Cancel k p) = Some k
-action_of (queued.On k p) = None
-action_of (queued.Off p) = None
 
 -- the request of the oldest message, where it is such a one
 abbrev pub first_action : List Queued → Option ℕ
@@ -213,10 +207,6 @@ after_fault c None reason = note c (notice.Faulted reason)
 after_fault c (Some s) reason = if same_session s c.session then own_fault c reason else c
 
 -- ---- the Welcome
-
--- listens to a path
-abbrev pub on_of : Path × Watch → Queued
-on_of e = queued.On e.1.request e.0
 
 -- the server's count of the client's writes is one that it can have, and there are numbers for what goes out
 abbrev pub is_fit : State → ℕ → Bool

@@ -9,16 +9,19 @@ use Rattle.pres_write.specs.declared.op.Op.TheVariants as op
 use Rattle.pres_write.specs.declared.unconditional.Unconditional.TheVariants as unconditional
 use Rattle.pres_write.specs.Transactions.{comparison}
 use Rattle.pres_write.specs.Updates.{update_of}
-use Rattle.pres_wire.specs.declared.id.SessionId.{SessionId}
+use Rattle.pres_ids.specs.declared.id.SessionId.{SessionId}
 use Rattle.pres_wire.specs.declared.up.Up.{Up}
 use Rattle.pres_wire.specs.declared.up.Up.TheVariants as up
-use Rattle.pres_wire.specs.Ids.{ClientId}
-use Rattle.pres_client.specs.declared.ask.Ask.{Ask}
+use Rattle.pres_ids.specs.Ids.{ClientId}
+use Rattle.pres_mail.specs.declared.ask.Ask.{Ask}
+use Rattle.pres_mail.specs.Queues.{messages}
+use Rattle.pres_mail.specs.Watches.{watch_of}
+use Rattle.pres_mail.specs.Asks.{ask_of}
 use Rattle.pres_client.specs.declared.call.Answer.{Answer}
 use Rattle.pres_client.specs.declared.call.Answer.TheVariants as answer
 use Rattle.pres_client.specs.declared.call.Call.{Call}
 use Rattle.pres_client.specs.declared.call.Call.TheVariants as call
-use Rattle.pres_client.specs.Clients.{State, start, is_online, base_of, watch_of, ask_of, outstanding}
+use Rattle.pres_client.specs.Clients.{State, start, is_online, base_of, outstanding}
 use Rattle.pres_client.specs.Calls.{refusal}
 use Rattle.pres_client.specs.Steps.{Step, calls, receives, hands_out_sends, hands_out_notices, after, run}
 

@@ -7,10 +7,12 @@ use Rattle.pres_tree.specs.Paths.{Path, same_path}
 use Rattle.pres_tree.specs.Rows.{Rows}
 use Rattle.pres_wire.specs.declared.down.Down.{Down}
 use Rattle.pres_wire.specs.declared.down.Down.TheVariants as down
-use Rattle.pres_wire.specs.declared.id.SessionId.{SessionId}
-use Rattle.pres_wire.specs.Ids.{ClientId}
+use Rattle.pres_ids.specs.declared.id.SessionId.{SessionId}
+use Rattle.pres_ids.specs.Ids.{ClientId}
 use Rattle.pres_wire.specs.Views.{seen_in}
-use Rattle.pres_client.specs.Clients.{State, start, is_online, watch_of, view}
+use Rattle.pres_mail.specs.Queues.{messages}
+use Rattle.pres_mail.specs.Watches.{watch_of}
+use Rattle.pres_client.specs.Clients.{State, start, is_online, view}
 use Rattle.pres_client.specs.Receiving.{is_next, fits, first_listen, is_last}
 use Rattle.pres_client.specs.Steps.{Step, AreMessages, calls, receives, hands_out_sends, hands_out_notices, after, run}
 

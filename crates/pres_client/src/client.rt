@@ -1,14 +1,11 @@
 //! The client: its calls.
 
 ghost use Rattle.std.specs.Prelude.{◌≡◌, ◌+◌, ◌||◌, [], length, true, false, IfOk, OnOk, OnErr, MatchOption, Some, None, if◌then◌else◌, option_copied};
-ghost use Rattle.pres_client.specs.Clients.{is_online, is_opening, is_write, start, session_of, base_of, no_request, no_write, no_message, view, most_sends, unanswered};
+ghost use Rattle.pres_mail.specs.Queues.{is_write};
+ghost use Rattle.pres_client.specs.Clients.{is_online, is_opening, start, session_of, base_of, no_request, no_write, no_message, view, most_sends, unanswered};
 ghost use Rattle.pres_client.specs.Calls.{enqueue, make_write, sent_now};
 
-use crate::ask::Asks;
-use crate::mail::Mail;
-use crate::notice::Notice;
-use crate::queued::{Queued, number};
-use crate::watch::Watches;
+use pres_mail::{Asks, Mail, Notice, Queued, Watches, number};
 use pres_tree::{Path, Tree};
 use pres_wire::{ClientId, Count, Number, SessionId, Up};
 use pres_write::MAX_SAFE_INTEGER;

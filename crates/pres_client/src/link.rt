@@ -8,7 +8,7 @@ ghost use Rattle.pres_client.specs.declared.fault.ClientFault.TheVariants.{Memor
 use crate::call::Call;
 use crate::client::{Client, Phase};
 use crate::fault::ClientFault;
-use crate::mail::sole;
+use pres_mail::sole;
 use pres_wire::{Code, Count, Number, SessionId, Up};
 use pres_write::MAX_SAFE_INTEGER;
 use std::alloc::AllocError;

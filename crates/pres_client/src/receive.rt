@@ -2,18 +2,16 @@
 
 ghost use Rattle.std.specs.Prelude.{◌≡◌, ◌<◌, ℕ, true, false, drop, fold, IfOk, IfErr, OnOk, OnErr, MatchOption, Some, None};
 ghost use Rattle.std.specs.List.{filter_map};
-ghost use Rattle.pres_wire.specs.Numbers.{greatest_number};
-ghost use Rattle.pres_client.specs.Clients.{is_opening, watch_of};
+ghost use Rattle.pres_ids.specs.Numbers.{greatest_number};
+ghost use Rattle.pres_mail.specs.Watches.{watch_of};
+ghost use Rattle.pres_client.specs.Clients.{is_opening};
 ghost use Rattle.pres_client.specs.Calls.{note, end_session, IsFew};
 ghost use Rattle.pres_client.specs.Receiving.{is_next, bring, unfit, fits, fits_write, head_is_write, first_action, first_listen, answered, write_answered, ask_again, armed, judge_reply, judge_action, judge_denied, judge_snap, judge_off_done, told, tell_live, news_of, after_push, own_fault, after_fault, is_fit, after_welcome, after_receive};
 ghost use Rattle.pres_client.specs.declared.fault.ClientFault.TheVariants.{Memory};
 
-use crate::ask::Ask;
 use crate::client::{Client, Phase};
 use crate::fault::ClientFault;
-use crate::notice::{Notice, alone};
-use crate::queued::Queued;
-use crate::watch::Watches;
+use pres_mail::{Ask, Notice, Queued, Watches, alone};
 use pres_tree::{Path, Tree};
 use pres_wire::{Code, Count, Down, Limit, Number, PathValue, SessionId, Values};
 use pres_write::{Kept, MAX_SAFE_INTEGER};

@@ -8,8 +8,8 @@ use Rattle.std.proofs.lemmas.Bool.{and_parts, and_from, eqb-true, eq-eqb, false_
 use Rattle.pres_tree.specs.Paths.{path_cmp, same_path}
 use Rattle.pres_tree.specs.Falls.{path_total, path_same as path_apart}
 use Rattle.pres_tree.proofs.PathOrder.{path_decides}
-use Rattle.pres_wire.specs.Ids.{same_client, same_session, client_cmp}
-use Rattle.pres_wire.specs.declared.id.SessionId.{SessionId}
+use Rattle.pres_ids.specs.Ids.{same_client, same_session, client_cmp}
+use Rattle.pres_ids.specs.declared.id.SessionId.{SessionId}
 use Rattle.pres_fan.specs.declared.listeners.Listener.{Listener}
 use Rattle.pres_fan.specs.Listeners.{session_cmp, listener_cmp, same_listener}
 

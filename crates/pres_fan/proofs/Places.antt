@@ -10,8 +10,8 @@ use Rattle.std.proofs.lemmas.List.{length-map}
 use Rattle.std.proofs.lemmas.List.Kept.{IsStrictlySortedBy-filter}
 use Rattle.std.proofs.lemmas.Map.Keys.{sorted_head, sorted_tail}
 use Rattle.pres_tree.specs.Paths.{Path, path_cmp, same_path}
-use Rattle.pres_wire.specs.Ids.{same_session}
-use Rattle.pres_wire.specs.declared.id.SessionId.{SessionId}
+use Rattle.pres_ids.specs.Ids.{same_session}
+use Rattle.pres_ids.specs.declared.id.SessionId.{SessionId}
 use Rattle.pres_fan.specs.declared.listeners.Listener.{Listener}
 use Rattle.pres_fan.specs.Listeners.{session_cmp, listener_cmp, same_listener, listener_of, paths_of, IsListeners, add_path, with_listener, without, without_session}
 use Rattle.pres_fan.proofs.Orders.{session_total, session_apart, session_same, session_itself, listener_total, listener_apart, listener_same, listener_itself}

@@ -11,8 +11,8 @@ use Rattle.std.proofs.lemmas.List.Kept.{IsStrictlySortedBy-filter}
 use Rattle.std.proofs.lemmas.Map.Keys.{sorted_tail}
 use Rattle.pres_tree.specs.Paths.{Path, path_cmp}
 use Rattle.pres_write.specs.Basics.{BasicWrite}
-use Rattle.pres_wire.specs.Ids.{same_session}
-use Rattle.pres_wire.specs.declared.id.SessionId.{SessionId}
+use Rattle.pres_ids.specs.Ids.{same_session}
+use Rattle.pres_ids.specs.declared.id.SessionId.{SessionId}
 use Rattle.pres_fan.specs.declared.listeners.Listener.{Listener}
 use Rattle.pres_fan.specs.Listeners.{session_cmp, listener_cmp, paths_of, IsListeners, without_session, is_touched, touched_of, sessions, by_session, touched}
 use Rattle.pres_fan.specs.Laws.{some_paths}

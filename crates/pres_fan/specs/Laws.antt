@@ -4,8 +4,8 @@ use Rattle.std.specs.List.Sorted.{IsStrictlySortedBy}
 use Rattle.std.specs.FinMap.Entries.{find, is_sorted}
 use Rattle.pres_tree.specs.Paths.{Path, path_cmp, same_path}
 use Rattle.pres_write.specs.Basics.{BasicWrite}
-use Rattle.pres_wire.specs.Ids.{same_session}
-use Rattle.pres_wire.specs.declared.id.SessionId.{SessionId}
+use Rattle.pres_ids.specs.Ids.{same_session}
+use Rattle.pres_ids.specs.declared.id.SessionId.{SessionId}
 use Rattle.pres_fan.specs.declared.listeners.Listener.{Listener}
 use Rattle.pres_fan.specs.Listeners.{session_cmp, paths_of, IsListeners, add_path, with_listener, without, without_session, touched_of, touched}
 

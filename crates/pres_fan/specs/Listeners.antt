@@ -7,8 +7,8 @@ use Rattle.std.specs.declared.cmp.Ordering.{Ordering}
 use Rattle.std.specs.BTreeSet.{insert_key}
 use Rattle.pres_tree.specs.Paths.{Path, path_cmp, same_path, meet}
 use Rattle.pres_write.specs.Basics.{BasicWrite}
-use Rattle.pres_wire.specs.Ids.{client_cmp, same_session}
-use Rattle.pres_wire.specs.declared.id.SessionId.{SessionId}
+use Rattle.pres_ids.specs.Ids.{client_cmp, same_session}
+use Rattle.pres_ids.specs.declared.id.SessionId.{SessionId}
 use Rattle.pres_fan.specs.declared.listeners.Listener.{Listener}
 
 -- ---- orders

@@ -2,7 +2,7 @@
 
 ghost use Rattle.std.specs.Prelude.{List};
 ghost use Rattle.pres_tree.specs.Paths.{Path};
-ghost use Rattle.pres_wire.specs.declared.id.SessionId.{SessionId};
+ghost use Rattle.pres_ids.specs.declared.id.SessionId.{SessionId};
 ghost use Rattle.pres_write.specs.Basics.{BasicWrite};
 ghost use Rattle.pres_fan.specs.Laws.{OnSteps, OffSteps, DropSteps, PathsRise, TouchedRises, TouchedTells};
 ghost use Rattle.pres_fan.specs.declared.listeners.Listener.{Listener};

@@ -10,7 +10,7 @@ ghost use Rattle.pres_fan.specs.declared.listeners.Listener.{Listener};
 
 use crate::fault::FanFault;
 use pres_tree::Path;
-use pres_wire::SessionId;
+use pres_ids::SessionId;
 use pres_write::{Basic, Items};
 use std::alloc::{AllocError, Global};
 use std::collections::BTreeSet;
@@ -37,7 +37,7 @@ pub struct Touched {
 impl Model for Touched {
     ghost use Rattle.std.specs.Prelude.{List};
     ghost use Rattle.pres_tree.specs.Paths.{Path};
-    ghost use Rattle.pres_wire.specs.declared.id.SessionId.{SessionId};
+    ghost use Rattle.pres_ids.specs.declared.id.SessionId.{SessionId};
 
     ghost Value = { SessionId × List Path };
 

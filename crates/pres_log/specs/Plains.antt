@@ -2,7 +2,7 @@
 use Rattle.std.specs.Prelude.{◌+◌, ℕ, [], max}
 use Rattle.pres_tree.specs.declared.scalar.Scalar.{Scalar}
 use Rattle.pres_tree.specs.Rows.{Rows}
-use Rattle.pres_wire.specs.Numbers.{greatest_number}
+use Rattle.pres_ids.specs.Numbers.{greatest_number}
 use Rattle.pres_write.specs.declared.op.Op.{Op}
 use Rattle.pres_write.specs.declared.outcome.Outcome.{Outcome}
 use Rattle.pres_write.specs.declared.outcome.Kept.{Kept}

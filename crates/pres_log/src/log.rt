@@ -99,4 +99,12 @@ impl Log {
     {
         &self.batches
     }
+
+    /// Its batches, which are moved.
+    pub fn into_batches(self) -> Vec<Batch>
+        ensures batches { result.items ≡ self }
+        ensures numbered { IsNumbered self }
+    {
+        self.batches
+    }
 }

@@ -10,7 +10,7 @@ use crate::fault::PlanFault;
 use crate::row::{Action, DueRow, PlanRow};
 use pres_session::Pays;
 use pres_tree::{Path, Tree};
-use pres_wire::Number;
+use pres_ids::Number;
 use pres_write::{Basic, Items, Moment, Placement};
 use std::alloc::{AllocError, Global};
 use std::marker::Model;

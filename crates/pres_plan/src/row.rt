@@ -6,7 +6,7 @@ ghost use Rattle.pres_write.specs.Basics.{basic};
 ghost use Rattle.pres_plan.specs.Plans.{path_of, is_put, due_write, due_row};
 
 use pres_tree::{Path, Tree};
-use pres_wire::Number;
+use pres_ids::Number;
 use pres_write::{Basic, Moment, Placement, settle};
 use std::alloc::{AllocError, Global};
 

@@ -7,8 +7,8 @@ use Rattle.std.specs.BTreeMap.{is_at}
 use Rattle.std.specs.Cmp.{IsTotalOrder, eq_by_cmp_equiv}
 use Rattle.std.specs.Cmp.Lexicographic.{nat_list_cmp_total, texts_ties, bytes_decides}
 use Rattle.std.specs.FinMap.Entries.{find, put, find-put}
-use Rattle.pres_wire.specs.Ids.{ClientId, client_cmp, same_client}
-use Rattle.pres_wire.specs.Numbers.{IsNumber, greatest_number}
+use Rattle.pres_ids.specs.Ids.{ClientId, client_cmp, same_client}
+use Rattle.pres_ids.specs.Numbers.{IsNumber, greatest_number}
 use Rattle.pres_retry.specs.declared.table.Row.{Row}
 use Rattle.pres_retry.specs.Tables.{Table, AreNumbered, recorded, rows_of, table_of, with_row}
 use Rattle.pres_retry.proofs.Puts.{find_shown}

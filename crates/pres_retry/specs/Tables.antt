@@ -2,8 +2,8 @@
 use Rattle.std.specs.Prelude.{ℕ, List, [], ◌∷◌, ◌++◌, length, map, unwrap_or, IfSome, Vec}
 use Rattle.std.specs.declared.alloc.Global.{Global}
 use Rattle.std.specs.FinMap.Entries.{find, put}
-use Rattle.pres_wire.specs.Ids.{ClientId, client_cmp}
-use Rattle.pres_wire.specs.Numbers.{IsNumber}
+use Rattle.pres_ids.specs.Ids.{ClientId, client_cmp}
+use Rattle.pres_ids.specs.Numbers.{IsNumber}
 use Rattle.pres_write.specs.declared.outcome.Kept.{Kept}
 use Rattle.pres_retry.specs.declared.table.Row.{Row}
 

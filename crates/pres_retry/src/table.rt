@@ -1,14 +1,14 @@
 //! The table of kept answers.
 
 ghost use Rattle.std.specs.Prelude.{◌≡◌, ◌≢◌, ◌+◌, ◌++◌, ◌∷◌, ◌≤◌, [], length, IfErr, IfOk, OnOk};
-ghost use Rattle.pres_wire.specs.Ids.{ClientId};
-ghost use Rattle.pres_wire.specs.Numbers.{greatest_number};
+ghost use Rattle.pres_ids.specs.Ids.{ClientId};
+ghost use Rattle.pres_ids.specs.Numbers.{greatest_number};
 ghost use Rattle.pres_retry.specs.Tables.{row, recorded, rows_of, table_of, with_row};
 ghost use Rattle.pres_retry.specs.Verdicts.{verdict, told};
 ghost use Rattle.pres_retry.specs.declared.fault.RetryFault.TheVariants.{Memory};
 
 use crate::fault::RetryFault;
-use pres_wire::{ClientId, Count, Number};
+use pres_ids::{ClientId, Count, Number};
 use pres_write::Kept;
 use std::alloc::{AllocError, Global};
 use std::collections::BTreeMap;

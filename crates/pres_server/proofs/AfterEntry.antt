@@ -11,12 +11,12 @@ use Rattle.std.proofs.lemmas.Bool.{and_parts}
 use Rattle.std.proofs.lemmas.List.Folds.{list_all-append}
 use Rattle.std.proofs.lemmas.List.Elements.{filter_map-append}
 use Rattle.pres_write.specs.declared.basic.Basic.{Basic}
-use Rattle.pres_wire.specs.declared.id.SessionId.{SessionId}
-use Rattle.pres_wire.specs.declared.id.Why.{Why}
+use Rattle.pres_ids.specs.declared.id.SessionId.{SessionId}
+use Rattle.pres_ids.specs.declared.id.Why.{Why}
 use Rattle.pres_log.specs.declared.entry.Entry.{Entry}
 use Rattle.pres_log.specs.declared.entry.Entry.TheVariants as entry
 use Rattle.pres_tree.specs.Paths.{sorted_by}
-use Rattle.pres_wire.specs.Ids.{ClientId, client_cmp, same_client, is_earlier, stamp_of}
+use Rattle.pres_ids.specs.Ids.{ClientId, client_cmp, same_client, is_earlier, stamp_of}
 use Rattle.pres_server.specs.Sessions.{session_of, count, opened_by, opened, opens, ends, is_open, sessions_of, open_entries, open_sessions_of, open_sessions, is_newest, last_of}
 use Rattle.pres_server.specs.Invariants.{MayComeUncounted}
 use Rattle.pres_server.specs.SessionPlans.{plan}

@@ -7,11 +7,11 @@ use Rattle.std.specs.BTreeMap.{get}
 use Rattle.std.proofs.lemmas.Bool.{and_parts}
 use Rattle.pres_tree.specs.Paths.{Path, sorted_by}
 use Rattle.pres_write.specs.Basics.{applied}
-use Rattle.pres_wire.specs.declared.id.Stamp.{Stamp}
-use Rattle.pres_wire.specs.declared.id.SessionId.{SessionId}
+use Rattle.pres_ids.specs.declared.id.Stamp.{Stamp}
+use Rattle.pres_ids.specs.declared.id.SessionId.{SessionId}
 use Rattle.pres_wire.specs.declared.down.Down.TheVariants.{Push}
-use Rattle.pres_wire.specs.Ids.{ClientId, client_cmp, same_session}
-use Rattle.pres_wire.specs.Numbers.{greatest_number}
+use Rattle.pres_ids.specs.Ids.{ClientId, client_cmp, same_session}
+use Rattle.pres_ids.specs.Numbers.{greatest_number}
 use Rattle.pres_fan.specs.Listeners.{IsListeners, session_cmp, is_touched}
 use Rattle.pres_fan.specs.Listeners as fan
 use Rattle.pres_fan.specs.Laws.{some_paths}

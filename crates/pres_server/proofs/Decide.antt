@@ -10,17 +10,17 @@ use Rattle.pres_fan.specs.Listeners.{most_paths, add_path}
 use Rattle.pres_tree.specs.Rows.{Rows}
 use Rattle.pres_write.specs.declared.op.Op.{Op}
 use Rattle.pres_write.specs.Outcomes.{resolved}
-use Rattle.pres_wire.specs.declared.id.Stamp.{Stamp}
-use Rattle.pres_wire.specs.declared.id.SessionId.{SessionId}
-use Rattle.pres_wire.specs.declared.id.Why.{Why}
-use Rattle.pres_wire.specs.declared.id.Why.TheVariants as why
+use Rattle.pres_ids.specs.declared.id.Stamp.{Stamp}
+use Rattle.pres_ids.specs.declared.id.SessionId.{SessionId}
+use Rattle.pres_ids.specs.declared.id.Why.{Why}
+use Rattle.pres_ids.specs.declared.id.Why.TheVariants as why
 use Rattle.pres_wire.specs.declared.up.Up.{Up}
 use Rattle.pres_wire.specs.declared.up.Up.TheVariants as up
 use Rattle.pres_wire.specs.declared.down.Limit.TheVariants as limit
 use Rattle.pres_wire.specs.Messages.{session_in}
 use Rattle.pres_write.specs.Unconditionals.{puts_of}
 use Rattle.pres_plan.specs.Plans.{most_rows, due}
-use Rattle.pres_wire.specs.Ids.{ClientId, same_session, is_earlier, stamp_of}
+use Rattle.pres_ids.specs.Ids.{ClientId, same_session, is_earlier, stamp_of}
 use Rattle.pres_retry.specs.declared.table.Row.{Row}
 use Rattle.pres_retry.specs.Verdicts.{fresh, gap, verdict, told_row}
 use Rattle.pres_log.specs.declared.entry.Entry.{Entry}

@@ -4,8 +4,8 @@ use Rattle.std.specs.List.{list_any}
 use Rattle.std.specs.List.Sorted.{IsStrictlySortedBy}
 use Rattle.std.proofs.lemmas.List.Kept.{IsStrictlySortedBy-filter}
 use Rattle.pres_tree.specs.Paths.{Path, path_cmp, same_path}
-use Rattle.pres_wire.specs.declared.id.SessionId.{SessionId}
-use Rattle.pres_wire.specs.Ids.{same_session}
+use Rattle.pres_ids.specs.declared.id.SessionId.{SessionId}
+use Rattle.pres_ids.specs.Ids.{same_session}
 use Rattle.pres_fan.specs.Listeners.{add_path, is_touched}
 use Rattle.pres_tree.specs.Falls.{path_total}
 use Rattle.pres_log.specs.declared.entry.Entry.{Entry}

@@ -5,9 +5,9 @@ use Rattle.std.specs.Option.{option_map}
 use Rattle.std.proofs.lemmas.Bool.{and_parts}
 use Rattle.std.proofs.lemmas.Bool.Decides.{nat_tests}
 use Rattle.std.proofs.lemmas.List.Elements.{filter-append}
-use Rattle.pres_wire.specs.declared.id.Stamp.{Stamp}
-use Rattle.pres_wire.specs.declared.id.SessionId.{SessionId}
-use Rattle.pres_wire.specs.declared.id.Why.{Why}
+use Rattle.pres_ids.specs.declared.id.Stamp.{Stamp}
+use Rattle.pres_ids.specs.declared.id.SessionId.{SessionId}
+use Rattle.pres_ids.specs.declared.id.Why.{Why}
 use Rattle.pres_write.specs.declared.basic.Basic.{Basic}
 use Rattle.pres_write.specs.declared.op.Op.{Op}
 use Rattle.pres_write.specs.declared.outcome.Outcome.{Outcome}
@@ -15,7 +15,7 @@ use Rattle.pres_write.specs.Outcomes.{kept_of}
 use Rattle.pres_retry.specs.declared.table.Row.{Row}
 use Rattle.pres_log.specs.declared.entry.Entry.{Entry}
 use Rattle.pres_log.specs.declared.entry.Entry.TheVariants as entry
-use Rattle.pres_wire.specs.Ids.{ClientId, same_client, same_session, is_earlier, stamp_of}
+use Rattle.pres_ids.specs.Ids.{ClientId, same_client, same_session, is_earlier, stamp_of}
 use Rattle.pres_server.specs.Sessions.{session_of, opened, opens, ends, is_open, since_open, sessions_of, open_sessions_of, is_newest}
 use Rattle.pres_server.specs.Outcomes.{row_in, rows_for, ops}
 use Rattle.pres_server.specs.Streams.{own_answer, repeated_reply}

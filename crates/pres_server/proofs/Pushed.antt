@@ -10,7 +10,7 @@ use Rattle.pres_tree.specs.Paths.{Path, path_cmp}
 use Rattle.pres_tree.specs.Rows.{Rows}
 use Rattle.pres_write.specs.Basics.{BasicWrite}
 use Rattle.pres_wire.specs.declared.down.Down.{Down}
-use Rattle.pres_wire.specs.Ids.{ClientId, client_cmp, same_client}
+use Rattle.pres_ids.specs.Ids.{ClientId, client_cmp, same_client}
 use Rattle.pres_wire.specs.Values.{Rising}
 use Rattle.pres_fan.specs.declared.listeners.Listener.{Listener}
 use Rattle.pres_fan.specs.Listeners.{is_touched, by_session, touched}

@@ -6,9 +6,9 @@ use Rattle.std.specs.FinMap.Entries.{find, is_sorted, below_all}
 use Rattle.pres_tree.specs.declared.scalar.Scalar.{Scalar}
 use Rattle.pres_tree.specs.Paths.{Path}
 use Rattle.pres_tree.specs.Rows.{Rows}
-use Rattle.pres_wire.specs.declared.id.SessionId.{SessionId}
+use Rattle.pres_ids.specs.declared.id.SessionId.{SessionId}
 use Rattle.pres_wire.specs.declared.down.Down.{Down}
-use Rattle.pres_wire.specs.Ids.{ClientId, client_cmp, same_client, same_session}
+use Rattle.pres_ids.specs.Ids.{ClientId, client_cmp, same_client, same_session}
 use Rattle.pres_fan.specs.Listeners.{session_cmp}
 use Rattle.pres_fan.specs.Laws.{some_paths}
 use Rattle.pres_fan.proofs.Orders.{same_by_cmp as same_by_session}

@@ -2,8 +2,8 @@
 use Rattle.std.proofs.Common.{refl, sym, ◌∙◌, ap, ◌≡◌, List, [], ◌∷◌, Bool, true, false, cond, ◌||◌, Option, Some, None, is_some}
 use Rattle.std.specs.List.{list_any, filter}
 use Rattle.std.specs.Option.{option_map}
-use Rattle.pres_wire.specs.declared.id.SessionId.{SessionId}
-use Rattle.pres_wire.specs.Ids.{ClientId, stamp_of}
+use Rattle.pres_ids.specs.declared.id.SessionId.{SessionId}
+use Rattle.pres_ids.specs.Ids.{ClientId, stamp_of}
 use Rattle.pres_log.specs.declared.entry.Entry.{Entry}
 use Rattle.pres_server.specs.declared.index.Index.{Index}
 use Rattle.pres_server.specs.Sessions.{is_open, count, has_open, sessions_of}

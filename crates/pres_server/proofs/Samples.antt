@@ -9,8 +9,8 @@ use Rattle.pres_write.specs.declared.outcome.Outcome.{Outcome}
 use Rattle.pres_write.specs.declared.outcome.Outcome.TheVariants.{Wrote}
 use Rattle.pres_write.specs.declared.outcome.Kept.TheVariants as kept
 use Rattle.pres_write.specs.Basics.{basic}
-use Rattle.pres_wire.specs.declared.id.SessionId.{SessionId}
-use Rattle.pres_wire.specs.declared.id.Why.TheVariants as why
+use Rattle.pres_ids.specs.declared.id.SessionId.{SessionId}
+use Rattle.pres_ids.specs.declared.id.Why.TheVariants as why
 use Rattle.pres_wire.specs.declared.up.Up.TheVariants as up
 use Rattle.pres_wire.specs.declared.down.Down.TheVariants.{Welcome, Reply, Gone}
 use Rattle.pres_log.specs.declared.entry.Entry.{Entry}

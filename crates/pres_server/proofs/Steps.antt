@@ -3,10 +3,10 @@ use Rattle.std.proofs.Common.{refl, sym, ◌∙◌, ap, ◌≡◌, ℕ, ◌+◌,
 use Rattle.std.specs.List.{list_any, after_first, filter, filter_map, enumerate_from}
 use Rattle.std.proofs.lemmas.Bool.{and_parts}
 use Rattle.std.proofs.lemmas.List.Elements.{filter_map-append, filter-append}
-use Rattle.pres_wire.specs.declared.id.SessionId.{SessionId}
+use Rattle.pres_ids.specs.declared.id.SessionId.{SessionId}
 use Rattle.pres_log.specs.declared.entry.Entry.{Entry}
 use Rattle.pres_log.specs.declared.entry.Entry.TheVariants as entry
-use Rattle.pres_wire.specs.Ids.{ClientId, same_client, same_session}
+use Rattle.pres_ids.specs.Ids.{ClientId, same_client, same_session}
 use Rattle.pres_server.specs.Sessions.{session_of, opened_by, opened, opens, ends, is_open, since_open, own, count, sessions_of, open_sessions_of}
 use Rattle.pres_server.specs.Outcomes.{row_in, rows_for}
 use Rattle.pres_server.proofs.Since.{any-append, after-append, client_itself, session_same, session_itself}

@@ -13,11 +13,11 @@ use Rattle.pres_write.specs.declared.basic.Basic.{Basic}
 use Rattle.pres_plan.specs.declared.row.PlanRow.{PlanRow}
 use Rattle.pres_plan.specs.Plans.{most_rows, due}
 use Rattle.pres_write.specs.Outcomes.{kept_of}
-use Rattle.pres_wire.specs.declared.id.Stamp.{Stamp}
-use Rattle.pres_wire.specs.declared.id.SessionId.{SessionId}
-use Rattle.pres_wire.specs.declared.id.Why.{Why}
-use Rattle.pres_wire.specs.Ids.{ClientId, client_cmp, same_client, same_session, stamp_of}
-use Rattle.pres_wire.specs.Numbers.{greatest_number}
+use Rattle.pres_ids.specs.declared.id.Stamp.{Stamp}
+use Rattle.pres_ids.specs.declared.id.SessionId.{SessionId}
+use Rattle.pres_ids.specs.declared.id.Why.{Why}
+use Rattle.pres_ids.specs.Ids.{ClientId, client_cmp, same_client, same_session, stamp_of}
+use Rattle.pres_ids.specs.Numbers.{greatest_number}
 use Rattle.pres_session.specs.declared.gone.Gone.{Gone}
 use Rattle.pres_retry.specs.declared.table.Row.{Row}
 use Rattle.pres_retry.specs.Tables.{Table, row, rows_of}

@@ -3,7 +3,7 @@ use Rattle.std.proofs.Common.{sym, ◌∙◌, ap, subst, ◌≡◌, ℕ, ◌^◌
 use Rattle.std.specs.Prelude.{IsSome}
 use Rattle.std.specs.BTreeMap.{IsOrdered}
 use Rattle.pres_write.specs.Moments as moments
-use Rattle.pres_wire.specs.Ids.{ClientId, client_cmp}
+use Rattle.pres_ids.specs.Ids.{ClientId, client_cmp}
 use Rattle.pres_log.specs.declared.entry.Batch.{Batch}
 use Rattle.pres_log.specs.declared.entry.Entry.{Entry}
 use Rattle.pres_log.specs.Logs.{Log, entries, number}

@@ -10,10 +10,10 @@ use Rattle.pres_tree.specs.Paths.{Path, path_cmp, meet, same_path}
 use Rattle.pres_tree.specs.Rows.{Rows, value_at}
 use Rattle.pres_tree.specs.Writes.{tree_after}
 use Rattle.pres_write.specs.Basics.{write_of}
-use Rattle.pres_wire.specs.declared.id.SessionId.{SessionId}
+use Rattle.pres_ids.specs.declared.id.SessionId.{SessionId}
 use Rattle.pres_wire.specs.declared.down.Down.{Down}
 use Rattle.pres_wire.specs.declared.down.Down.TheVariants as down
-use Rattle.pres_wire.specs.Ids.{same_session}
+use Rattle.pres_ids.specs.Ids.{same_session}
 use Rattle.pres_wire.specs.Messages.{number_in}
 use Rattle.pres_retry.specs.declared.table.Row.{Row}
 use Rattle.pres_plan.proofs.Kept.{value_kept}

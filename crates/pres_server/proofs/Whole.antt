@@ -6,8 +6,8 @@ use Rattle.std.specs.Cmp.Lexicographic.{nat_list_cmp_total}
 use Rattle.std.proofs.lemmas.List.{length-map}
 use Rattle.pres_tree.specs.Paths.{Path, sorted_by}
 use Rattle.pres_write.specs.Moments as moments
-use Rattle.pres_wire.specs.declared.id.SessionId.{SessionId}
-use Rattle.pres_wire.specs.Ids.{ClientId, client_cmp, same_session}
+use Rattle.pres_ids.specs.declared.id.SessionId.{SessionId}
+use Rattle.pres_ids.specs.Ids.{ClientId, client_cmp, same_session}
 use Rattle.pres_retry.specs.declared.table.Row.{Row}
 use Rattle.pres_log.specs.declared.entry.Batch.{Batch}
 use Rattle.pres_log.specs.declared.entry.Entry.{Entry}
@@ -24,7 +24,7 @@ use Rattle.pres_server.specs.LegalLog.{MayCome, IsLegal, IsLegalAfter, MayFollow
 use Rattle.pres_server.specs.Turns.{Decision, makes, quiet, refused, moment_of, wanted, turn, batch_of, log_after}
 use Rattle.pres_server.specs.SessionPlans.{due_at}
 use Rattle.pres_server.specs.Laws.{TurnIsLegal, LegalIsSound, EndsAreDue}
-use Rattle.pres_wire.specs.declared.id.Why.{Why}
+use Rattle.pres_ids.specs.declared.id.Why.{Why}
 use Rattle.pres_write.specs.declared.basic.Basic.{Basic}
 use Rattle.pres_server.specs.Invariants.{MayComeInTurn}
 use Rattle.pres_server.specs.Parts.{Sound}

@@ -2,8 +2,8 @@
 -- accepted or passed over, its Hello among them. Counting by the moments of turns is ours.
 use Rattle.std.specs.Prelude.{ℕ, ◌+◌, nat_lt, if◌then◌else◌, max, not, List, [], ◌∷◌, Option, Some, None}
 use Rattle.std.specs.FinMap.Entries.{find, put, where_key}
-use Rattle.pres_wire.specs.declared.id.SessionId.{SessionId}
-use Rattle.pres_wire.specs.Ids.{ClientId, client_cmp, same_client}
+use Rattle.pres_ids.specs.declared.id.SessionId.{SessionId}
+use Rattle.pres_ids.specs.Ids.{ClientId, client_cmp, same_client}
 use Rattle.pres_wire.specs.Messages.{session_in}
 use Rattle.pres_log.specs.declared.entry.Entry.{Entry}
 use Rattle.pres_log.specs.declared.entry.Entry.TheVariants as entry

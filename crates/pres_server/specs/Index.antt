@@ -6,9 +6,9 @@ use Rattle.pres_tree.specs.Paths.{Path}
 use Rattle.pres_write.specs.declared.op.Op.{Op}
 use Rattle.pres_write.specs.Basics.{BasicWrite, applied}
 use Rattle.pres_write.specs.Outcomes.{kept_of}
-use Rattle.pres_wire.specs.declared.id.SessionId.{SessionId}
+use Rattle.pres_ids.specs.declared.id.SessionId.{SessionId}
 use Rattle.pres_wire.specs.declared.down.Down.{Down}
-use Rattle.pres_wire.specs.Ids.{ClientId, client_cmp, same_client}
+use Rattle.pres_ids.specs.Ids.{ClientId, client_cmp, same_client}
 use Rattle.pres_session.specs.declared.gone.Gone.{Gone}
 use Rattle.pres_retry.specs.declared.table.Row.{Row}
 use Rattle.pres_retry.specs.Tables.{Table, row, rows_of, recorded}

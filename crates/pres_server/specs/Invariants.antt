@@ -6,7 +6,7 @@ use Rattle.pres_log.specs.Logs.{Log, entries, last_moment}
 use Rattle.pres_server.specs.Sessions.{is_newest, open_sessions_of}
 use Rattle.pres_server.specs.LegalLog.{MayCome, IsLegal, MayFollow}
 use Rattle.std.specs.BTreeMap.{IsOrdered}
-use Rattle.pres_wire.specs.Ids.{client_cmp}
+use Rattle.pres_ids.specs.Ids.{client_cmp}
 use Rattle.pres_server.specs.declared.index.Index.{Index}
 use Rattle.pres_server.specs.Parts.{Sound}
 use Rattle.pres_server.specs.Index.{Indexed}

@@ -2,9 +2,9 @@
 use Rattle.std.specs.Prelude.{ℕ, ◌+◌, ◌-◌, ◌^◌, ◌≤◌, ◌≡◌, ◌≢◌, IsTrue, List, [], ◌∷◌, ◌++◌, length, Option, Some, None}
 use Rattle.pres_write.specs.Moments as moments
 use Rattle.pres_write.specs.Outcomes.{resolved}
-use Rattle.pres_wire.specs.declared.id.SessionId.{SessionId}
-use Rattle.pres_wire.specs.declared.id.Why.{Why}
-use Rattle.pres_wire.specs.declared.id.Why.TheVariants.{Bye, Superseded}
+use Rattle.pres_ids.specs.declared.id.SessionId.{SessionId}
+use Rattle.pres_ids.specs.declared.id.Why.{Why}
+use Rattle.pres_ids.specs.declared.id.Why.TheVariants.{Bye, Superseded}
 use Rattle.pres_plan.specs.Plans.{most_rows}
 use Rattle.pres_fan.specs.Listeners.{most_paths}
 use Rattle.pres_log.specs.declared.entry.Batch.{Batch}

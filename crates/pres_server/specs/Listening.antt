@@ -2,7 +2,7 @@
 -- path, as a value listener of Firebase Realtime Database does.
 use Rattle.std.specs.Prelude.{not, List, [], fold, filter}
 use Rattle.pres_tree.specs.Paths.{Path, same_path}
-use Rattle.pres_wire.specs.declared.id.SessionId.{SessionId}
+use Rattle.pres_ids.specs.declared.id.SessionId.{SessionId}
 use Rattle.pres_fan.specs.Listeners.{add_path, is_touched}
 use Rattle.pres_log.specs.declared.entry.Entry.{Entry}
 use Rattle.pres_log.specs.declared.entry.Entry.TheVariants as entry

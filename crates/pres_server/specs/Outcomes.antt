@@ -2,7 +2,7 @@
 use Rattle.std.specs.Prelude.{ℕ, List, length, Option, Some, None, if◌then◌else◌}
 use Rattle.std.specs.List.{filter_map}
 use Rattle.pres_write.specs.Outcomes.{kept_of}
-use Rattle.pres_wire.specs.Ids.{ClientId, same_client}
+use Rattle.pres_ids.specs.Ids.{ClientId, same_client}
 use Rattle.pres_retry.specs.declared.table.Row.{Row}
 use Rattle.pres_log.specs.declared.entry.Entry.{Entry}
 use Rattle.pres_log.specs.declared.entry.Entry.TheVariants as entry

@@ -5,10 +5,10 @@ use Rattle.std.specs.BTreeMap.{get}
 use Rattle.pres_tree.specs.declared.scalar.Scalar.{Scalar}
 use Rattle.pres_tree.specs.Rows.{Rows}
 use Rattle.pres_write.specs.declared.basic.Basic.{Basic}
-use Rattle.pres_wire.specs.declared.id.SessionId.{SessionId}
-use Rattle.pres_wire.specs.declared.id.Stamp.{Stamp}
-use Rattle.pres_wire.specs.Ids.{client_cmp, stamp_of}
-use Rattle.pres_wire.specs.Numbers.{greatest_number}
+use Rattle.pres_ids.specs.declared.id.SessionId.{SessionId}
+use Rattle.pres_ids.specs.declared.id.Stamp.{Stamp}
+use Rattle.pres_ids.specs.Ids.{client_cmp, stamp_of}
+use Rattle.pres_ids.specs.Numbers.{greatest_number}
 use Rattle.pres_plan.specs.declared.plan.Plan.{Plan}
 use Rattle.pres_plan.specs.declared.row.PlanRow.{PlanRow}
 use Rattle.pres_plan.specs.Plans.{most_rows, due}

@@ -5,10 +5,10 @@ use Rattle.std.specs.List.Sorted.{IsStrictlySortedBy}
 use Rattle.pres_tree.specs.declared.scalar.Scalar.{Scalar}
 use Rattle.pres_tree.specs.Paths.{Path, path_cmp}
 use Rattle.pres_tree.specs.Rows.{Rows}
-use Rattle.pres_wire.specs.declared.id.SessionId.{SessionId}
+use Rattle.pres_ids.specs.declared.id.SessionId.{SessionId}
 use Rattle.pres_wire.specs.declared.down.Down.{Down}
 use Rattle.pres_wire.specs.declared.down.Down.TheVariants.{Push}
-use Rattle.pres_wire.specs.Ids.{ClientId, client_cmp, same_client}
+use Rattle.pres_ids.specs.Ids.{ClientId, client_cmp, same_client}
 use Rattle.pres_server.specs.declared.places.Places.{Places}
 use Rattle.pres_server.specs.Streams.{shown}
 use Rattle.pres_server.specs.Parts.{message_next}

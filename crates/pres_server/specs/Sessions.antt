@@ -4,9 +4,9 @@ use Rattle.std.specs.Prelude.{ℕ, Bool, false, ◌&&◌, not, List, map, length
 use Rattle.std.specs.List.{list_any, list_all, filter, filter_map, after_first, last_or}
 use Rattle.std.specs.Option.{option_map}
 use Rattle.pres_tree.specs.Paths.{sorted_by}
-use Rattle.pres_wire.specs.declared.id.Stamp.{Stamp}
-use Rattle.pres_wire.specs.declared.id.SessionId.{SessionId}
-use Rattle.pres_wire.specs.Ids.{ClientId, client_cmp, same_client, same_session, stamp_of, is_earlier}
+use Rattle.pres_ids.specs.declared.id.Stamp.{Stamp}
+use Rattle.pres_ids.specs.declared.id.SessionId.{SessionId}
+use Rattle.pres_ids.specs.Ids.{ClientId, client_cmp, same_client, same_session, stamp_of, is_earlier}
 use Rattle.pres_log.specs.declared.entry.Entry.{Entry}
 use Rattle.pres_log.specs.declared.entry.Entry.TheVariants as entry
 

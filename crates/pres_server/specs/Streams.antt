@@ -6,11 +6,11 @@ use Rattle.pres_tree.specs.declared.scalar.Scalar.{Scalar}
 use Rattle.pres_tree.specs.Paths.{Path}
 use Rattle.pres_tree.specs.Rows.{Rows, value_at}
 use Rattle.pres_write.specs.Outcomes.{kept_of}
-use Rattle.pres_wire.specs.declared.id.SessionId.{SessionId}
+use Rattle.pres_ids.specs.declared.id.SessionId.{SessionId}
 use Rattle.pres_wire.specs.declared.down.Down.{Down}
 use Rattle.pres_wire.specs.declared.down.Down.TheVariants.{Welcome, Reply, Armed, Snap, Push, OffDone, Denied, Gone}
 use Rattle.pres_wire.specs.declared.values.PathValue.{PathValue}
-use Rattle.pres_wire.specs.Ids.{same_session}
+use Rattle.pres_ids.specs.Ids.{same_session}
 use Rattle.pres_retry.specs.declared.table.Row.{Row}
 use Rattle.pres_log.specs.declared.entry.Entry.{Entry}
 use Rattle.pres_log.specs.declared.entry.Entry.TheVariants as entry

@@ -8,13 +8,13 @@ use Rattle.pres_write.specs.declared.op.Op.{Op}
 use Rattle.pres_write.specs.Moments as moments
 use Rattle.pres_write.specs.Outcomes.{resolved}
 use Rattle.pres_write.specs.Unconditionals.{puts_of}
-use Rattle.pres_wire.specs.declared.id.SessionId.{SessionId}
-use Rattle.pres_wire.specs.declared.id.Why.{Why}
-use Rattle.pres_wire.specs.declared.id.Why.TheVariants as why
+use Rattle.pres_ids.specs.declared.id.SessionId.{SessionId}
+use Rattle.pres_ids.specs.declared.id.Why.{Why}
+use Rattle.pres_ids.specs.declared.id.Why.TheVariants as why
 use Rattle.pres_wire.specs.declared.up.Up.{Up}
 use Rattle.pres_wire.specs.declared.up.Up.TheVariants as up
 use Rattle.pres_wire.specs.declared.down.Limit.TheVariants as limit
-use Rattle.pres_wire.specs.Ids.{ClientId, stamp_of}
+use Rattle.pres_ids.specs.Ids.{ClientId, stamp_of}
 use Rattle.pres_plan.specs.Plans.{most_rows}
 use Rattle.pres_fan.specs.Listeners.{most_paths}
 use Rattle.pres_retry.specs.Verdicts.{verdict, Told, fresh, again, gap}

@@ -6,7 +6,7 @@ ghost use Rattle.pres_write.specs.Outcomes.{kept_of};
 ghost use Rattle.pres_fan.specs.Listeners.{touched};
 ghost use Rattle.pres_write.specs.declared.op.Op.{Op};
 ghost use Rattle.pres_retry.specs.Tables.{row, rows_of, recorded};
-ghost use Rattle.pres_wire.specs.Ids.{ClientId, client_cmp, stamp_of};
+ghost use Rattle.pres_ids.specs.Ids.{ClientId, client_cmp, stamp_of};
 ghost use Rattle.pres_log.specs.declared.entry.Entry.TheVariants as entry;
 ghost use Rattle.pres_server.specs.Streams.{answers};
 ghost use Rattle.pres_server.specs.Heard.{Heard, heard_after_all};

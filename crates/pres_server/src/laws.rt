@@ -1,7 +1,7 @@
 //! Laws of the server's log, for the crates that keep one.
 
 ghost use Rattle.std.specs.Prelude.{ℕ, List};
-ghost use Rattle.pres_wire.specs.declared.id.SessionId.{SessionId};
+ghost use Rattle.pres_ids.specs.declared.id.SessionId.{SessionId};
 ghost use Rattle.pres_tree.specs.Paths.{Path};
 ghost use Rattle.pres_log.specs.Logs.{Log};
 ghost use Rattle.pres_log.specs.declared.entry.Batch.{Batch};

@@ -2,7 +2,7 @@
 
 ghost use Rattle.std.specs.Prelude.{◌≡◌, ◌+◌, nat_lt, [], IfSome, OnOk, IfOk, IsSome, Some, None, option_map, option_copied};
 ghost use Rattle.std.specs.BTreeMap.{get, Updates, IsOrdered};
-ghost use Rattle.pres_wire.specs.Ids.{client_cmp, stamp_of};
+ghost use Rattle.pres_ids.specs.Ids.{client_cmp, stamp_of};
 ghost use Rattle.pres_server.specs.Places.{began, next_number, last_stamp, open_count, MayOpen, MayLeave, MayLeaveAt, AreDueAt, HasRoom, MaySend, sent_one, answered, answered_at, live_after, heard_at, heard_of_all};
 ghost use Rattle.pres_server.specs.Heard.{lease, late_client};
 ghost use Rattle.pres_log.specs.declared.entry.Entry.TheVariants as entry;

@@ -5,7 +5,7 @@ ghost use Rattle.std.specs.BTreeMap.{get, Updates};
 ghost use Rattle.std.specs.List.Sorted.{IsStrictlySortedBy};
 ghost use Rattle.pres_tree.specs.Paths.{path_cmp};
 ghost use Rattle.pres_tree.specs.Rows.{value_at};
-ghost use Rattle.pres_wire.specs.Ids.{ClientId, client_cmp};
+ghost use Rattle.pres_ids.specs.Ids.{ClientId, client_cmp};
 ghost use Rattle.pres_server.specs.Streams.{shown};
 ghost use Rattle.pres_server.specs.Places.{sent_one};
 ghost use Rattle.pres_server.specs.Pushes.{standing, MayPush, MayPushAll, after_pushes, push_to, pushes};

@@ -1,14 +1,14 @@
 //! What an input asks for.
 
 ghost use Rattle.std.specs.Prelude.{◌≡◌, ◌<◌, ◌∷◌, ◌^◌, [], IfOk, IfErr, IsSome, Option, Some, None};
-ghost use Rattle.pres_wire.specs.Ids.{stamp_of};
-ghost use Rattle.pres_wire.specs.declared.id.SessionId.{SessionId};
+ghost use Rattle.pres_ids.specs.Ids.{stamp_of};
+ghost use Rattle.pres_ids.specs.declared.id.SessionId.{SessionId};
 ghost use Rattle.pres_wire.specs.declared.up.Up.TheVariants as up;
 ghost use Rattle.pres_log.specs.declared.fault.Fault.TheVariants.{Busy};
 ghost use Rattle.pres_server.specs.Turns.{Decision, makes, Makes, Decides};
 ghost use Rattle.pres_server.specs.Parts.{said_by, ends_live, ends_of, end_by, leaves_by, listens_by, is_live, within, checked, said, session_with};
 ghost use Rattle.pres_server.specs.declared.input.Input.TheVariants as input;
-ghost use Rattle.pres_wire.specs.declared.id.Why.TheVariants as why;
+ghost use Rattle.pres_ids.specs.declared.id.Why.TheVariants as why;
 ghost use Rattle.pres_write.specs.Unconditionals.{puts_of};
 ghost use Rattle.pres_write.specs.Outcomes.{resolved};
 ghost use Rattle.pres_log.specs.declared.entry.Entry.TheVariants as entry;

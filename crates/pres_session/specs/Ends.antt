@@ -1,5 +1,5 @@
 -- Sessions that ended.
-use Rattle.pres_wire.specs.declared.id.Why.{Why}
+use Rattle.pres_ids.specs.declared.id.Why.{Why}
 use Rattle.pres_session.specs.Lives.{Life}
 
 -- a session that is still to be paid for, as it was before its end, and why it ended

@@ -1,6 +1,6 @@
 -- Open sessions.
 use Rattle.std.specs.Prelude.{ℕ}
-use Rattle.pres_wire.specs.declared.id.Stamp.{Stamp}
+use Rattle.pres_ids.specs.declared.id.Stamp.{Stamp}
 
 pub record Life (P : Type 0) : Type 0 where
   pub stamp : Stamp

@@ -6,7 +6,7 @@ ghost use Rattle.pres_session.specs.Owed.{AreOwed};
 use crate::gone::Gone;
 use crate::live::Live;
 use crate::plan::Pays;
-use pres_wire::Why;
+use pres_ids::Why;
 use pres_write::Basic;
 use std::marker::Model;
 

@@ -3,7 +3,7 @@
 ghost use Rattle.std.specs.Prelude.{◌≡◌};
 ghost use Rattle.pres_session.specs.Faults.{number_of};
 
-use pres_wire::Stamp;
+use pres_ids::Stamp;
 use thiserror::Error;
 
 /// Why a session's step is refused.

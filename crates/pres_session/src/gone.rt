@@ -1,13 +1,13 @@
 //! Sessions that ended and are paid for.
 
 ghost use Rattle.std.specs.Prelude.{◌≡◌, IsTrue, MatchResult, false};
-ghost use Rattle.pres_wire.specs.Ids.{is_earlier};
+ghost use Rattle.pres_ids.specs.Ids.{is_earlier};
 ghost use Rattle.pres_session.specs.Lives.{opened};
 ghost use Rattle.pres_session.specs.declared.fault.SessionFault.TheVariants.{Old};
 
 use crate::fault::SessionFault;
 use crate::live::{Live, first};
-use pres_wire::Stamp;
+use pres_ids::Stamp;
 use pres_write::Moment;
 use std::marker::Model;
 
@@ -18,7 +18,7 @@ pub struct Gone {
 }
 
 impl Model for Gone {
-    ghost use Rattle.pres_wire.specs.declared.id.Stamp.{Stamp};
+    ghost use Rattle.pres_ids.specs.declared.id.Stamp.{Stamp};
 
     ghost Value = { Stamp };
 

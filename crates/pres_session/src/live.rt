@@ -2,14 +2,14 @@
 
 ghost use Rattle.std.specs.Prelude.{◌≡◌, ◌+◌, IfOk, IfErr, OnErr, max};
 ghost use Rattle.std.specs.Borrow.{sem, Lends};
-ghost use Rattle.pres_wire.specs.Numbers.{greatest_number};
+ghost use Rattle.pres_ids.specs.Numbers.{greatest_number};
 ghost use Rattle.pres_session.specs.Lives.{opened};
 ghost use Rattle.pres_session.specs.declared.fault.SessionFault.TheVariants.{Spent};
 ghost use Rattle.pres_session.specs.contracts.live.Live.{the_row};
 
 use crate::due::Due;
 use crate::fault::SessionFault;
-use pres_wire::{Count, Number, Stamp, Why};
+use pres_ids::{Count, Number, Stamp, Why};
 use pres_write::Moment;
 use std::marker::Model;
 

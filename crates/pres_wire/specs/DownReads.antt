@@ -10,10 +10,10 @@ use Rattle.pres_tree.specs.declared.scalar.Scalar.{Scalar}
 use Rattle.pres_tree.specs.Scalars.{scalar_reading}
 use Rattle.pres_write.specs.declared.outcome.Kept.{Kept}
 use Rattle.pres_write.specs.declared.outcome.Kept.TheVariants.{Wrote, Stale}
-use Rattle.pres_wire.specs.declared.id.SessionId.{SessionId}
-use Rattle.pres_wire.specs.declared.id.Stamp.{Stamp}
-use Rattle.pres_wire.specs.declared.id.Why.{Why}
-use Rattle.pres_wire.specs.declared.id.Why.TheVariants as why
+use Rattle.pres_ids.specs.declared.id.SessionId.{SessionId}
+use Rattle.pres_ids.specs.declared.id.Stamp.{Stamp}
+use Rattle.pres_ids.specs.declared.id.Why.{Why}
+use Rattle.pres_ids.specs.declared.id.Why.TheVariants as why
 use Rattle.pres_wire.specs.declared.fault.Field.TheVariants as field
 use Rattle.pres_wire.specs.declared.fault.WireFault.{WireFault}
 use Rattle.pres_wire.specs.declared.fault.WireFault.TheVariants.{NotJson, NoSuchMessage, Field as FieldRefused}
@@ -25,7 +25,8 @@ use Rattle.pres_wire.specs.declared.down.Down.{Down}
 use Rattle.pres_wire.specs.declared.down.Down.TheVariants as down
 use Rattle.pres_wire.specs.declared.values.PathValue.{PathValue}
 use Rattle.pres_wire.specs.DownForms.{down_json}
-use Rattle.pres_wire.specs.Fields.{is_word, field_of, message_number, message_count, path_of, session_of}
+use Rattle.pres_ids.specs.Forms.{message_number, message_count, session_of, pair_of, stamp_in}
+use Rattle.pres_wire.specs.Fields.{is_word, field_of, path_of}
 use Rattle.pres_wire.specs.UpForms.{and_then, needed, session_field, number_field, path_field}
 use Rattle.pres_wire.specs.Values.{rise}
 
@@ -38,16 +39,6 @@ given o f = option_and_then f o
 -- a value that a tree is read of without a fault
 abbrev pub value_of : Data → Option (Rows Scalar)
 value_of d = if is_none (fault_of scalar_reading (max_depth + 1) d) then Some (rows_of scalar_reading d) else None
-
--- a list of two items
-abbrev pub two_items : Items → Option (Data × Data)
-two_items no_items = None
-two_items (item a no_items) = None
-two_items (item a (item b no_items)) = Some (a, b)
-two_items (item a (item b (item d ds))) = None
-
-abbrev pub pair_of : Data → Option (Data × Data)
-pair_of d = option_and_then two_items (as_array d)
 
 abbrev pub why_of : List ℕ → Option Why
 why_of word =
@@ -76,10 +67,6 @@ out_by None d = stale_in d
 -- a text or an object
 abbrev pub out_of : Data → Option Kept
 out_of d = out_by (as_str d) d
-
--- an incarnation, an attempt
-abbrev pub stamp_in : Data → Option Stamp
-stamp_in d = given (pair_of d) (λ p. given (message_number p.0) (λ n. given (message_number p.1) (λ m. Some (record { incarnation = n; attempt = m }))))
 
 abbrev pub limit_of : ℕ → Option Limit
 limit_of n = if n == 1 then Some limit.Plan else (if n == 2 then Some limit.Listens else None)

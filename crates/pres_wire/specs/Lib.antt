@@ -2,9 +2,7 @@ pub mod DownForms
 pub mod DownReads
 pub mod Faults
 pub mod Fields
-pub mod Ids
 pub mod Messages
-pub mod Numbers
 pub mod UpForms
 pub mod Values
 pub mod Views

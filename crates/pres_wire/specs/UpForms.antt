@@ -9,7 +9,7 @@ use Rattle.pres_write.specs.declared.unconditional.Unconditional.{Unconditional}
 use Rattle.pres_write.specs.declared.fault.WriteFault.{WriteFault}
 use Rattle.pres_write.specs.OpForms.{op_json, op_read}
 use Rattle.pres_write.specs.Unconditionals.{as_op, unconditional_read}
-use Rattle.pres_wire.specs.declared.id.SessionId.{SessionId}
+use Rattle.pres_ids.specs.declared.id.SessionId.{SessionId}
 use Rattle.pres_wire.specs.declared.fault.Field.{Field}
 use Rattle.pres_wire.specs.declared.fault.Field.TheVariants as field
 use Rattle.pres_wire.specs.declared.fault.WireFault.{WireFault}
@@ -17,7 +17,8 @@ use Rattle.pres_wire.specs.declared.fault.WireFault.TheVariants.{NotJson, TooLon
 use Rattle.pres_wire.specs.declared.up.Up.{Up}
 use Rattle.pres_wire.specs.declared.up.Up.TheVariants as up
 use Rattle.pres_wire.specs.Faults.{field_name}
-use Rattle.pres_wire.specs.Fields.{message, whole, path_json, session_json, is_word, field_of, message_number, path_of, session_of}
+use Rattle.pres_ids.specs.Forms.{whole, session_json, message_number, session_of}
+use Rattle.pres_wire.specs.Fields.{message, path_json, is_word, field_of, path_of}
 
 -- the JSON of a message: its word, and its fields in the order in which they are checked
 abbrev pub up_json : Up → Data

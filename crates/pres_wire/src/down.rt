@@ -15,9 +15,8 @@ use crate::down_form::{
 };
 use crate::down_read::read_down;
 use crate::fault::WireFault;
-use crate::id::{SessionId, Stamp, Why};
-use crate::number::{Count, Number};
 use crate::values::Values;
+use pres_ids::{Count, Number, SessionId, Stamp, Why};
 use pres_tree::{Path, Tree};
 use pres_write::Kept;
 use serde_json::Value;

@@ -16,8 +16,7 @@ use crate::down_field::{
 };
 use crate::fault::{Field, WireFault};
 use crate::field::{number_field, path_field, session_field};
-use crate::id::SessionId;
-use crate::number::Number;
+use pres_ids::{Number, SessionId};
 use serde_json::Value;
 use std::alloc::Global;
 

@@ -8,8 +8,7 @@ ghost use Rattle.pres_wire.specs.UpForms.{session_field, number_field, op_field,
 ghost use Rattle.pres_wire.specs.declared.fault.WireFault.TheVariants.{Memory};
 
 use crate::fault::{Field, WireFault};
-use crate::id::SessionId;
-use crate::number::Number;
+use pres_ids::{Number, SessionId};
 use pres_tree::{Path, TreeFault};
 use pres_write::{Op, Unconditional, WriteFault};
 use serde_json::Value;

@@ -3,10 +3,9 @@
 ghost use Rattle.std.specs.Prelude.{◌≡◌, IfOk, Some, codes};
 ghost use Rattle.serde_json.specs.Data.{object, string, no_members, put as with_member};
 ghost use Rattle.serde_json.specs.View.{view, members_view};
-ghost use Rattle.pres_wire.specs.Fields.{whole, session_json, message_number, session_of};
+ghost use Rattle.pres_ids.specs.Forms.{whole, session_json, message_number, session_of};
 
-use crate::id::SessionId;
-use crate::number::Number;
+use pres_ids::{Number, SessionId};
 use serde_json::{Map, Value};
 use std::alloc::{AllocError, Global};
 

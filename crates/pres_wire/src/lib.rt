@@ -8,15 +8,12 @@ mod down_read;
 mod fault;
 mod field;
 mod form;
-mod id;
-mod number;
 mod part;
 mod up;
 mod values;
 
 pub use down::{Code, Down, Limit};
 pub use fault::{Field, WireFault};
-pub use id::{ClientId, IdFault, SessionId, Stamp, Why};
-pub use number::{Count, Number};
+pub use pres_ids::{ClientId, Count, IdFault, Number, SessionId, Stamp, Why};
 pub use up::{MAX_TEXT_BYTES, Up};
 pub use values::{PathValue, Values};

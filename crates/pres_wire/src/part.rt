@@ -1,29 +1,17 @@
 //! Parts of fields, read and printed.
 
-ghost use Rattle.std.specs.Prelude.{◌≡◌, ◌≤◌, IfOk, MatchOption, Some, None};
+ghost use Rattle.std.specs.Prelude.{◌≡◌, ◌≤◌, IfOk, Some, None};
 ghost use Rattle.serde_json.specs.Data.{depth};
 ghost use Rattle.serde_json.specs.View.{view};
 ghost use Rattle.pres_tree.specs.Printing.{json_of};
 ghost use Rattle.pres_tree.specs.Scalars.{scalar_printing};
 ghost use Rattle.pres_wire.specs.Fields.{path_in, path_of};
-ghost use Rattle.pres_wire.specs.DownReads.{pair_of, value_of};
+ghost use Rattle.pres_ids.specs.Forms.{pair_of};
+ghost use Rattle.pres_wire.specs.DownReads.{value_of};
 
 use pres_tree::{Path, Tree, TreeFault};
 use serde_json::Value;
 use std::alloc::{AllocError, Global};
-
-// The two items of a list of two.
-pub(crate) fn pair_of(value: &Value) -> Option<(&Value, &Value)>
-    ensures { MatchOption result
-        (pair_of (view value.now) ≡ None)
-        (λ pair. pair_of (view value.now) ≡ Some (view pair.0.now, view pair.1.now)) }
-{
-    let items = value.as_array()?;
-    let [first, second] = items.as_slice() else {
-        return None;
-    };
-    Some((first, second))
-}
 
 // The path of a text.
 fn path_in(alloc: Global, text: &str) -> Result<Option<Path>, AllocError>

@@ -10,7 +10,8 @@ ghost use Rattle.pres_wire.specs.Values.{Rising};
 ghost use Rattle.pres_wire.specs.DownForms.{path_value_json, values_json};
 ghost use Rattle.pres_wire.specs.DownReads.{path_value_of, values_of_items, values_of};
 
-use crate::part::{pair_of, path_of, tree_of, tree_value};
+use crate::part::{path_of, tree_of, tree_value};
+use pres_ids::pair_of;
 use pres_tree::{Path, Tree};
 use serde_json::Value;
 use std::alloc::{AllocError, Global};

@@ -1,7 +1,7 @@
 -- the row stands behind those that the map has for the client
 use Rattle.std.proofs.Common.{◌++◌, [], ◌∷◌, sym, ◌∙◌, ap, Some, None}
 use Rattle.std.specs.FinMap.Entries.{put}
-use Rattle.pres_wire.specs.Ids.{client_cmp}
+use Rattle.pres_ids.specs.Ids.{client_cmp}
 use Rattle.pres_retry.specs.Tables.{table_of}
 use Rattle.std.proofs.lemmas.Result.{err_from_is_err_and}
 use Rattle.pres_retry.proofs.Puts.{put_insert, put_known, set_same}

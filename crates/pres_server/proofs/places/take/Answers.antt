@@ -1,5 +1,5 @@
 use Rattle.std.proofs.Common.{◌≡◌, sym, IfSome, Option, Some, None, Equal}
-use Rattle.pres_wire.specs.Ids.{ClientId, client_cmp}
+use Rattle.pres_ids.specs.Ids.{ClientId, client_cmp}
 use Rattle.pres_server.proofs.AfterEntry.{clients_apart}
 use Rattle.pres_server.proofs.places.take.Goals as goal
 

@@ -1,5 +1,5 @@
 use Rattle.std.proofs.Common.{◌≡◌, ◌++◌}
-use Rattle.pres_wire.specs.Ids.{ClientId}
+use Rattle.pres_ids.specs.Ids.{ClientId}
 use Rattle.pres_server.specs.Pushes.{standing, after_pushes, pushes, MayPushAll}
 use Rattle.pres_server.proofs.push.push_all.Given as goal
 

@@ -1,6 +1,8 @@
 use Rattle.std.proofs.Common.{◌≡◌, ◌++◌, [], ◌∷◌, false, Some, refl, ap, sym, ◌∙◌, ◌+◌, append-nil, if◌then◌else◌, rules}
-use Rattle.pres_client.specs.Clients.{State, is_online, no_message, no_write, ask_of, without_ask}
-use Rattle.pres_client.specs.Calls.{is_too_deep, make_write, sent_now, try_of}
+use Rattle.pres_mail.specs.Asks.{ask_of, without_ask}
+use Rattle.pres_client.specs.Clients.{State, is_online, no_message, no_write}
+use Rattle.pres_mail.specs.Asks.{is_too_deep}
+use Rattle.pres_client.specs.Calls.{make_write, sent_now, try_of}
 use Rattle.pres_client.proofs.Ranges.{in_range-write, below}
 use Rattle.pres_client.proofs.Tried.{try_accepted, tried, tried_fields}
 use Rattle.pres_client.proofs.client.Client.attempt.Goals as goal

@@ -1,6 +1,8 @@
 use Rattle.std.proofs.Common.{◌≡◌, true, false, drop, Some, sym, ap, ◌∙◌, rules}
 use Rattle.std.specs.List.{list_any}
-use Rattle.pres_client.specs.Clients.{State, is_on, without_watch}
+use Rattle.pres_mail.specs.Watches.{without_watch}
+use Rattle.pres_mail.specs.Queues.{is_on}
+use Rattle.pres_client.specs.Clients.{State}
 use Rattle.pres_client.specs.Receiving.{bring, fits, answered, first_listen}
 use Rattle.pres_client.proofs.Denials.{denied_again, denied_last}
 use Rattle.pres_client.proofs.client.Client.receive_denied_listen.Goals as goal

@@ -1,5 +1,6 @@
 use Rattle.std.proofs.Common.{◌≡◌, ◌++◌, [], ◌∷◌, refl, ap, sym, ◌∙◌, append-nil, rules}
-use Rattle.pres_client.specs.Clients.{State, no_message, with_watch, fresh}
+use Rattle.pres_mail.specs.Watches.{with_watch, fresh}
+use Rattle.pres_client.specs.Clients.{State, no_message}
 use Rattle.pres_client.specs.Calls.{enqueue, sent_now}
 use Rattle.pres_client.proofs.Ranges.{in_range-other, below}
 use Rattle.pres_client.proofs.Watched.{watched_fields}

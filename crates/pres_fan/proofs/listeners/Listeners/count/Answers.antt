@@ -1,6 +1,6 @@
 use Rattle.std.proofs.Common.{rules, tests, sym, ◌∙◌, ap, length}
 use Rattle.std.proofs.lemmas.Iterator.Consumers.{YieldsList-at, YieldsList-from_rest, YieldsList-from_filter, count_from_yields_List}
-use Rattle.pres_wire.specs.Ids.{same_session}
+use Rattle.pres_ids.specs.Ids.{same_session}
 use Rattle.pres_fan.specs.Listeners.{paths_of}
 use Rattle.pres_fan.proofs.Places.{count_is}
 use Rattle.pres_fan.proofs.listeners.Listeners.count.Goals as goal

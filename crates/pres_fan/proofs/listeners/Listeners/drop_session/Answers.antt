@@ -1,6 +1,6 @@
 use Rattle.std.proofs.Common.{rules, sym, ◌∙◌, ap, ◌≡◌, not, subst}
 use Rattle.std.proofs.lemmas.Fn.{filter_same}
-use Rattle.pres_wire.specs.Ids.{same_session}
+use Rattle.pres_ids.specs.Ids.{same_session}
 use Rattle.pres_fan.specs.Listeners.{without_session, IsListeners}
 use Rattle.pres_fan.proofs.Places.{filtered_listeners}
 use Rattle.pres_fan.proofs.listeners.Listeners.drop_session.Goals as goal

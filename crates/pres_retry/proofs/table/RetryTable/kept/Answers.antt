@@ -1,6 +1,6 @@
 -- the rows that the map has are those of the table
 use Rattle.std.proofs.Common.{◌≤◌, length, sym, ◌∙◌, ap, subst, Some, None}
-use Rattle.pres_wire.specs.Numbers.{greatest_number}
+use Rattle.pres_ids.specs.Numbers.{greatest_number}
 use Rattle.pres_retry.specs.Tables.{rows_of}
 use Rattle.pres_retry.proofs.Records.{rows_at, rows_counted}
 use Rattle.pres_retry.proofs.table.RetryTable.kept.Goals as goal

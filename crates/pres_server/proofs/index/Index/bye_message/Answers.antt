@@ -1,5 +1,5 @@
 use Rattle.std.proofs.Common.{◌≡◌, ◌∙◌, ap, inl, Some, [], ◌∷◌, true, cond, rules}
-use Rattle.pres_wire.specs.declared.id.Why.TheVariants as why
+use Rattle.pres_ids.specs.declared.id.Why.TheVariants as why
 use Rattle.pres_server.specs.Turns.{Decision, makes, quiet}
 use Rattle.pres_server.specs.Parts.{limited_by, end_by}
 use Rattle.pres_server.specs.Places.{open_count}

@@ -11,7 +11,7 @@ use Rattle.pres_server.specs.Index.{part_at, paths_at, heard_in}
 use Rattle.pres_server.specs.Invariants.{Holds}
 use Rattle.pres_server.specs.declared.turn.Step.{Step}
 use Rattle.pres_server.specs.declared.turn.Step.TheVariants as step
-use Rattle.pres_wire.specs.declared.id.SessionId.{SessionId}
+use Rattle.pres_ids.specs.declared.id.SessionId.{SessionId}
 use Rattle.pres_server.specs.Places.{open_count}
 use Rattle.pres_server.proofs.Turned.{number_small, open_small, counted, moment_is, turned}
 use Rattle.pres_server.proofs.Whole.{may_follow}

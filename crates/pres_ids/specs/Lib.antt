@@ -1,0 +1,3 @@
+pub mod Forms
+pub mod Ids
+pub mod Numbers

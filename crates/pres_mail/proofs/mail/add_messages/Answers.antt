@@ -1,0 +1,15 @@
+use Rattle.std.proofs.Common.{◌∙◌, ap, ◌≡◌, ◌++◌, ◌∷◌, []}
+use Rattle.std.specs.VecDeque.Iter.{deque_iter_rest}
+use Rattle.pres_mail.specs.Queues.{message, messages}
+use Rattle.pres_mail.proofs.Queues.{added}
+use Rattle.pres_mail.proofs.mail.add_messages.Goals as goal
+
+pub loop-queued-preserved : goal.loop-queued-preserved
+loop-queued-preserved c =
+    let s = c.args.session.now in
+    let l = c.loop-queued in
+    let rest = deque_iter_rest c.next.new.self in
+    let pushed : c.push.new.self.items ≡ l.sends.items ++ message s l.q l.n c.in-Some.queued.now ∷ [] =
+    c.in_ok-push.ensures.items ∙ ap (λ m. l.sends.items ++ m ∷ []) (c.in_ok-message.ensures ∙ ap (λ q. message s q l.n c.in-Some.queued.now) c.number.ensures) in
+    let h = added s l.q l.n c.in-Some.queued.now rest l.sends.items (c.args.sends.now.items ++ messages s c.args.from_q c.args.from_n c.args.queue.now.items) (deque_iter_rest l.queued-iterator) c.in-Some.ensures.steps c.loop-queued.invariant in
+    rw (pushed, c.next_write-n.ensures) h

@@ -1,0 +1,4 @@
+pub mod Asks
+pub mod Mails
+pub mod Queues
+pub mod Watches
