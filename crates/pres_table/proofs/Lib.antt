@@ -1,0 +1,5 @@
+pub mod Statements
+pub mod Refusals
+pub mod Inserting
+pub mod Loading
+pub mod Progress
