@@ -163,6 +163,16 @@ left_by old new settled alone (inr back) = record {
   same = λ live. record { was_open = back.was_open live; now = (back.undone live).0 ∙ sym (settled (back.was_open live)); committed = (back.undone live).1 };
 }
 
+-- the same after calls that changed nothing
+pub left_later : (old held new : State) → (IsTrue old.is_open → old.now ≡ old.committed) → old.in_transaction ≡ false → IsUnchanged old held → IsUnchanged held new ⊎ IsRolledBack held new → IsLeft old new
+left_later old held new settled alone first then =
+    let was = first.0 in
+    let left = left_by held new (λ _. was.now_is ∙ settled was.was_open ∙ sym was.committed_is) (was.mode ∙ alone) then in
+    record {
+      mode = left.mode;
+      same = λ live. record { was_open = was.was_open; now = (left.same live).now ∙ was.now_is; committed = (left.same live).committed ∙ was.committed_is };
+    }
+
 -- ---- a crash
 
 may_leave : (s : State) (k : ℕ) (b : Saved) (db : Trees) (text : List ℕ) → CanTake s k → MayCommit s None (Insert 1 (Values terms 4)) text (params_for k b) db

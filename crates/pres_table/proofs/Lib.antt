@@ -3,3 +3,4 @@ pub mod Refusals
 pub mod Inserting
 pub mod Loading
 pub mod Progress
+pub mod Making

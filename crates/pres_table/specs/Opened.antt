@@ -1,5 +1,5 @@
 -- What making the tables leaves, and how they are found.
-use Rattle.std.specs.Prelude.{◌≡◌, ◌≢◌, ◌⊎◌, ℕ, false, max, List, [], ◌∷◌, Some, unwrap_or, Ok, Err, pos, codes, IsTrue}
+use Rattle.std.specs.Prelude.{◌≡◌, ◌≢◌, ◌⊎◌, ℕ, ◌+◌, false, max, List, [], ◌∷◌, Some, unwrap_or, Ok, Err, pos, codes, IsTrue}
 use Rattle.sqlite.specs.declared.error.Error.{Error}
 use Rattle.sqlite.specs.declared.error.Error.TheVariants.{SqliteFailure, SqlInputError, QueryReturnedNoRows}
 use Rattle.sqlite.specs.declared.error.ErrorCode.TheVariants.{NameTaken}
@@ -10,7 +10,8 @@ use Rattle.pres_table.specs.declared.fault.SavedFault.{SavedFault}
 use Rattle.pres_table.specs.declared.fault.SavedFault.TheVariants.{NotOurs, Version}
 use Rattle.pres_table.specs.Faults.{fault_of}
 use Rattle.pres_table.specs.Schemas.{saved_schema}
-use Rattle.pres_table.specs.Saved.{rows_in, whole_of}
+use Rattle.pres_table.specs.Saved.{rows_in, shown_rows, whole_of, AreBelow}
+use Rattle.pres_table.specs.Kept.{IsSame}
 
 -- the row of the table meta, in its first place
 abbrev pub format_row : Row
@@ -53,3 +54,10 @@ LacksFormat old new e =
 abbrev pub greatest_in : List Row → ℕ
 greatest_in [] = 0
 greatest_in (row ∷ more) = max (unwrap_or (whole_of (column row 0)) 0) (greatest_in more)
+
+-- the rows as they are, and the number of the last one
+pub record IsFound (old new : State) (last : ℕ) : Type 0 where
+  pub same : IsSame old new
+  pub mode : new.in_transaction ≡ false
+  pub last : last ≡ greatest_in (shown_rows old)
+  pub below : AreBelow (last + 1) (rows_in old)

@@ -22,16 +22,16 @@ pub(crate) fn insert<S: Alter>(
     ensures ok { HasCleanDisk (state S.Store connection.new)
         → Awaits (state S.Store connection.old) number
         → OnOk result (AddsRow (state S.Store connection.old) (state S.Store connection.new)
-            number (record { moment = moment; body = body.now })) }
+        number (record { moment = moment; body = body.now })) }
     ensures err { HasCleanDisk (state S.Store connection.new)
         → Awaits (state S.Store connection.old) number
         → OnErr result (IsLeft (state S.Store connection.old) (state S.Store connection.new)) }
     ensures named { IfErr result (λ e. (e ≡ SavedFault.Memory) ⊎ (e ≡ SavedFault.Database)) }
     ensures crash { Awaits (state S.Store connection.old) number
         → Survives (state S.Store connection.old) (state S.Store connection.new)
-            (λ db. IsTrue (state S.Store connection.old).is_open
-                → db 2 ≡ rows_in (state S.Store connection.old)
-                    ++ stored number (record { moment = moment; body = body.now }) ∷ []) }
+        (λ db. IsTrue (state S.Store connection.old).is_open
+        → db 2 ≡ rows_in (state S.Store connection.old)
+        ++ stored number (record { moment = moment; body = body.now }) ∷ []) }
 {
     let _alone = connection.is_autocommit();
     let text = body.as_bytes();

@@ -29,10 +29,7 @@ pub(crate) fn make<S: Alter>(connection: &mut Connection<S>) -> Result<(), Error
         "CREATE TABLE batch(k INTEGER PRIMARY KEY, moment INTEGER NOT NULL, body TEXT NOT NULL)",
         &[],
     )?;
-    tx.execute(
-        "INSERT INTO meta(name, value) VALUES('format', 1)",
-        &[],
-    )?;
+    tx.execute("INSERT INTO meta(name, value) VALUES('format', 1)", &[])?;
     tx.commit()
 }
 

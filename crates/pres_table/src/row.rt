@@ -58,7 +58,7 @@ pub(crate) fn read_row(alloc: Global, row: &Row, due: Number) -> Result<SavedRow
     ensures { MatchResult result
         (λ r. saved_row due row.now ≡ Some (saved_of r))
         (λ e. (e ≡ SavedFault.Memory)
-            ⊎ ((e ≡ SavedFault.BadRow due) × (saved_row due row.now ≡ None))) }
+        ⊎ ((e ≡ SavedFault.BadRow due) × (saved_row due row.now ≡ None))) }
 {
     let Some((moment, body)) = parts(row, due) else {
         return Err(SavedFault::BadRow(due));

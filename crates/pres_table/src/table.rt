@@ -4,13 +4,14 @@ ghost use Rattle.std.specs.Prelude.{◌≡◌, ◌⊎◌, ◌+◌, ◌<◌, ◌�
 ghost use Rattle.sqlite.specs.Held.{state};
 ghost use Rattle.sqlite.specs.State.{HasCleanDisk, Survives};
 ghost use Rattle.pres_wire.specs.Numbers.{greatest_number};
-ghost use Rattle.pres_table.specs.Kept.{Serves, AddsRow, IsLeft};
-ghost use Rattle.pres_table.specs.Opened.{IsMade};
+ghost use Rattle.pres_table.specs.Kept.{IsOurs, Serves, AddsRow, IsLeft};
+ghost use Rattle.pres_table.specs.Opened.{IsMade, HasFormat, LacksFormat, IsFound};
 ghost use Rattle.pres_table.specs.Schemas.{no_schema};
 ghost use Rattle.pres_table.specs.Saved.{saved_of, saved_rows, shown_rows, stored, rows_in};
 ghost use Rattle.pres_table.specs.Taking.{GoesOver};
 
 use crate::fault::SavedFault;
+use crate::format::find;
 use crate::insert::insert;
 use crate::make::{make, making_fault};
 use crate::row::SavedRow;
@@ -52,9 +53,7 @@ impl<S: Alter + Drop> Drop for Table<S> {
 impl<S: Alter + Drop> Table<S> {
     /// Makes the tables in a database that has none, in one transaction. NotOurs where a table of
     /// such a name is there; a refusal leaves the database as it was.
-    pub fn create(
-        connection: Connection<S>,
-    ) -> Result<Table<S>, (SavedFault, Connection<S>)>
+    pub fn create(connection: Connection<S>) -> Result<Table<S>, (SavedFault, Connection<S>)>
         requires { connection.in_transaction ≡ false }
         ensures made { IfOk result (λ t. HasCleanDisk (state S.Store t.connection)
             → connection.schema ≡ no_schema → IsMade (state S.Store t.connection)) }
@@ -73,26 +72,51 @@ impl<S: Alter + Drop> Table<S> {
         }
     }
 
+    /// Finds the tables that `create` made. NotOurs where the statement that asks for the format
+    /// isn't understood or has no answer, Version where it answers another format than 1.
+    pub fn open(connection: Connection<S>) -> Result<Table<S>, (SavedFault, Connection<S>)>
+        requires { connection.in_transaction ≡ false }
+        ensures format { IfOk result (λ t. HasCleanDisk (state S.Store t.connection)
+            → (mid : _) × HasFormat (state S.Store connection) (state S.Store mid)) }
+        ensures found { IfOk result (λ t. HasCleanDisk (state S.Store t.connection)
+            → IsOurs (state S.Store connection)
+            → IsFound (state S.Store connection) (state S.Store t.connection) t.last) }
+        ensures serves { IfOk result (λ t. IsOurs (state S.Store connection)
+            → Serves S.Store t) }
+        ensures err { IfErr result (λ e. HasCleanDisk (state S.Store e.1)
+            → ((mid : _) × LacksFormat (state S.Store connection) (state S.Store mid) e.0)
+                ⊎ ((e.0 ≡ SavedFault.Memory) ⊎ (e.0 ≡ SavedFault.Database))) }
+        ensures left { IfErr result (λ e. HasCleanDisk (state S.Store e.1)
+            → IsOurs (state S.Store connection)
+            → IsLeft (state S.Store connection) (state S.Store e.1)) }
+    {
+        let mut connection = connection;
+        match find(&mut connection) {
+            Ok(last) => Ok(Table { connection, last }),
+            Err(fault) => Err((fault, connection)),
+        }
+    }
+
     /// Adds a row, numbered one more than the last, and commits it. Database where the last number
     /// is 2^53 - 1.
     pub fn append(&mut self, moment: Moment, body: &str) -> Result<(), SavedFault>
         ensures ok { HasCleanDisk (state S.Store self.new.connection) → Serves S.Store self.old
             → OnOk result (AddsRow (state S.Store self.old.connection)
-                (state S.Store self.new.connection) (self.old.last + 1)
-                (record { moment = moment; body = body.now })) }
+            (state S.Store self.new.connection) (self.old.last + 1)
+            (record { moment = moment; body = body.now })) }
         ensures last { self.new.last
             ≡ (if is_ok result then self.old.last + 1 else self.old.last) }
         ensures err { HasCleanDisk (state S.Store self.new.connection) → Serves S.Store self.old
             → OnErr result (IsLeft (state S.Store self.old.connection)
-                (state S.Store self.new.connection)) }
+            (state S.Store self.new.connection)) }
         ensures named { IfErr result (λ e. (e ≡ SavedFault.Memory) ⊎ (e ≡ SavedFault.Database)) }
         ensures spent { greatest_number ≤ self.old.last → result ≡ Err SavedFault.Database }
         ensures crash { Serves S.Store self.old
             → Survives (state S.Store self.old.connection) (state S.Store self.new.connection)
-                (λ db. IsTrue (state S.Store self.old.connection).is_open
-                    → db 2 ≡ rows_in (state S.Store self.old.connection)
-                        ++ stored (self.old.last + 1)
-                            (record { moment = moment; body = body.now }) ∷ []) }
+            (λ db. IsTrue (state S.Store self.old.connection).is_open
+            → db 2 ≡ rows_in (state S.Store self.old.connection)
+            ++ stored (self.old.last + 1)
+            (record { moment = moment; body = body.now }) ∷ []) }
         ensures serves { Serves S.Store self.old → Serves S.Store self.new }
     {
         if self.last >= MAX_SAFE_INTEGER {
@@ -108,13 +132,13 @@ impl<S: Alter + Drop> Table<S> {
     pub fn each<T: Take>(&mut self, alloc: Global, taker: &mut T) -> Result<(), SavedFault>
         ensures goes { HasCleanDisk (state S.Store self.new.connection) → Serves S.Store self.old
             → GoesOver T.takes T.refuses (shown_rows (state S.Store self.old.connection))
-                taker.old taker.new result }
+            taker.old taker.new result }
         ensures left { HasCleanDisk (state S.Store self.new.connection) → Serves S.Store self.old
             → IsLeft (state S.Store self.old.connection) (state S.Store self.new.connection) }
         ensures last { self.new.last ≡ self.old.last }
         ensures crash { Serves S.Store self.old
             → Survives (state S.Store self.old.connection) (state S.Store self.new.connection)
-                (λ _. IsTrue (state S.Store self.old.connection).is_open → ⊥) }
+            (λ _. IsTrue (state S.Store self.old.connection).is_open → ⊥) }
         ensures serves { Serves S.Store self.old → Serves S.Store self.new }
     {
         go_over(alloc, &mut self.connection, taker)
@@ -125,16 +149,16 @@ impl<S: Alter + Drop> Table<S> {
     pub fn load(&mut self, alloc: Global) -> Result<Vec<SavedRow>, SavedFault>
         ensures ok { HasCleanDisk (state S.Store self.new.connection) → Serves S.Store self.old
             → IfOk result (λ rows. saved_rows (shown_rows (state S.Store self.old.connection))
-                ≡ Ok (map saved_of rows.items)) }
+            ≡ Ok (map saved_of rows.items)) }
         ensures bad { HasCleanDisk (state S.Store self.new.connection) → Serves S.Store self.old
             → IfErr result (λ e. (k : _) → e ≡ SavedFault.BadRow k
-                → saved_rows (shown_rows (state S.Store self.old.connection)) ≡ Err k) }
+            → saved_rows (shown_rows (state S.Store self.old.connection)) ≡ Err k) }
         ensures left { HasCleanDisk (state S.Store self.new.connection) → Serves S.Store self.old
             → IsLeft (state S.Store self.old.connection) (state S.Store self.new.connection) }
         ensures last { self.new.last ≡ self.old.last }
         ensures crash { Serves S.Store self.old
             → Survives (state S.Store self.old.connection) (state S.Store self.new.connection)
-                (λ _. IsTrue (state S.Store self.old.connection).is_open → ⊥) }
+            (λ _. IsTrue (state S.Store self.old.connection).is_open → ⊥) }
         ensures serves { Serves S.Store self.old → Serves S.Store self.new }
     {
         let mut all = Collector {

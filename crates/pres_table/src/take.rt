@@ -36,14 +36,15 @@ pub(crate) fn go_over<S: Alter, T: Take>(
     ensures goes { HasCleanDisk (state S.Store connection.new)
         → (k : _) → Awaits (state S.Store connection.old) k
         → GoesOver T.takes T.refuses (shown_rows (state S.Store connection.old))
-            taker.old taker.new result }
+        taker.old taker.new result }
     ensures left { HasCleanDisk (state S.Store connection.new)
         → (k : _) → Awaits (state S.Store connection.old) k
         → IsLeft (state S.Store connection.old) (state S.Store connection.new) }
     ensures crash { (k : _) → Awaits (state S.Store connection.old) k
         → Survives (state S.Store connection.old) (state S.Store connection.new)
-            (λ _. IsTrue (state S.Store connection.old).is_open → ⊥) }
+        (λ _. IsTrue (state S.Store connection.old).is_open → ⊥) }
 {
+    let _alone = connection.is_autocommit();
     let mut rows = connection.query("SELECT k, moment, body FROM batch ORDER BY k", &[])?;
     'rows: for before in 0..u64::MAX {
         let Some(row) = rows.next()? else {
