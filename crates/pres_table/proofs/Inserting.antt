@@ -165,9 +165,9 @@ left_by old new settled alone (inr back) = record {
 
 -- the same after calls that changed nothing
 pub left_later : (old held new : State) → (IsTrue old.is_open → old.now ≡ old.committed) → old.in_transaction ≡ false → IsUnchanged old held → IsUnchanged held new ⊎ IsRolledBack held new → IsLeft old new
-left_later old held new settled alone first then =
+left_later old held new settled alone first after =
     let was = first.0 in
-    let left = left_by held new (λ _. was.now_is ∙ settled was.was_open ∙ sym was.committed_is) (was.mode ∙ alone) then in
+    let left = left_by held new (λ _. was.now_is ∙ settled was.was_open ∙ sym was.committed_is) (was.mode ∙ alone) after in
     record {
       mode = left.mode;
       same = λ live. record { was_open = was.was_open; now = (left.same live).now ∙ was.now_is; committed = (left.same live).committed ∙ was.committed_is };

@@ -4,3 +4,4 @@ pub mod Inserting
 pub mod Loading
 pub mod Progress
 pub mod Making
+pub mod Finding

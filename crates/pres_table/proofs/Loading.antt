@@ -70,7 +70,7 @@ saved_push due k [] row saved s h at is =
 saved_push due k (r ∷ given) row saved s h at is =
     let parts = then_ok due (saved_row due r) (saved_from (due + 1) given) saved h in
     let later = saved_push (due + 1) k given row parts.1 s parts.3 (omega arith) is in
-    rw (parts.2, later, parts.4)
+    (λ i. rows_then due (parts.2 i) (later i)) ∙ (λ i. Ok (sym parts.4 i ++ s ∷ []))
 
 -- the rows before the first bad one are the first of those
 pub front_append : (due : ℕ) (given rest : List Row) (saved : List Saved) → saved_from due given ≡ Ok saved → front_from due (given ++ rest) ≡ saved ++ front_from (due + length given) rest
@@ -82,14 +82,15 @@ front_append due (r ∷ given) rest saved h =
     let parts = then_ok due (saved_row due r) (saved_from (due + 1) given) saved h in
     let later = front_append (due + 1) given rest parts.1 parts.3 in
     let same : due + 1 + length given ≡ due + length (r ∷ given) = omega arith in
-    rw (parts.2, later, parts.4, same)
+    (λ i. front_then (parts.2 i) (later i)) ∙ (λ i. sym parts.4 i ++ front_from (same i) rest)
 
 -- where all save something, they are all
 pub front_all : (due : ℕ) (given : List Row) (saved : List Saved) → saved_from due given ≡ Ok saved → front_from due given ≡ saved
 front_all due [] saved h = cc
 front_all due (r ∷ given) saved h =
     let parts = then_ok due (saved_row due r) (saved_from (due + 1) given) saved h in
-    rw (parts.2, front_all (due + 1) given parts.1 parts.3, parts.4)
+    let later = front_all (due + 1) given parts.1 parts.3 in
+    (λ i. front_then (parts.2 i) (later i)) ∙ sym parts.4
 
 -- the first row that saves nothing
 pub saved_stops : (due k : ℕ) (given rest : List Row) (row : Row) (saved : List Saved) → saved_from due given ≡ Ok saved → k ≡ due + length given → saved_row k row ≡ None
@@ -97,8 +98,8 @@ pub saved_stops : (due k : ℕ) (given rest : List Row) (row : Row) (saved : Lis
 saved_stops due k [] rest row saved h at is =
     let same : k ≡ due = omega arith in
     let none : saved ≡ [] = cc in
-    rw (← same, is, none) (refl, refl)
+    (rw (← same, is), rw (← same, is, none))
 saved_stops due k (r ∷ given) rest row saved h at is =
     let parts = then_ok due (saved_row due r) (saved_from (due + 1) given) saved h in
     let later = saved_stops (due + 1) k given rest row parts.1 parts.3 (omega arith) is in
-    rw (parts.2, later.0, later.1, parts.4) (refl, refl)
+    ((λ i. rows_then due (parts.2 i) (later.0 i)), (λ i. front_then (parts.2 i) (later.1 i)) ∙ sym parts.4)

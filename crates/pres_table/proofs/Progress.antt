@@ -33,13 +33,13 @@ pub commits_nothing : (old new : State) (k : ℕ) → Awaits old k → Survives 
 commits_nothing old new k awaits h =
     survives_weaker old new _ _ (λ clean db may live. never_commits select_text [] old db (plain_if_ours old ((awaits (omega (arith, h.clean, clean))).ready live).ours.schema) may) h
 
-shown_open : (old new : State) (sql text : List ℕ) (c : Compiled) (params : Row) (rows : List Row) (returning : Option Returning) → ShowsRows old new sql c params rows returning → IsTrue old.is_open
-shown_open old new sql text c params rows None h = h.3.0.was_open
-shown_open old new sql text c params rows (Some what) h = h.1.shown.was_open
+shown_open : (old new : State) (sql : List ℕ) (c : Compiled) (params : Row) (rows : List Row) (returning : Option Returning) → ShowsRows old new sql c params rows returning → IsTrue old.is_open
+shown_open old new sql c params rows None h = h.3.0.was_open
+shown_open old new sql c params rows (Some what) h = h.1.shown.was_open
 
 pub open_if_shown : (sql : List ℕ) (params : Row) (old new : State) (rows : List Row) → Shown sql params old new rows → IsTrue old.is_open
 unfolding Shown
-open_if_shown sql params old new rows h = shown_open old new sql sql h.0 _ rows h.0.returning h.2
+open_if_shown sql params old new rows h = shown_open old new sql h.0 _ rows h.0.returning h.2
 
 pub open_if_begun : {S : Type 0} (g : Ghosts S) (sql : List ℕ) (params : Row) (old new : Held S) → HasBegun g sql params old new → IsTrue (state g old).is_open
 open_if_begun g sql params old new (inl h) = h.1.0.was_open

@@ -56,8 +56,8 @@ greatest_in [] = 0
 greatest_in (row ∷ more) = max (unwrap_or (whole_of (column row 0)) 0) (greatest_in more)
 
 -- the rows as they are, and the number of the last one
-pub record IsFound (old new : State) (last : ℕ) : Type 0 where
+pub record IsFound (old new : State) (n : ℕ) : Type 0 where
   pub same : IsSame old new
   pub mode : new.in_transaction ≡ false
-  pub last : last ≡ greatest_in (shown_rows old)
-  pub below : AreBelow (last + 1) (rows_in old)
+  pub last : n ≡ greatest_in (shown_rows old)
+  pub below : AreBelow (n + 1) (rows_in old)

@@ -7,8 +7,8 @@ use Rattle.pres_table.specs.Saved.{Saved, saved_rows, saved_front}
 
 -- these were taken in turn
 abbrev pub TakesAll : {T : Type 0} → (T → Saved → T → Type 0) → List Saved → T → T → Type 0
-TakesAll takes [] old new = new ≡ old
-TakesAll takes (row ∷ more) old new = (mid : _) × takes old row mid × TakesAll takes more mid new
+TakesAll {T} takes [] old new = new ≡ old
+TakesAll {T} takes (row ∷ more) old new = (mid : T) × takes old row mid × TakesAll takes more mid new
 
 module _ {T : Type 0} (takes : T → Saved → T → Type 0) (refuses : T → Saved → SavedFault → T → Type 0) where
   -- these were taken, and then the database gave no more or memory was refused

@@ -6,13 +6,13 @@ ghost use Rattle.sqlite.specs.declared.types.Value.TheVariants.{Int};
 ghost use Rattle.sqlite.specs.Order.{column, value_cmp};
 ghost use Rattle.sqlite.specs.Held.{state};
 ghost use Rattle.sqlite.specs.State.{HasCleanDisk};
-ghost use Rattle.sqlite_trees.specs.View.{doubt};
+ghost use Rattle.sqlite.specs.View.{doubt};
 ghost use Rattle.pres_table.specs.Kept.{IsOurs, IsLeft};
 ghost use Rattle.pres_table.specs.Opened.{format_fault, HasFormat, LacksFormat, IsFound, greatest_in};
 ghost use Rattle.pres_table.specs.Saved.{AreBelow, rows_in, shown_rows, whole_of};
 
 use crate::fault::SavedFault;
-use crate::row::whole_at;
+use crate::row::{whole, whole_at};
 use sqlite::types::ValueRef;
 use sqlite::{Alter, Connection, Error, Row};
 
@@ -47,7 +47,10 @@ fn check_format<S: Alter>(connection: &mut Connection<S>) -> Result<(), SavedFau
         Ok(row) => row,
         Err(error) => return Err(format_fault(error)),
     };
-    if whole_at(&row, 0) == Some(1) {
+    let Some(format) = whole_at(&row, 0) else {
+        return Err(SavedFault::Version);
+    };
+    if format == 1 {
         Ok(())
     } else {
         Err(SavedFault::Version)
@@ -63,7 +66,7 @@ fn number_in(row: &Row) -> Result<u64, SavedFault>
         (λ e. e ≡ SavedFault.Database) }
 {
     match row.get_ref(0) {
-        Ok(ValueRef::Int(number)) => Ok(u64::try_from(number).unwrap_or(0)),
+        Ok(ValueRef::Int(number)) => Ok(whole(number).unwrap_or(0)),
         _ => Err(SavedFault::Database),
     }
 }
@@ -101,16 +104,16 @@ fn last_number<S: Alter>(connection: &mut Connection<S>) -> Result<u64, SavedFau
 pub(crate) fn find<S: Alter>(connection: &mut Connection<S>) -> Result<u64, SavedFault>
     ensures format { HasCleanDisk (state S.Store connection.new)
         → OnOk result ((mid : _)
-            × HasFormat (state S.Store connection.old) (state S.Store mid)) }
+        × HasFormat (state S.Store connection.old) (state S.Store mid)) }
     ensures found { HasCleanDisk (state S.Store connection.new)
         → IsOurs (state S.Store connection.old)
         → connection.old.in_transaction ≡ false
         → IfOk result
-            (IsFound (state S.Store connection.old) (state S.Store connection.new)) }
+        (IsFound (state S.Store connection.old) (state S.Store connection.new)) }
     ensures err { HasCleanDisk (state S.Store connection.new)
         → IfErr result (λ e.
-            ((mid : _) × LacksFormat (state S.Store connection.old) (state S.Store mid) e)
-            ⊎ ((e ≡ SavedFault.Memory) ⊎ (e ≡ SavedFault.Database))) }
+        ((mid : _) × LacksFormat (state S.Store connection.old) (state S.Store mid) e)
+        ⊎ ((e ≡ SavedFault.Memory) ⊎ (e ≡ SavedFault.Database))) }
     ensures left { HasCleanDisk (state S.Store connection.new)
         → IsOurs (state S.Store connection.old)
         → connection.old.in_transaction ≡ false

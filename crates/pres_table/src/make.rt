@@ -3,7 +3,6 @@
 ghost use Rattle.std.specs.Prelude.{◌≡◌, false, IsTrue, OnOk, OnErr};
 ghost use Rattle.sqlite.specs.Held.{state};
 ghost use Rattle.sqlite.specs.State.{HasCleanDisk};
-ghost use Rattle.pres_table.specs.Kept.{IsLeft};
 ghost use Rattle.pres_table.specs.Opened.{IsMade, making_fault};
 ghost use Rattle.pres_table.specs.Schemas.{no_schema};
 
@@ -17,7 +16,12 @@ pub(crate) fn make<S: Alter>(connection: &mut Connection<S>) -> Result<(), Error
         → connection.old.schema ≡ no_schema
         → OnOk result (IsMade (state S.Store connection.new)) }
     ensures err { HasCleanDisk (state S.Store connection.new)
-        → OnErr result (IsLeft (state S.Store connection.old) (state S.Store connection.new)) }
+        → IsTrue (state S.Store connection.new).is_open
+        → OnErr result
+        (((state S.Store connection.new).now ≡ (state S.Store connection.old).now)
+        × ((state S.Store connection.new).committed
+        ≡ (state S.Store connection.old).committed)) }
+    ensures mode { connection.new.in_transaction ≡ false }
 {
     let _alone = connection.is_autocommit();
     let mut tx = connection.transaction();

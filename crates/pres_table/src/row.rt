@@ -1,6 +1,7 @@
 //! One saved row, and how it is read.
 
-ghost use Rattle.std.specs.Prelude.{◌≡◌, ◌⊎◌, Some, None, MatchOption, MatchResult, option_copied};
+ghost use Rattle.std.specs.Prelude.{◌≡◌, ◌⊎◌, ◌<◌, ◌^◌, IfSome, Some, None, MatchOption, MatchResult, option_copied};
+ghost use Rattle.sqlite.specs.declared.types.Value.TheVariants.{Int, Text};
 ghost use Rattle.sqlite.specs.Order.{column};
 ghost use Rattle.pres_table.specs.Saved.{saved_row, saved_of, whole_of, text_of};
 
@@ -18,13 +19,31 @@ pub struct SavedRow {
     pub body: String,
 }
 
+// The number, unless it is below 0.
+pub(crate) fn whole(n: i64) -> Option<u64>
+    ensures value { result ≡ whole_of (Int n) }
+    ensures bound { IfSome result (λ m. m < 2 ^ 63) }
+{
+    if n < 0 { None } else { Some(n.unsigned_abs()) }
+}
+
 // The whole number in a column, none where it holds another value or a number below 0.
 pub(crate) fn whole_at(row: &Row, at: usize) -> Option<u64>
     ensures { result ≡ whole_of (column row.now at) }
 {
     match row.get_ref(at) {
-        Ok(ValueRef::Int(n)) => u64::try_from(n).ok(),
+        Ok(ValueRef::Int(n)) => whole(n),
         _ => None,
+    }
+}
+
+// The bytes as text, none where they are no UTF-8.
+fn text(bytes: &[u8]) -> Option<&str>
+    ensures { option_copied result ≡ text_of (Text bytes.now) }
+{
+    match std::str::from_utf8(bytes) {
+        Ok(text) => Some(text),
+        Err(_) => None,
     }
 }
 
@@ -33,7 +52,7 @@ fn text_at(row: &Row, at: usize) -> Option<&str>
     ensures { option_copied result ≡ text_of (column row.now at) }
 {
     match row.get_ref(at) {
-        Ok(ValueRef::Text(bytes)) => std::str::from_utf8(bytes).ok(),
+        Ok(ValueRef::Text(bytes)) => text(bytes),
         _ => None,
     }
 }

@@ -60,7 +60,10 @@ impl<S: Alter + Drop> Table<S> {
         ensures serves { IfOk result (λ t. connection.schema ≡ no_schema → Serves S.Store t) }
         ensures last { IfOk result (λ t. t.last ≡ 0) }
         ensures err { IfErr result (λ e. HasCleanDisk (state S.Store e.1)
-            → IsLeft (state S.Store connection) (state S.Store e.1)) }
+            → IsTrue (state S.Store e.1).is_open
+            → ((state S.Store e.1).now ≡ (state S.Store connection).now)
+            × ((state S.Store e.1).committed ≡ (state S.Store connection).committed)) }
+        ensures mode { IfErr result (λ e. e.1.in_transaction ≡ false) }
     {
         let mut connection = connection;
         match make(&mut connection) {
@@ -85,7 +88,7 @@ impl<S: Alter + Drop> Table<S> {
             → Serves S.Store t) }
         ensures err { IfErr result (λ e. HasCleanDisk (state S.Store e.1)
             → ((mid : _) × LacksFormat (state S.Store connection) (state S.Store mid) e.0)
-                ⊎ ((e.0 ≡ SavedFault.Memory) ⊎ (e.0 ≡ SavedFault.Database))) }
+            ⊎ ((e.0 ≡ SavedFault.Memory) ⊎ (e.0 ≡ SavedFault.Database))) }
         ensures left { IfErr result (λ e. HasCleanDisk (state S.Store e.1)
             → IsOurs (state S.Store connection)
             → IsLeft (state S.Store connection) (state S.Store e.1)) }
