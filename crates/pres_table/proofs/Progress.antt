@@ -2,7 +2,7 @@
 use Rattle.std.proofs.Common.{◌≡◌, ◌⊎◌, inl, inr, ℕ, ◌+◌, false, List, [], ◌∷◌, ◌++◌, map, length, length-append, Option, Some, None, Result, Ok, Err, IsTrue, refl, sym, ap, subst, ◌∙◌, arith, append_assoc, append-nil}
 use Rattle.sqlite.specs.Store.{Ghosts}
 use Rattle.sqlite.specs.Order.{Row}
-use Rattle.sqlite.specs.Tree.{IsTable}
+use Rattle.sqlite.specs.Tree.{IsTable, Trees}
 use Rattle.sqlite.specs.Effect.{Database}
 use Rattle.sqlite.specs.Listing.{understood}
 use Rattle.sqlite.specs.State.{State, HasCleanDisk, IsUnchanged, IsRolledBack, Fails, Survives, Shown, ShowsRows, CommitsShowing, FailsToQuery, FailsToShow, IsNotRun, RunsCommand}
@@ -11,7 +11,7 @@ use Rattle.sqlite.specs.Given.{HasGiven, HasBegun, GivesOn, Advances}
 use Rattle.sqlite.specs.declared.error.Error.{Error}
 use Rattle.sqlite_schema.specs.declared.command.Returning.{Returning}
 use Rattle.sqlite_resolve.specs.declared.compiled.Compiled.{Compiled}
-use Rattle.sqlite.proofs.StateLemmas.{survives_weaker}
+use Rattle.sqlite.proofs.StateLemmas.{survives_weaker, survives_then}
 use Rattle.sqlite.proofs.Callers.{IsPlain, begun_plain, never_commits, given_begin, unchanged_then}
 use Rattle.pres_table.specs.declared.fault.SavedFault.{SavedFault}
 use Rattle.pres_table.specs.declared.fault.SavedFault.TheVariants.{Memory, Database as DatabaseFault, BadRow}
@@ -20,7 +20,7 @@ use Rattle.pres_table.specs.Kept.{IsOurs, IsIdle, Awaits, IsSame, IsLeft}
 use Rattle.pres_table.specs.Saved.{Saved, rows_in, shown_row, shown_rows, saved_row, saved_from, saved_rows, saved_front, front_from, front_then}
 use Rattle.pres_table.specs.Taking.{TakesAll, StopsEarly, IsRefused, MeetsBadRow, GoesOver}
 use Rattle.pres_table.proofs.Statements.{select_text, select_plain}
-use Rattle.pres_table.proofs.Inserting.{left_by}
+use Rattle.pres_table.proofs.Inserting.{left_later}
 use Rattle.pres_table.proofs.Loading.{loads, begins, saved_push, saved_stops, front_append, front_all}
 
 -- ---- the query
@@ -154,8 +154,8 @@ module _ {S T : Type 0} (g : Ghosts S) (takes : T → Saved → T → Type 0) (r
         }
 
         -- the row is refused
-        pub refused : (last : T) (e : SavedFault) → refuses taker s e last → GoesOver takes refuses (shown_rows (state g first)) start last (Err e)
-        refused last e no =
+        pub refuses_it : (last : T) (e : SavedFault) → refuses taker s e last → GoesOver takes refuses (shown_rows (state g first)) start last (Err e)
+        refuses_it last e refusal =
             let all = all_rows new (p.given ++ row ∷ []) given_more still_same in
             inr (inl (record {
               given = p.saved;
@@ -164,5 +164,54 @@ module _ {S T : Type 0} (g : Ghosts S) (takes : T → Saved → T → Type 0) (r
               mid = taker;
               parts = ap saved_front (sym all.1) ∙ front_append 1 (p.given ++ row ∷ []) all.0 (p.saved ++ s ∷ []) pushed ∙ append_assoc p.saved (s ∷ []) _;
               taken = p.taken;
-              refused = no;
+              refused = refusal;
             }))
+
+-- ---- at one row
+
+abbrev pub WhileShut : State → Trees → Type 0
+WhileShut old _ = IsTrue old.is_open → ⊥
+
+pub nothing_more : (old held now : State) → Survives old held (WhileShut old) → Survives held now (λ _. ⊥) → Survives old now (WhileShut old)
+nothing_more old held now = survives_then old held now (WhileShut old) (λ _. ⊥) (WhileShut old) (λ _ _ shut. shut) (λ _ _ none. absurd none)
+
+pub still : (s : State) → Survives s s (λ _. ⊥)
+still s = record { clean = omega arith; shield = λ h. h; counts = omega arith; limit = refl; closes = λ _ h. inl h; crash = λ _ db h. inl h }
+
+module _ {S T : Type 0} (g : Ghosts S) (takes : T → Saved → T → Type 0) (refuses : T → Saved → SavedFault → T → Type 0) (first : Held S) (start : T) (held now : Held S) (taker : T) (count : ℕ)
+    (k : ℕ) (awaits : Awaits (state g first) k) (kept : Survives (state g first) (state g held) (WhileShut (state g first)))
+    (so_far : HasCleanDisk (state g held) → (k : ℕ) → Awaits (state g first) k → Progress g takes first start held taker count)
+    (moved : Survives (state g held) (state g now) (λ _. ⊥)) (clean : HasCleanDisk (state g now)) where
+  held_clean : HasCleanDisk (state g held)
+  held_clean = omega (arith, moved.clean, clean)
+
+  pub first_clean : HasCleanDisk (state g first)
+  first_clean = omega (arith, moved.clean, kept.clean, clean)
+
+  progress : Progress g takes first start held taker count
+  progress = so_far held_clean k awaits
+
+  ours : IsOurs (state g first)
+  ours = ((awaits first_clean).ready progress.same.0.was_open).ours
+
+  pub at_end : Advances g held now None → GoesOver takes refuses (shown_rows (state g first)) start taker (Ok tt)
+  at_end = ends g takes refuses first start ours held taker count progress now
+
+  pub at_stop : (e : SavedFault) → (e ≡ Memory) ⊎ (e ≡ DatabaseFault) → GoesOver takes refuses (shown_rows (state g first)) start taker (Err e)
+  at_stop = stops g takes refuses first start ours held taker count progress
+
+  pub at_bad_row : (row : Row) → Advances g held now (Some row) → IsUnchanged (state g held) (state g now) → (due : ℕ) → due ≡ count + 1 → saved_row due row ≡ None
+      → GoesOver takes refuses (shown_rows (state g first)) start taker (Err (BadRow due))
+  at_bad_row row next same = meets g takes refuses first start ours held taker count progress row now next same
+
+  pub at_refusal : (row : Row) → Advances g held now (Some row) → IsUnchanged (state g held) (state g now) → (s : Saved) → saved_row (count + 1) row ≡ Some s → (last : T) (e : SavedFault) → refuses taker s e last
+      → GoesOver takes refuses (shown_rows (state g first)) start last (Err e)
+  at_refusal row next same s reads = refuses_it g takes refuses first start ours held taker count progress row now next same s reads
+
+  pub at_next : (row : Row) → Advances g held now (Some row) → IsUnchanged (state g held) (state g now) → (s : Saved) → saved_row (count + 1) row ≡ Some s → (last : T) → takes taker s last
+      → Progress g takes first start now last (count + 1)
+  at_next row next same s reads = progress_more g takes refuses first start ours held taker count progress row now next same s reads
+
+  pub left_at : (IsTrue (state g first).is_open → (state g first).now ≡ (state g first).committed) → IsUnchanged (state g held) (state g now) ⊎ IsRolledBack (state g held) (state g now)
+      → IsLeft (state g first) (state g now)
+  left_at settled after = left_later (state g first) (state g held) (state g now) settled (awaits first_clean).alone progress.same after
