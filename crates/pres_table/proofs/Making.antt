@@ -17,7 +17,7 @@ use Rattle.sqlite.specs.State.{State, mode_of, Writes, Executes}
 use Rattle.sqlite.proofs.Callers.{IsPlain, command_of, statement_of, runs_as, one_step}
 use Rattle.pres_table.specs.Schemas.{meta, batch, no_schema, meta_schema, saved_schema}
 use Rattle.pres_table.proofs.Statements.{meta_text, batch_text, set_format_text, set_format_terms, set_format_is, set_format_plain, meta_is, batch_is, create_meta_is, create_batch_is, meta_plain, batch_plain}
-use Rattle.pres_table.proofs.Inserting.{went, same_value, cast_int, fails, left_by}
+use Rattle.pres_table.proofs.Inserting.{went, same_value, cast_null, cast_int}
 use Rattle.pres_table.specs.Opened.{format_row}
 use Rattle.sqlite.specs.declared.types.Value.TheVariants.{Null, Int, Text}
 
@@ -69,7 +69,7 @@ adds_format old new count has empty h =
     let ends : done.0.trees ≡ written.0 = ap (λ (it : Written). it.trees) (same_value counted.2) ∙ same_value counted.1 in
     let applied = one_step saved_schema _ trees written.0 (edit_of trees meta [] Chosen 0 given.0) refl written.1 in
     let kept = applied.tables in
-    let edit : edited trees (edit_of trees meta [] Chosen 0 given.0) ≡ format_row ∷ [] = ap (λ all. edited trees (edit_of trees meta [] Chosen 0 all)) given.1.1 ∙ rw (empty, cast_int (pos 1)) in (
+    let edit : edited trees (edit_of trees meta [] Chosen 0 given.0) ≡ format_row ∷ [] = ap (λ all. edited trees (edit_of trees meta [] Chosen 0 all)) given.1.1 ∙ rw (empty, cast_null, cast_int (pos 1)) in (
       ap (λ (d : Database). d.schema) now,
       ap (λ (d : Database). d.trees 2) now ∙ ap (λ (t : Trees). t 2) ends ∙ kept.1.0 (λ e. omega (arith, e)),
       ap (λ (d : Database). d.trees 0) now ∙ ap (λ (t : Trees). t 0) ends ∙ applied.rows ∙ edit,
