@@ -1,5 +1,5 @@
 -- How the tables are found.
-use Rattle.std.proofs.Common.{◌≡◌, ◌⊎◌, inl, inr, ℕ, ◌+◌, ◌<◌, ◌≤◌, max, List, [], ◌∷◌, ◌++◌, map, Option, Some, None, unwrap_or, Result, Ok, Err, pos, IsTrue, refl, sym, ap, subst, ◌∙◌, arith, Less}
+use Rattle.std.proofs.Common.{◌≡◌, ◌⊎◌, inl, inr, ℕ, ◌+◌, ◌<◌, ◌≤◌, ◌^◌, max, ℤ, negsuc, IfSome, List, [], ◌∷◌, ◌++◌, map, Option, Some, None, unwrap_or, Result, Ok, Err, IfOk, OnOk, pos, false, IsTrue, refl, sym, ap, subst, ◌∙◌, arith, Less}
 use Rattle.std.specs.List.{AllByRecursion}
 use Rattle.std.proofs.lemmas.Bool.{cases_lt}
 use Rattle.sqlite.specs.Store.{Ghosts}
@@ -15,11 +15,13 @@ use Rattle.sqlite.specs.Given.{HasGiven, HasBegun, Advances}
 use Rattle.sqlite.specs.declared.error.Error.{Error}
 use Rattle.sqlite_schema.specs.declared.command.Returning.{Returning}
 use Rattle.sqlite_resolve.specs.declared.compiled.Compiled.{Compiled}
-use Rattle.sqlite_value.proofs.OrderLemmas.{value_cmp_total}
+use Rattle.sqlite_value.proofs.OrderLemmas.{value_cmp_total, value_cmp-Int}
+use Rattle.sqlite_keyed.proofs.KeyedLemmas.{Less-from_lt}
+use Rattle.std.proofs.lemmas.Int.{ints}
 use Rattle.sqlite_keyed.proofs.ListLemmas.{all_unmap}
 use Rattle.sqlite.proofs.Callers.{IsPlain, begun_plain, unchanged_then}
 use Rattle.pres_table.specs.Schemas.{saved_schema}
-use Rattle.pres_table.specs.Kept.{IsOurs, CanTake, IsIdle, IsSame}
+use Rattle.pres_table.specs.Kept.{IsOurs, CanTake, IsIdle, IsSame, IsLeft}
 use Rattle.pres_table.specs.Saved.{rows_in, shown_row, shown_rows, whole_of, AreBelow}
 use Rattle.pres_table.specs.Opened.{format_text, greatest_in, IsFound}
 use Rattle.pres_table.proofs.Statements.{select_text, select_plain, format_plain}
@@ -43,6 +45,11 @@ format_left old new (Ok row) ours (inl h) = inl h.1
 format_left old new (Ok row) ours (inr h) = inl (shown_unchanged format_text [] old new h.0 (subst (λ schema. IsPlain (understood schema format_text)) (sym ours.schema) format_plain) h.1)
 format_left old new (Err e) ours (inl h) = query_fails old new format_text [] e h
 format_left old new (Err e) ours (inr h) = inl (shown_unchanged format_text [] old new [] (subst (λ schema. IsPlain (understood schema format_text)) (sym ours.schema) format_plain) h.1)
+
+pub found_unchanged : (old new : State) (row : Row) → IsOurs old → QueriesRow format_text [] old new (Ok row) → IsUnchanged old new
+unfolding QueriesRow
+found_unchanged old new row ours (inl h) = h.1
+found_unchanged old new row ours (inr h) = shown_unchanged format_text [] old new h.0 (subst (λ schema. IsPlain (understood schema format_text)) (sym ours.schema) format_plain) h.1
 
 -- ---- the last number
 
@@ -98,6 +105,28 @@ module _ {S : Type 0} (g : Ghosts S) (first : Held S) (ours : IsOurs (state g fi
         let all : p.given ≡ shown_rows (state g first) = loads (state g held) (state g new) p.given later (moved select_text [] p.given p.has) ∙ ap (λ (d : Database). map shown_row (d.trees 2)) now in
         (p.greatest ∙ ap greatest_in all, all_unmap (λ row. value_cmp (column row 0) (Int (pos (last + 1))) ≡ Less) shown_row (rows_in (state g first)) (subst (Below (last + 1)) all p.lower))
 
+pub ours_same : (old new : State) → IsOurs old → IsUnchanged old new → IsOurs new
+ours_same old new ours same = record {
+  schema = ap (λ (d : Database). d.schema) same.0.now_is ∙ ours.schema;
+  rising = subst (λ (d : Database). IsTable (d.trees 2)) (sym same.0.now_is) ours.rising;
+}
+
+pub left_after : (old mid new : State) → IsUnchanged old mid → IsLeft mid new → IsLeft old new
+left_after old mid new same left = record {
+  mode = left.mode;
+  same = λ live. record { was_open = same.0.was_open; now = (left.same live).now ∙ same.0.now_is; committed = (left.same live).committed ∙ same.0.committed_is };
+}
+
+pub found_after : (old mid new : State) (n : ℕ) → old.in_transaction ≡ false → IsUnchanged old mid → IsUnchanged mid new → (n ≡ greatest_in (shown_rows mid)) × AreBelow (n + 1) (rows_in mid) → IsFound old new n
+found_after old mid new n alone first second counted =
+    let now = first.0.now_is in
+    record {
+      same = record { was_open = first.0.was_open; now = second.0.now_is ∙ now; committed = second.0.committed_is ∙ first.0.committed_is };
+      mode = second.0.mode ∙ first.0.mode ∙ alone;
+      last = counted.0 ∙ ap (λ (d : Database). greatest_in (map shown_row (d.trees 2))) now;
+      below = subst (λ (d : Database). AreBelow (n + 1) (d.trees 2)) now counted.1;
+    }
+
 pub awaits_found : (old new : State) (last : ℕ) → IsOurs old → IsFound old new last → IsIdle new (last + 1)
 awaits_found old new last ours found = record {
   alone = found.mode;
@@ -106,3 +135,22 @@ awaits_found old new last ours found = record {
     below = subst (λ (d : Database). AreBelow (last + 1) (d.trees 2)) (sym found.same.now) found.below;
   };
 }
+
+-- ---- one number
+
+pub number_facts : (z : ℤ) (v : Value) (n : ℕ) → Int z ≡ v → n ≡ unwrap_or (whole_of (Int z)) 0 → (n ≡ unwrap_or (whole_of v) 0) × (value_cmp v (Int (pos (n + 1))) ≡ Less)
+number_facts (pos m) v n is value = (value ∙ ap (λ w. unwrap_or (whole_of w) 0) is, rw (← is) (below m (n + 1) (omega (arith, value))))
+number_facts (negsuc m) v n is value =
+    (value ∙ ap (λ w. unwrap_or (whole_of w) 0) is, rw (← is) (value_cmp-Int (negsuc m) (pos (n + 1)) ∙ Less-from_lt (negsuc m) (pos (n + 1)) (omega (arith, ints))))
+
+pub number_bound : (o : Option ℕ) → IfSome o (λ m. m < 2 ^ 63) → unwrap_or o 0 < 2 ^ 63
+number_bound None h = omega arith
+number_bound (Some m) h = h
+
+pub both_ok : {A E : Type 0} (r : Result A E) (P : A → Type 0) (Q : Type 0) (R : A → Type 0) → ((a : A) → P a → Q → R a) → IfOk r P → OnOk r Q → IfOk r R
+both_ok (Ok a) P Q R f p q = f a p q
+both_ok (Err e) P Q R f p q = tt
+
+pub any_ok : {A E : Type 0} (r : Result A E) (P : Type 0) → P → OnOk r P
+any_ok (Ok a) P p = p
+any_ok (Err e) P p = tt

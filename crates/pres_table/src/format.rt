@@ -5,7 +5,7 @@ ghost use Rattle.std.specs.declared.cmp.Ordering.TheVariants.{Less};
 ghost use Rattle.sqlite.specs.declared.types.Value.TheVariants.{Int};
 ghost use Rattle.sqlite.specs.Order.{column, value_cmp};
 ghost use Rattle.sqlite.specs.Held.{state};
-ghost use Rattle.sqlite.specs.State.{HasCleanDisk};
+ghost use Rattle.sqlite.specs.State.{HasCleanDisk, IsUnchanged};
 ghost use Rattle.sqlite.specs.View.{doubt};
 ghost use Rattle.pres_table.specs.Kept.{IsOurs, IsLeft};
 ghost use Rattle.pres_table.specs.Opened.{format_fault, HasFormat, LacksFormat, IsFound, greatest_in};
@@ -33,6 +33,10 @@ fn check_format<S: Alter>(connection: &mut Connection<S>) -> Result<(), SavedFau
     ensures err { HasCleanDisk (state S.Store connection.new)
         → IfErr result
         (LacksFormat (state S.Store connection.old) (state S.Store connection.new)) }
+    ensures same { HasCleanDisk (state S.Store connection.new)
+        → IsOurs (state S.Store connection.old)
+        → OnOk result
+        (IsUnchanged (state S.Store connection.old) (state S.Store connection.new)) }
     ensures left { HasCleanDisk (state S.Store connection.new)
         → IsOurs (state S.Store connection.old)
         → connection.old.in_transaction ≡ false
@@ -79,6 +83,10 @@ fn last_number<S: Alter>(connection: &mut Connection<S>) -> Result<u64, SavedFau
         × AreBelow (n + 1) (rows_in (state S.Store connection.old))) }
     ensures bound { IfOk result (λ n. n < 2 ^ 63) }
     ensures named { IfErr result (λ e. (e ≡ SavedFault.Memory) ⊎ (e ≡ SavedFault.Database)) }
+    ensures same { HasCleanDisk (state S.Store connection.new)
+        → IsOurs (state S.Store connection.old)
+        → OnOk result
+        (IsUnchanged (state S.Store connection.old) (state S.Store connection.new)) }
     ensures left { HasCleanDisk (state S.Store connection.new)
         → IsOurs (state S.Store connection.old)
         → connection.old.in_transaction ≡ false
