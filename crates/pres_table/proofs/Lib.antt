@@ -5,3 +5,4 @@ pub mod Loading
 pub mod Progress
 pub mod Making
 pub mod Finding
+pub mod Collecting
