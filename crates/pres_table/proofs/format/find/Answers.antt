@@ -1,0 +1,36 @@
+use Rattle.std.proofs.Common.{◌≡◌, ◌∙◌, inl, arith}
+use Rattle.std.proofs.lemmas.Result.{err_from_is_err_and}
+use Rattle.sqlite.specs.Held.{state}
+use Rattle.sqlite.specs.State.{HasCleanDisk}
+use Rattle.pres_table.proofs.Finding.{any_ok, both_ok, ours_same, left_after, found_after}
+use Rattle.pres_table.proofs.format.find.Goals as goal
+
+pub returns-in_err-check_format-clause-err : goal.returns-in_err-check_format-clause-err
+returns-in_err-check_format-clause-err g c clean =
+    let p = err_from_is_err_and c.from_residual.result c.from_residual.ensures.1 in
+    rw (p.1, p.2) (inl (c.check_format.new.connection, c.in_err-check_format.ensures.err clean))
+
+pub returns-clause-format : goal.returns-clause-format
+returns-clause-format g c clean =
+    let mid = c.check_format.new.connection in
+    let early : HasCleanDisk (state g.S.Store mid) = omega (arith, c.last_number.ensures.clean, clean) in
+    any_ok c.last_number.result _ (mid, c.in_ok-check_format.ensures.ok early)
+
+pub returns-clause-found : goal.returns-clause-found
+returns-clause-found g c clean ours alone =
+    let old = state g.S.Store c.args.connection.now in
+    let mid = state g.S.Store c.check_format.new.connection in
+    let new = state g.S.Store c.last_number.new.connection in
+    let early : HasCleanDisk mid = omega (arith, c.last_number.ensures.clean, clean) in
+    let first = c.in_ok-check_format.ensures.same early ours in
+    let ours_mid = ours_same old mid ours first in
+    both_ok c.last_number.result _ _ _ (λ n counted second. found_after old mid new n alone first second counted) (c.last_number.ensures.ok clean ours_mid) (c.last_number.ensures.same clean ours_mid)
+
+pub returns-clause-left : goal.returns-clause-left
+returns-clause-left g c clean ours alone =
+    let old = state g.S.Store c.args.connection.now in
+    let mid = state g.S.Store c.check_format.new.connection in
+    let new = state g.S.Store c.last_number.new.connection in
+    let early : HasCleanDisk mid = omega (arith, c.last_number.ensures.clean, clean) in
+    let first = c.in_ok-check_format.ensures.same early ours in
+    left_after old mid new first (c.last_number.ensures.left clean (ours_same old mid ours first) (first.0.mode ∙ alone))

@@ -1,0 +1,13 @@
+use Rattle.std.proofs.Common.{◌≡◌, ◌++◌, map, Ok, sym, ap, ◌∙◌}
+use Rattle.sqlite.specs.Held.{state}
+use Rattle.pres_table.specs.Saved.{saved_of, saved_front, shown_rows}
+use Rattle.pres_table.specs.declared.take.Collector.{Collector}
+use Rattle.pres_table.proofs.Collecting.{collected}
+use Rattle.pres_table.proofs.table.Table.load.Goals as goal
+
+pub returns-clause-ok : goal.returns-clause-ok
+returns-clause-ok g c clean serves =
+    let it = c.in_ok-each.ensures.goes clean serves in
+    let front = saved_front (shown_rows (state g.S.Store c.args.self.now.connection)) in
+    let all = collected (λ (kept : Collector). map saved_of kept.rows.items) front _ _ it.1 in
+    it.0 ∙ ap Ok (sym (all ∙ ap (λ rows. map saved_of rows ++ front) c.new.ensures.items))

@@ -1,0 +1,6 @@
+pub mod Faults
+pub mod Schemas
+pub mod Saved
+pub mod Kept
+pub mod Taking
+pub mod Opened

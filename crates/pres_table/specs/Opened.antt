@@ -1,0 +1,63 @@
+-- What making the tables leaves, and how they are found.
+use Rattle.std.specs.Prelude.{◌≡◌, ◌≢◌, ◌⊎◌, ℕ, ◌+◌, false, max, List, [], ◌∷◌, Some, unwrap_or, Ok, Err, pos, codes, IsTrue}
+use Rattle.sqlite.specs.declared.error.Error.{Error}
+use Rattle.sqlite.specs.declared.error.Error.TheVariants.{SqliteFailure, SqlInputError, QueryReturnedNoRows}
+use Rattle.sqlite.specs.declared.error.ErrorCode.TheVariants.{NameTaken}
+use Rattle.sqlite.specs.declared.types.Value.TheVariants.{Int, Text}
+use Rattle.sqlite.specs.Order.{Row, column}
+use Rattle.sqlite.specs.State.{State, QueriesRow}
+use Rattle.pres_table.specs.declared.fault.SavedFault.{SavedFault}
+use Rattle.pres_table.specs.declared.fault.SavedFault.TheVariants.{NotOurs, Version}
+use Rattle.pres_table.specs.Faults.{fault_of}
+use Rattle.pres_table.specs.Schemas.{saved_schema}
+use Rattle.pres_table.specs.Saved.{rows_in, shown_rows, whole_of, AreBelow}
+use Rattle.pres_table.specs.Kept.{IsSame}
+
+-- the row of the table meta, in its first place
+abbrev pub format_row : Row
+format_row = Int (pos 1) ∷ Text (codes "format") ∷ Int (pos 1) ∷ []
+
+-- both tables, committed: no saved row, and the format 1
+pub record IsMade (s : State) : Type 0 where
+  pub schema : s.now.schema ≡ saved_schema
+  pub rows : rows_in s ≡ []
+  pub format : s.now.trees 0 ≡ format_row ∷ []
+  pub committed : s.committed ≡ s.now
+  pub is_open : IsTrue s.is_open
+  pub mode : s.in_transaction ≡ false
+
+-- a name that is taken is another's table
+abbrev pub making_fault : Error → SavedFault
+making_fault (SqliteFailure NameTaken) = NotOurs
+making_fault e = fault_of e
+
+abbrev pub format_text : List ℕ
+format_text = codes "SELECT value FROM meta WHERE name = 'format'"
+
+-- A statement that isn't understood, and one without an answer, are asked of another's database.
+abbrev pub format_fault : Error → SavedFault
+format_fault (SqlInputError e) = NotOurs
+format_fault QueryReturnedNoRows = NotOurs
+format_fault e = fault_of e
+
+-- the database answers with the format 1
+abbrev pub HasFormat : State → State → Type 0
+HasFormat old new = (row : Row) × QueriesRow format_text [] old new (Ok row) × (whole_of (column row 0) ≡ Some 1)
+
+-- it answers with another format, or it doesn't answer
+abbrev pub LacksFormat : State → State → SavedFault → Type 0
+LacksFormat old new e =
+    ((e ≡ Version) × (row : Row) × QueriesRow format_text [] old new (Ok row) × (whole_of (column row 0) ≢ Some 1))
+    ⊎ ((why : Error) × QueriesRow format_text [] old new (Err why) × (e ≡ format_fault why))
+
+-- the greatest number of the shown rows, where one below 0 counts as 0; 0 without rows
+abbrev pub greatest_in : List Row → ℕ
+greatest_in [] = 0
+greatest_in (row ∷ more) = max (unwrap_or (whole_of (column row 0)) 0) (greatest_in more)
+
+-- the rows as they are, and the number of the last one
+pub record IsFound (old new : State) (n : ℕ) : Type 0 where
+  pub same : IsSame old new
+  pub mode : new.in_transaction ≡ false
+  pub last : n ≡ greatest_in (shown_rows old)
+  pub below : AreBelow (n + 1) (rows_in old)
