@@ -10,12 +10,13 @@ mod field;
 mod form;
 mod id;
 mod number;
-mod part;
+pub mod part;
 mod up;
 mod values;
 
 pub use down::{Code, Down, Limit};
 pub use fault::{Field, WireFault};
+pub use form::Form;
 pub use id::{ClientId, IdFault, SessionId, Stamp, Why};
 pub use number::{Count, Number};
 pub use up::{MAX_TEXT_BYTES, Up};

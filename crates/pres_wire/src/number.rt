@@ -65,8 +65,8 @@ impl Number {
         Count::up_to(self).next()
     }
 
-    // The number that a JSON value is.
-    pub(crate) fn from_value(value: &Value) -> Option<Number>
+    /// The number that a JSON value is, none where it isn't one.
+    pub fn from_value(value: &Value) -> Option<Number>
         ensures { result ≡ message_number (view value.now) }
     {
         Number::new(value.as_u64()?)

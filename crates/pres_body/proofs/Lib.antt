@@ -1,0 +1,4 @@
+pub mod Back
+pub mod Below
+pub mod Listed
+pub mod Whole
