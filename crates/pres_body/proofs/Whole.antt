@@ -20,9 +20,9 @@ use Rattle.pres_log.specs.declared.entry.Entry.{Entry}
 use Rattle.pres_log.specs.declared.entry.Entry.TheVariants as entry
 use Rattle.pres_body.specs.Entries.{list_json, write_json, put_json, outcome_json, number_or_null, entry_json, entries_json}
 
-whole_items : {A : Type 0} (json : A → Data) (as : List A) → ((a : A) → has_float (json a) ≡ false) → items_have_float (items_of (map json as)) ≡ false
+whole_items : {A : Type 0} (json : A → Data) (xs : List A) → ((a : A) → has_float (json a) ≡ false) → items_have_float (items_of (map json xs)) ≡ false
 whole_items json [] h = refl
-whole_items json (a ∷ as) h = neither (has_float (json a)) (items_have_float (items_of (map json as))) (h a) (whole_items json as h)
+whole_items json (a ∷ xs) h = neither (has_float (json a)) (items_have_float (items_of (map json xs))) (h a) (whole_items json xs h)
 
 whole_value : (v : Rows Scalar) → has_float (json_of scalar_printing v) ≡ false
 whole_value v = whole_rows scalar_printing v whole_scalar

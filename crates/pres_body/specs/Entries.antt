@@ -19,7 +19,7 @@ use Rattle.pres_log.specs.declared.entry.Entry.{Entry}
 use Rattle.pres_log.specs.declared.entry.Entry.TheVariants as entry
 
 abbrev pub list_json : {A : Type 0} → (A → Data) → List A → Data
-list_json json as = array (items_of (map json as))
+list_json json xs = array (items_of (map json xs))
 
 -- a path, and what is there
 abbrev pub row_json : Path → Data → Data

@@ -32,7 +32,7 @@ use Rattle.pres_body.specs.Entries.{entry_json}
 
 abbrev pub all_of : {A : Type 0} → (Data → Option A) → Items → Option (List A)
 all_of found no_items = Some []
-all_of found (item d ds) = given (found d) (λ a. given (all_of found ds) (λ as. Some (a ∷ as)))
+all_of found (item d ds) = given (found d) (λ a. given (all_of found ds) (λ xs. Some (a ∷ xs)))
 
 -- a list whose items are all found
 abbrev pub list_of : {A : Type 0} → (Data → Option A) → Data → Option (List A)
