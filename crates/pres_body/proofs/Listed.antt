@@ -6,7 +6,7 @@ use Rattle.serde_json.specs.View.{items_of}
 use Rattle.pres_body.specs.Entries.{list_json}
 use Rattle.pres_body.specs.Reads.{all_of, list_of}
 
--- the JSON of the first n is read xs what is kept of them
+-- the JSON of the first n is read as what is kept of them
 abbrev pub AllRead : {A : Type 0} → (Data → Option A) → (A → Data) → (A → A) → List A → ℕ → Type 0
 AllRead {A} found json kept xs n = (k : ℕ) (d : A) → k < n → found (json (slice_index_or xs k d)) ≡ Some (kept (slice_index_or xs k d))
 
@@ -28,7 +28,7 @@ items_low json levels (a ∷ xs) h = omega (arith, h zero a (omega arith), items
 pub list_low : {A : Type 0} (json : A → Data) (levels : ℕ) (xs : List A) → AllLow json levels xs (length xs) → depth (list_json json xs) ≤ levels + 1
 list_low json levels xs h = omega (arith, items_low json levels xs h)
 
--- a list that is kept xs it is
+-- a list that is kept as it is
 pub map-same : {A : Type 0} (xs : List A) → map (λ a. a) xs ≡ xs
 map-same [] = refl
 map-same (a ∷ xs) = ap (λ bs. a ∷ bs) (map-same xs)
