@@ -130,8 +130,3 @@ walked es false h low =
 -- few drafts, by what `is_sorted_by` answers
 pub puts_answer : (es : Places) (r : Bool) → IsAllAdjacentAnswer (λ e f b. b ≡ steps e f) es r → length es ≤ most_places → r ≡ may_be_puts es
 puts_answer es r h low = sym (walked es r h low)
-
--- too many
-pub too_many : (es : Places) → most_places < length es → false ≡ may_be_puts es
-too_many es high =
-    sym (both_ways (may_be_puts es) false (λ t. let puts = passes es t in absurd (omega (arith, puts.few))) (λ f. absurd (false≢true f)))
