@@ -2,7 +2,7 @@
 
 ghost use Rattle.std.specs.Prelude.{◌≡◌, ◌≤◌, ◌∷◌, [], IfOk, Some, codes};
 ghost use Rattle.serde_json.specs.Data.{object, string, depth, put as with_member};
-ghost use Rattle.serde_json.specs.View.{view};
+ghost use Rattle.serde_json.specs.View.{view, members_view};
 ghost use Rattle.pres_wire.specs.Fields.{whole, session_json, path_json, message_number, session_of, path_of};
 ghost use Rattle.pres_body.specs.Entries.{entry_object, entry_json};
 ghost use Rattle.pres_body.specs.Reads.{HasForm};
@@ -27,7 +27,8 @@ fn entry_value(
 ) -> Result<Value, AllocError>
     ensures json { IfOk result (λ made. view made
         ≡ object (with_member (codes "e") (string word.now)
-        (with_member (codes "s") (session_json session.now) form))) }
+        (with_member (codes "s") (session_json session.now)
+        (members_view form.members.entries)))) }
     ensures reads_back { IfOk result (λ _.
         session_of (session_json session.now) ≡ Some session.now) }
 {

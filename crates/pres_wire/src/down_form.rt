@@ -2,7 +2,7 @@
 
 ghost use Rattle.std.specs.Prelude.{◌≡◌, ◌≤◌, ◌∷◌, [], IfOk, Some, codes};
 ghost use Rattle.serde_json.specs.Data.{depth};
-ghost use Rattle.serde_json.specs.View.{view};
+ghost use Rattle.serde_json.specs.View.{view, members_view};
 ghost use Rattle.pres_tree.specs.Printing.{json_of};
 ghost use Rattle.pres_tree.specs.Scalars.{scalar_printing};
 ghost use Rattle.pres_wire.specs.Fields.{message, members_of, whole, stamp_json, session_json, path_json, message_number, session_of, path_of};
@@ -74,7 +74,7 @@ pub(crate) fn write_form(
     done: Number,
     out: &Kept,
 ) -> Result<Form, AllocError>
-    ensures fields { IfOk result (λ made. made
+    ensures fields { IfOk result (λ made. members_view made.members.entries
         ≡ members_of ((codes "q", whole q) ∷ (codes "n", whole n) ∷ (codes "done", whole done)
         ∷ (codes "out", out_json out.now) ∷ [])) }
     ensures q { IfOk result (λ _. message_number (whole q) ≡ Some q) }
@@ -203,7 +203,7 @@ pub(crate) fn place_form(
     path: &Path,
     value: &Tree,
 ) -> Result<Form, AllocError>
-    ensures fields { IfOk result (λ made. made
+    ensures fields { IfOk result (λ made. members_view made.members.entries
         ≡ members_of ((codes "q", whole q) ∷ (codes "path", path_json path.now)
         ∷ (codes "value", json_of scalar_printing value.now) ∷ [])) }
     ensures q { IfOk result (λ _. message_number (whole q) ≡ Some q) }

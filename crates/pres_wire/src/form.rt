@@ -2,35 +2,24 @@
 
 ghost use Rattle.std.specs.Prelude.{◌≡◌, IfOk, Some, codes};
 ghost use Rattle.serde_json.specs.Data.{object, string, no_members, put as with_member};
-ghost use Rattle.serde_json.specs.View.{view};
+ghost use Rattle.serde_json.specs.View.{view, members_view};
 ghost use Rattle.pres_wire.specs.Fields.{whole, session_json, message_number, session_of};
 
 use crate::id::SessionId;
 use crate::number::Number;
 use serde_json::{Map, Value};
 use std::alloc::{AllocError, Global};
-use std::marker::Model;
 
-/// The fields of a JSON object so far. A field is put in whatever the order. Contracts see the
-/// members of the object.
+/// The fields of a JSON object so far. A field is put in whatever the order.
 #[derive(Drop)]
 pub struct Form {
-    members: Map<String, Value>,
-}
-
-impl Model for Form {
-    ghost use Rattle.serde_json.specs.Data.{Members};
-    ghost use Rattle.serde_json.specs.View.{members_view};
-
-    ghost Value = { Members };
-
-    ghost view = { λ f. members_view f.members.entries };
+    pub members: Map<String, Value>,
 }
 
 impl Form {
     /// No fields. It takes no memory.
     pub fn new(alloc: Global) -> Form
-        ensures { result ≡ no_members }
+        ensures { members_view result.members.entries ≡ no_members }
     {
         Form {
             members: Map::new(alloc),
@@ -39,7 +28,8 @@ impl Form {
 
     /// With the value under the name.
     pub fn value(self, alloc: Global, name: &str, value: Value) -> Result<Form, AllocError>
-        ensures { IfOk result (λ made. made ≡ with_member name.now (view value) self) }
+        ensures { IfOk result (λ made. members_view made.members.entries
+            ≡ with_member name.now (view value) (members_view self.members.entries)) }
     {
         let Form { mut members } = self;
         serde_json::put(&mut members, alloc, name, value)?;
@@ -48,7 +38,8 @@ impl Form {
 
     /// With the number under the name.
     pub fn number(self, alloc: Global, name: &str, number: Number) -> Result<Form, AllocError>
-        ensures fields { IfOk result (λ made. made ≡ with_member name.now (whole number) self) }
+        ensures fields { IfOk result (λ made. members_view made.members.entries
+            ≡ with_member name.now (whole number) (members_view self.members.entries)) }
         ensures reads_back { message_number (whole number) ≡ Some number }
     {
         self.value(alloc, name, Value::from(number.get()))
@@ -56,7 +47,7 @@ impl Form {
 
     /// The object of the fields.
     pub fn object(self) -> Value
-        ensures { view result ≡ object self }
+        ensures { view result ≡ object (members_view self.members.entries) }
     {
         Value::Object(self.members)
     }
@@ -65,7 +56,7 @@ impl Form {
     pub(crate) fn done(self, alloc: Global, word: &str) -> Result<Value, AllocError>
         ensures { IfOk result (λ made. view made
             ≡ object (with_member (codes "m") (string word.now)
-            self)) }
+            (members_view self.members.entries))) }
     {
         let word = Value::try_from_str(alloc, word)?;
         let form = self.value(alloc, "m", word)?;
@@ -82,7 +73,7 @@ impl Form {
         ensures json { IfOk result (λ made. view made
             ≡ object (with_member (codes "m") (string word.now)
             (with_member (codes "s") (session_json session.now)
-            self))) }
+            (members_view self.members.entries)))) }
         ensures reads_back { IfOk result (λ _.
             session_of (session_json session.now) ≡ Some session.now) }
     {
@@ -105,7 +96,7 @@ impl Form {
             ≡ object (with_member (codes "m") (string word.now)
             (with_member (codes "s") (session_json session.now)
             (with_member (codes "r") (whole r)
-            (with_member (codes "z") (whole z) self))))) }
+            (with_member (codes "z") (whole z) (members_view self.members.entries)))))) }
         ensures session { IfOk result (λ _.
             session_of (session_json session.now) ≡ Some session.now) }
         ensures r { IfOk result (λ _. message_number (whole r) ≡ Some r) }
