@@ -1,7 +1,6 @@
 -- The text of entries is read as they are.
-use Rattle.std.proofs.Common.{◌≡◌, ℕ, ◌≤◌, List, [], ◌∷◌, map, true, false, cond, Option, Some, None, refl, sym, ap, subst, ◌∙◌, Result, Ok, Err, arith}
-use Rattle.std.proofs.lemmas.Bool.{false≢true}
-use Rattle.std.specs.Prelude.{IsTrue, IfOk, IfSome, String, string_bytes, option_and_then}
+use Rattle.std.proofs.Common.{◌≡◌, ◌≤◌, List, [], ◌∷◌, map, cond, Some, None, refl, ap, ◌∙◌, Result, Ok, Err, arith}
+use Rattle.std.specs.Prelude.{IsTrue, IfOk, String, string_bytes, option_and_then}
 use Rattle.std.specs.declared.alloc.AllocError.{AllocError}
 use Rattle.std.specs.declared.alloc.Global.{Global}
 use Rattle.serde_json.specs.Data.{Data, depth}
@@ -9,7 +8,6 @@ use Rattle.serde_json.specs.Read.{read}
 use Rattle.pres_log.specs.declared.entry.Entry.{Entry}
 use Rattle.pres_log.specs.declared.entry.Entry.TheVariants as entry
 use Rattle.pres_log.specs.Batches.{may_hold, ends_and_opens}
-use Rattle.pres_body.specs.Entries.{entries_json}
 use Rattle.pres_body.specs.Reads.{list_of, entry_read, if_together, entries_read, entries_in, with_one_null}
 
 same_pair : (e f : Entry) → ends_and_opens (with_one_null e) (with_one_null f) ≡ ends_and_opens e f
@@ -50,23 +48,3 @@ text_read (Ok t) made d es is low reads h =
     let few : depth made ≤ 127 = omega (arith, low, ap depth is) in
     λ held. ap (option_and_then entries_read) (h few) ∙ ap entries_read is ∙ held_read d es held reads
 text_read (Err e) made d es is low reads h = tt
-
-held_if : (es fs : List Entry) → if_together es ≡ Some fs → IsTrue (may_hold fs)
-held_if es fs h = elim (may_hold es) as (λ b. may_hold es ≡ b → cond b (Some es) None ≡ Some fs → IsTrue (may_hold fs)) [
-  | true ↦ λ e k. let same : es ≡ fs = cc in ap may_hold (sym same) ∙ e
-  | false ↦ λ e k. absurd cc
-] refl h
-
-held_of : (o : Option (List Entry)) (fs : List Entry) → option_and_then if_together o ≡ Some fs → IsTrue (may_hold fs)
-held_of None fs h = absurd cc
-held_of (Some es) fs h = held_if es fs h
-
-held_in : (o : Option Data) (fs : List Entry) → option_and_then entries_read o ≡ Some fs → IsTrue (may_hold fs)
-held_in None fs h = absurd cc
-held_in (Some d) fs h = held_of (list_of entry_read d) fs h
-
--- what is found may be held by a batch
-pub found_hold : (r : Result (Option (List Entry)) AllocError) (text : List ℕ) → IfOk r (λ found. found ≡ entries_in text) → IfOk r (λ found. IfSome found (λ es. IsTrue (may_hold es)))
-found_hold (Ok None) text h = tt
-found_hold (Ok (Some es)) text h = held_in (read text) es (sym h)
-found_hold (Err e) text h = tt

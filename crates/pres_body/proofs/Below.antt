@@ -1,12 +1,11 @@
 -- Values that fit at a path are read there as they are printed, and nest few levels.
-use Rattle.std.proofs.Common.{◌≡◌, ℕ, ◌++◌, ◌+◌, ◌-◌, ◌≤◌, ◌<◌, length, length-append, cond, Option, Some, None, is_none, sym, ap, ◌∙◌, arith}
+use Rattle.std.proofs.Common.{◌≡◌, ◌-◌, ◌≤◌, length, length-append, cond, Option, Some, None, is_none, sym, ap, ◌∙◌, arith}
 use Rattle.serde_json.specs.Data.{Data, depth}
 use Rattle.pres_tree.specs.declared.fault.TreeFault.{TreeFault}
 use Rattle.pres_tree.specs.declared.scalar.Scalar.{Scalar}
-use Rattle.pres_tree.specs.Keys.{Key}
 use Rattle.pres_tree.specs.Paths.{Path}
 use Rattle.pres_tree.specs.Rows.{Rows, Fits, height}
-use Rattle.pres_tree.specs.Reading.{Reading, rows_of, fault_of, levels_below}
+use Rattle.pres_tree.specs.Reading.{Reading, fault_of}
 use Rattle.pres_tree.specs.Printing.{ReadsBack, json_of}
 use Rattle.pres_tree.specs.Scalars.{scalar_reading, scalar_printing}
 use Rattle.pres_write.specs.declared.draft.Slot.{Slot}

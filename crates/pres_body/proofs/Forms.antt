@@ -1,9 +1,8 @@
 -- The JSON of parts and of entries is read as they are, where that of their parts is.
-use Rattle.std.proofs.Common.{◌≡◌, ℕ, ◌≤◌, List, [], map, true, cond, Option, Some, None, ap, subst, ◌∙◌, Result, Ok, Err}
-use Rattle.std.specs.Prelude.{IfOk, option_and_then, option_map}
+use Rattle.std.proofs.Common.{◌≡◌, ℕ, ◌≤◌, List, [], map, Option, Some, None, ap, subst, ◌∙◌, Result, Ok, Err}
+use Rattle.std.specs.Prelude.{IfOk, option_map}
 use Rattle.std.specs.Option.{unwrap_or}
-use Rattle.std.specs.Result.{result_ok}
-use Rattle.serde_json.specs.Data.{Data, depth}
+use Rattle.serde_json.specs.Data.{depth}
 use Rattle.pres_tree.specs.declared.scalar.Scalar.{Scalar}
 use Rattle.pres_tree.specs.Paths.{Path}
 use Rattle.pres_tree.specs.Rows.{Rows, rows_in}
@@ -11,12 +10,7 @@ use Rattle.pres_tree.specs.Printing.{json_of}
 use Rattle.pres_tree.specs.Scalars.{scalar_reading, scalar_printing}
 use Rattle.pres_write.specs.declared.basic.Basic.{Basic}
 use Rattle.pres_write.specs.declared.draft.Slot.{Slot}
-use Rattle.pres_write.specs.declared.op.Op.{Op}
-use Rattle.pres_write.specs.declared.outcome.Outcome.{Outcome}
-use Rattle.pres_write.specs.declared.outcome.Outcome.TheVariants.{Wrote}
 use Rattle.pres_write.specs.Drafts.{slot_reading, slot_printing}
-use Rattle.pres_write.specs.OpForms.{op_read, op_json}
-use Rattle.pres_write.specs.Unconditionals.{may_be_puts, as_puts}
 use Rattle.pres_write.specs.Updates.{Places}
 use Rattle.pres_wire.specs.declared.id.SessionId.{SessionId}
 use Rattle.pres_wire.specs.declared.id.Why.{Why}
@@ -24,8 +18,8 @@ use Rattle.pres_wire.specs.Fields.{whole, session_json, message_number, session_
 use Rattle.pres_wire.specs.DownForms.{why_word}
 use Rattle.pres_wire.specs.DownReads.{given, why_of}
 use Rattle.pres_log.specs.declared.entry.Entry.TheVariants as entry
-use Rattle.pres_body.specs.Entries.{list_json, row_json, write_json, put_json, outcome_json, number_or_null}
-use Rattle.pres_body.specs.Reads.{list_of, rows_below, write_in, put_in, puts_in, outcome_in, number_or_none, one_null, HasForm}
+use Rattle.pres_body.specs.Entries.{list_json, row_json, write_json, put_json, number_or_null}
+use Rattle.pres_body.specs.Reads.{list_of, rows_below, write_in, puts_in, number_or_none, HasForm}
 use Rattle.pres_body.proofs.Below.{write_low, put_low}
 use Rattle.pres_body.proofs.Listed.{map-same}
 
@@ -49,15 +43,8 @@ pub put_nests : (put : Path × Rows Slot) (p : Path) (v : Rows Slot) → p ≡ p
 put_nests put p v there draft reads =
     subst (λ (row : Path × Rows Slot). depth (row_json row.0 (json_of slot_printing row.1)) ≤ 34) (λ i. (there i, draft i)) (put_low p v reads)
 
-pub puts_read : (puts : Places) → may_be_puts puts ≡ true → list_of put_in (list_json put_json puts) ≡ Some (map (λ put. put) puts) → puts_in (list_json put_json puts) ≡ Some puts
-puts_read puts passes reads =
-    ap (option_and_then as_puts) (reads ∙ ap Some (map-same puts)) ∙ ap (λ b. cond b (Some puts) None) passes
-
 pub writes_read : (writes : List Basic) → list_of write_in (list_json write_json writes) ≡ Some (map (λ w. w) writes) → list_of write_in (list_json write_json writes) ≡ Some writes
 writes_read writes reads = reads ∙ ap Some (map-same writes)
-
-pub wrote_read : (writes : List Basic) → list_of write_in (list_json write_json writes) ≡ Some (map (λ w. w) writes) → outcome_in (outcome_json (Wrote writes)) ≡ Some (Wrote writes)
-wrote_read writes reads = ap (option_map Wrote) (writes_read writes reads)
 
 -- ---- entries
 
@@ -71,9 +58,3 @@ ended_form s q why rows is_q is_why is_rows is_s =
 
 pub left_form : (s : SessionId) (q : ℕ) (puts : Places) → message_number (whole q) ≡ Some q → puts_in (list_json put_json puts) ≡ Some puts → session_of (session_json s) ≡ Some s → HasForm (entry.Left s q puts)
 left_form s q puts is_q is_puts is_s = λ i. given (is_q i) (λ q. given (is_s i) (λ s. given (is_puts i) (λ puts. Some (entry.Left s q puts))))
-
-pub done_form : (s : SessionId) (q n : ℕ) (op : Op) (out : Outcome) → message_number (whole q) ≡ Some q → message_number (whole n) ≡ Some n → op_read (op_json op) ≡ Ok op → outcome_in (outcome_json out) ≡ Some (one_null out)
-    → session_of (session_json s) ≡ Some s → HasForm (entry.Op s q n op out)
-done_form s q n op out is_q is_n is_op is_out is_s =
-    λ i. given (is_q i) (λ q. given (is_n i) (λ n. given (is_s i) (λ s.
-    given {A = Op × Outcome} (given (result_ok (is_op i)) (λ op. given (is_out i) (λ out. Some (op, out)))) (λ done. Some (entry.Op s q n done.0 done.1)))))

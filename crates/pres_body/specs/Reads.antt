@@ -19,8 +19,6 @@ use Rattle.pres_write.specs.OpForms.{op_read}
 use Rattle.pres_write.specs.Unconditionals.{as_puts}
 use Rattle.pres_write.specs.Updates.{Places}
 use Rattle.pres_wire.specs.declared.id.SessionId.{SessionId}
-use Rattle.pres_wire.specs.declared.id.Why.{Why}
-use Rattle.pres_wire.specs.declared.down.Limit.{Limit}
 use Rattle.pres_wire.specs.Fields.{is_word, field_of, message_number, path_of, session_of}
 use Rattle.pres_wire.specs.DownReads.{given, pair_of, value_of, why_in, limit_in}
 use Rattle.pres_log.specs.declared.entry.Entry.{Entry}
