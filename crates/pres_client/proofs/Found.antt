@@ -9,7 +9,7 @@ use Rattle.pres_tree.specs.declared.scalar.Scalar.{Scalar}
 use Rattle.pres_tree.specs.Paths.{Path, path_cmp, same_path}
 use Rattle.pres_tree.specs.Rows.{Rows}
 use Rattle.pres_tree.specs.Falls.{path_total, path_same as path_apart}
-use Rattle.pres_tree.proofs.PathOrder.{path_same, path_itself, path_flip, same_by_cmp}
+use Rattle.pres_tree.proofs.PathOrder.{path_same, path_itself, same_by_cmp}
 use Rattle.pres_wire.specs.declared.values.PathValue.{PathValue}
 use Rattle.pres_wire.specs.Values.{rise, Rising}
 use Rattle.pres_wire.specs.Views.{value_in}

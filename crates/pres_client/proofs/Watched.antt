@@ -1,14 +1,10 @@
 -- What is told of the paths that are listened to.
-use Rattle.std.proofs.Common.{ℕ, ◌≡◌, ◌++◌, List, [], ◌∷◌, Some, None, refl}
-use Rattle.pres_tree.specs.declared.scalar.Scalar.{Scalar}
+use Rattle.std.proofs.Common.{ℕ, ◌≡◌, ◌++◌, List, [], ◌∷◌, refl}
 use Rattle.pres_tree.specs.Paths.{Path}
-use Rattle.pres_tree.specs.Rows.{Rows}
 use Rattle.pres_wire.specs.declared.up.Up.{Up}
 use Rattle.pres_mail.specs.declared.notice.Notice.{Notice}
 use Rattle.pres_mail.specs.declared.queued.Queued.{Queued}
-use Rattle.pres_mail.specs.declared.watch.Watch.{Watch}
-use Rattle.pres_mail.specs.declared.watch.Shown.TheVariants.{Live}
-use Rattle.pres_mail.specs.Watches.{Watches, watch_of, with_watch, fresh, tell}
+use Rattle.pres_mail.specs.Watches.{Watches, with_watch, fresh}
 use Rattle.pres_client.specs.Clients.{State}
 use Rattle.pres_client.specs.Calls.{enqueue, sent_now}
 

@@ -1,11 +1,10 @@
 -- What each call makes of a client, and why it is refused.
-use Rattle.std.specs.Prelude.{◌≡◌, ◌≤◌, ◌+◌, ◌&&◌, ◌||◌, ℕ, Bool, false, not, List, [], ◌∷◌, ◌++◌, length, filter, Option, Some, None, if◌then◌else◌, nat_le, nat_lt, option_map, unwrap_or}
-use Rattle.std.specs.List.{filter_map}
+use Rattle.std.specs.Prelude.{◌≡◌, ◌≤◌, ◌+◌, ◌&&◌, ◌||◌, ℕ, Bool, not, List, [], ◌∷◌, ◌++◌, length, filter, Option, Some, None, if◌then◌else◌, nat_le, option_map, unwrap_or}
 use Rattle.std.specs.Option.{is_some}
 use Rattle.pres_tree.specs.declared.fault.TreeFault.TheVariants.{TooDeep}
 use Rattle.pres_tree.specs.declared.scalar.Scalar.{Scalar}
-use Rattle.pres_tree.specs.Paths.{Path, max_depth}
-use Rattle.pres_tree.specs.Rows.{Rows, depth_of}
+use Rattle.pres_tree.specs.Paths.{Path}
+use Rattle.pres_tree.specs.Rows.{Rows}
 use Rattle.pres_write.specs.declared.draft.Slot.{Slot}
 use Rattle.pres_write.specs.declared.fault.WriteFault.{WriteFault}
 use Rattle.pres_write.specs.declared.fault.WriteFault.TheVariants.{Tree}

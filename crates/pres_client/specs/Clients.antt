@@ -1,14 +1,10 @@
 -- A client as plain data: what it waits for, what it shows, and what it has to hand out.
-use Rattle.std.specs.Prelude.{◌≡◌, ◌+◌, ◌≤◌, ◌==◌, ℕ, Bool, true, false, List, [], ◌∷◌, map, length, max, Option, Some, None, if◌then◌else◌, unwrap_or, nat_le, not, filter}
-use Rattle.std.specs.Ordering.{nat_cmp}
-use Rattle.std.specs.FinMap.Entries.{find, put}
+use Rattle.std.specs.Prelude.{◌≡◌, ◌+◌, ◌≤◌, ℕ, Bool, true, false, List, [], length, max, Option, Some, None, if◌then◌else◌, unwrap_or, nat_le}
 use Rattle.pres_tree.specs.declared.scalar.Scalar.{Scalar}
-use Rattle.pres_tree.specs.Paths.{Path, path_cmp, same_path}
+use Rattle.pres_tree.specs.Paths.{Path}
 use Rattle.pres_tree.specs.Rows.{Rows}
-use Rattle.pres_write.specs.declared.op.Op.TheVariants as op
 use Rattle.pres_ids.specs.declared.id.SessionId.{SessionId}
 use Rattle.pres_wire.specs.declared.up.Up.{Up}
-use Rattle.pres_wire.specs.declared.up.Up.TheVariants as up
 use Rattle.pres_ids.specs.Ids.{ClientId}
 use Rattle.pres_ids.specs.Numbers.{greatest_number}
 use Rattle.pres_mail.specs.Queues.{messages, count_writes}
@@ -17,11 +13,6 @@ use Rattle.pres_mail.specs.Asks.{Asks}
 use Rattle.pres_client.specs.declared.client.Phase.{Phase}
 use Rattle.pres_client.specs.declared.client.Phase.TheVariants as phase
 use Rattle.pres_mail.specs.declared.queued.Queued.{Queued}
-use Rattle.pres_mail.specs.declared.queued.Queued.TheVariants as queued
-use Rattle.pres_mail.specs.declared.watch.Watch.{Watch}
-use Rattle.pres_mail.specs.declared.watch.Shown.{Shown}
-use Rattle.pres_mail.specs.declared.watch.Shown.TheVariants as shown
-use Rattle.pres_mail.specs.declared.ask.Ask.{Ask}
 use Rattle.pres_mail.specs.declared.notice.Notice.{Notice}
 
 pub record State : Type 0 where

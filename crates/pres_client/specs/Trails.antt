@@ -10,7 +10,6 @@ use Rattle.pres_wire.specs.declared.down.Down.TheVariants as down
 use Rattle.pres_ids.specs.declared.id.SessionId.{SessionId}
 use Rattle.pres_ids.specs.Ids.{ClientId}
 use Rattle.pres_wire.specs.Views.{seen_in}
-use Rattle.pres_mail.specs.Queues.{messages}
 use Rattle.pres_mail.specs.Watches.{watch_of}
 use Rattle.pres_client.specs.Clients.{State, start, is_online, view}
 use Rattle.pres_client.specs.Receiving.{is_next, fits, first_listen, is_last}

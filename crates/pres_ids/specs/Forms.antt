@@ -1,9 +1,12 @@
 -- The JSON of ids and numbers, and what is read of it.
-use Rattle.std.specs.Prelude.{◌&&◌, ℕ, Bool, List, nat_le, if◌then◌else◌, Option, Some, None, option_and_then}
+use Rattle.std.specs.Prelude.{◌&&◌, ◌==◌, ℕ, Bool, List, nat_le, if◌then◌else◌, codes, Option, Some, None, option_and_then}
+use Rattle.std.specs.Cmp.Lexicographic.{pointwise}
 use Rattle.serde_json.specs.Data.{Data, number, string, array, unsigned, Items, no_items, item}
 use Rattle.serde_json.specs.Find.{as_str, as_array, as_number, as_u64}
 use Rattle.pres_ids.specs.declared.id.SessionId.{SessionId}
 use Rattle.pres_ids.specs.declared.id.Stamp.{Stamp}
+use Rattle.pres_ids.specs.declared.id.Why.{Why}
+use Rattle.pres_ids.specs.declared.id.Why.TheVariants as why
 use Rattle.pres_ids.specs.Ids.{ClientId, is_client_id}
 use Rattle.pres_ids.specs.Numbers.{greatest_number}
 
@@ -73,3 +76,29 @@ session_in_items (item c (item i (item a (item d ds)))) = None
 
 abbrev pub session_of : Data → Option SessionId
 session_of d = option_and_then session_in_items (as_array d)
+
+-- ---- why a session ended
+
+abbrev pub is_word : List ℕ → List ℕ → Bool
+is_word word name = pointwise ◌==◌ word name
+
+abbrev pub why_word : Why → List ℕ
+why_word why.Bye = codes "bye"
+why_word why.Lost = codes "lost"
+why_word why.Lease = codes "lease"
+why_word why.Superseded = codes "superseded"
+why_word why.Slow = codes "slow"
+why_word why.Restart = codes "restart"
+
+abbrev pub why_of : List ℕ → Option Why
+why_of word =
+    if is_word word (codes "bye") then Some why.Bye
+    else (if is_word word (codes "lost") then Some why.Lost
+    else (if is_word word (codes "lease") then Some why.Lease
+    else (if is_word word (codes "superseded") then Some why.Superseded
+    else (if is_word word (codes "slow") then Some why.Slow
+    else (if is_word word (codes "restart") then Some why.Restart else None)))))
+
+-- a text that is a word for why a session ended
+abbrev pub why_in : Data → Option Why
+why_in d = option_and_then why_of (as_str d)

@@ -3,8 +3,7 @@
 ghost use Rattle.std.specs.Prelude.{◌≡◌, IsTrue, IfOk, MatchResult, Some, if◌then◌else◌};
 ghost use Rattle.std.specs.List.{list_all};
 ghost use Rattle.serde_json.specs.View.{view};
-ghost use Rattle.pres_ids.specs.Forms.{stamp_json, session_json, session_of};
-ghost use Rattle.pres_ids.specs.Forms.{stamp_in};
+ghost use Rattle.pres_ids.specs.Forms.{stamp_json, session_json, session_of, stamp_in, why_word, why_of, why_in};
 ghost use Rattle.pres_ids.specs.Ids.{is_id_byte, is_client_id, is_earlier, stamp_of};
 ghost use Rattle.pres_ids.specs.declared.id.IdFault.TheVariants.{Memory, NotAnId};
 
@@ -262,4 +261,43 @@ pub enum Why {
     Slow,
     /// The server was started again.
     Restart,
+}
+
+impl Why {
+    /// The word for it.
+    pub fn word(self) -> &'static str
+        ensures word { result.now ≡ why_word self }
+        ensures form { why_of (why_word self) ≡ Some self }
+    {
+        match self {
+            Why::Bye => "bye",
+            Why::Lost => "lost",
+            Why::Lease => "lease",
+            Why::Superseded => "superseded",
+            Why::Slow => "slow",
+            Why::Restart => "restart",
+        }
+    }
+
+    // The one that the word is for.
+    fn of_word(word: &str) -> Option<Why>
+        ensures { result ≡ why_of word.now }
+    {
+        match word {
+            "bye" => Some(Why::Bye),
+            "lost" => Some(Why::Lost),
+            "lease" => Some(Why::Lease),
+            "superseded" => Some(Why::Superseded),
+            "slow" => Some(Why::Slow),
+            "restart" => Some(Why::Restart),
+            _ => None,
+        }
+    }
+
+    /// The one whose word a JSON value is, none where it is no such word.
+    pub fn from_value(value: &Value) -> Option<Why>
+        ensures { result ≡ why_in (view value.now) }
+    {
+        Why::of_word(value.as_str()?)
+    }
 }

@@ -119,7 +119,7 @@ slot_flat = record { low = slot_low; booleans = λ b. refl; numbers = λ x. fixe
 
 -- ---- parts that are read without a fault
 
-draft_low : (v : Rows Slot) (n : ℕ) → fault_of slot_reading n (json_of slot_printing v) ≡ None → depth (json_of slot_printing v) ≤ n
+pub draft_low : (v : Rows Slot) (n : ℕ) → fault_of slot_reading n (json_of slot_printing v) ≡ None → depth (json_of slot_printing v) ≤ n
 draft_low v n h = rows_low slot_reading slot_printing slot_flat slot_solid v n h
 
 value_low : (v : Rows Scalar) (n : ℕ) → fault_of fixed_reading n (json_of scalar_printing v) ≡ None → depth (json_of scalar_printing v) ≤ n

@@ -24,7 +24,7 @@ first_holds p a v = ap (λ b. is_some (cond b (Some a) (leaf_at v p))) ((eq_by_c
 rest_holds : {A : Type 0} (p : Path) (a : A) (v : Rows A) (x : Path) → Holds v x → Holds ((p, a) ∷ v) x
 rest_holds p a v x h = elim (eq_by_cmp path_cmp x p) as (λ b. is_some (cond b (Some a) (leaf_at v x)) ≡ true) [ true ↦ refl | false ↦ h ]
 
-height_within : {A : Type 0} (v : Rows A) (n : ℕ) → ((x : Path) → Holds v x → length x < n) → height v ≤ n
+pub height_within : {A : Type 0} (v : Rows A) (n : ℕ) → ((x : Path) → Holds v x → length x < n) → height v ≤ n
 height_within [] n h = omega arith
 height_within ((p, a) ∷ v) n h =
     let here = h p (first_holds p a v) in
@@ -39,7 +39,7 @@ value_flat_low (string s) a h = omega arith
 value_flat_low (array ds) a h = cc
 value_flat_low (object ms) a h = cc
 
-value_flat : Flat scalar_reading
+pub value_flat : Flat scalar_reading
 value_flat = record { low = value_flat_low; booleans = λ b. refl; numbers = number_leaf; strings = λ s. refl }
 
 tree_fault : (v : Rows Scalar) (d : Data) → IsValue v → ReadsBack scalar_reading v d → fault_of scalar_reading 33 d ≡ None

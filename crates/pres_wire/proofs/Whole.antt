@@ -43,7 +43,7 @@ either_part : (a b : Bool) → (a || b) ≡ false → (a ≡ false) × (b ≡ fa
 either_part false b h = (refl, h)
 either_part true b h = cc
 
-neither : (a b : Bool) → a ≡ false → b ≡ false → (a || b) ≡ false
+pub neither : (a b : Bool) → a ≡ false → b ≡ false → (a || b) ≡ false
 neither false b h k = k
 neither true b h k = h
 
@@ -88,7 +88,7 @@ whole_scalar (Int (pos n)) = refl
 whole_scalar (Int (negsuc n)) = refl
 whole_scalar (Text s) = refl
 
-whole_slot : (s : Slot) → has_float (slot_printing s) ≡ false
+pub whole_slot : (s : Slot) → has_float (slot_printing s) ≡ false
 whole_slot (Fixed s) = whole_scalar s
 whole_slot Timestamp = refl
 
@@ -106,7 +106,7 @@ whole_values : (places : Places) → members_have_float (values_json places) ≡
 whole_values [] = refl
 whole_values (e ∷ es) = whole_puts (drop 1 (path_text e.0)) (json_of slot_printing e.1) (sorted_by (slice_cmp nat_cmp) (named es)) (whole_rows slot_printing e.1 whole_slot) (whole_values es)
 
-whole_op : (op : Op) → has_float (op_json op) ≡ false
+pub whole_op : (op : Op) → has_float (op_json op) ≡ false
 whole_op (Set p) = neither (has_float (json_of slot_printing p.1)) false (whole_rows slot_printing p.1 whole_slot) refl
 whole_op (Update u) = neither (members_have_float (values_json u.places)) false (whole_values u.places) refl
 whole_op (Tx t) =

@@ -17,16 +17,8 @@ use Rattle.pres_wire.specs.declared.down.Limit.TheVariants as limit
 use Rattle.pres_wire.specs.declared.down.Down.{Down}
 use Rattle.pres_wire.specs.declared.down.Down.TheVariants as down
 use Rattle.pres_wire.specs.declared.values.PathValue.{PathValue}
-use Rattle.pres_ids.specs.Forms.{whole, stamp_json, session_json}
+use Rattle.pres_ids.specs.Forms.{whole, stamp_json, session_json, why_word}
 use Rattle.pres_wire.specs.Fields.{Named, message, path_json}
-
-abbrev pub why_word : Why → List ℕ
-why_word why.Bye = codes "bye"
-why_word why.Lost = codes "lost"
-why_word why.Lease = codes "lease"
-why_word why.Superseded = codes "superseded"
-why_word why.Slow = codes "slow"
-why_word why.Restart = codes "restart"
 
 abbrev pub code_number : Code → ℕ
 code_number code.Bad = 1

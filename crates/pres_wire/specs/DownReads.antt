@@ -25,8 +25,8 @@ use Rattle.pres_wire.specs.declared.down.Down.{Down}
 use Rattle.pres_wire.specs.declared.down.Down.TheVariants as down
 use Rattle.pres_wire.specs.declared.values.PathValue.{PathValue}
 use Rattle.pres_wire.specs.DownForms.{down_json}
-use Rattle.pres_ids.specs.Forms.{message_number, message_count, session_of, pair_of, stamp_in}
-use Rattle.pres_wire.specs.Fields.{is_word, field_of, path_of}
+use Rattle.pres_ids.specs.Forms.{is_word, message_number, message_count, session_of, pair_of, stamp_in, why_in}
+use Rattle.pres_wire.specs.Fields.{field_of, path_of}
 use Rattle.pres_wire.specs.UpForms.{and_then, needed, session_field, number_field, path_field}
 use Rattle.pres_wire.specs.Values.{rise}
 
@@ -39,19 +39,6 @@ given o f = option_and_then f o
 -- a value that a tree is read of without a fault
 abbrev pub value_of : Data → Option (Rows Scalar)
 value_of d = if is_none (fault_of scalar_reading (max_depth + 1) d) then Some (rows_of scalar_reading d) else None
-
-abbrev pub why_of : List ℕ → Option Why
-why_of word =
-    if is_word word (codes "bye") then Some why.Bye
-    else (if is_word word (codes "lost") then Some why.Lost
-    else (if is_word word (codes "lease") then Some why.Lease
-    else (if is_word word (codes "superseded") then Some why.Superseded
-    else (if is_word word (codes "slow") then Some why.Slow
-    else (if is_word word (codes "restart") then Some why.Restart else None)))))
-
--- a text that is a word for why a session ended
-abbrev pub why_in : Data → Option Why
-why_in d = option_and_then why_of (as_str d)
 
 abbrev pub out_in : List ℕ → Option Kept
 out_in word = if is_word word (codes "wrote") then Some Wrote else None

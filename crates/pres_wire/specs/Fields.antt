@@ -1,6 +1,5 @@
 -- The fields of messages: their JSON, and what is read of it.
-use Rattle.std.specs.Prelude.{◌==◌, ℕ, Bool, List, [], ◌∷◌, if◌then◌else◌, codes, Option, Some, None, is_none, option_and_then}
-use Rattle.std.specs.Cmp.Lexicographic.{pointwise}
+use Rattle.std.specs.Prelude.{ℕ, List, [], ◌∷◌, if◌then◌else◌, codes, Option, Some, None, is_none, option_and_then}
 use Rattle.serde_json.specs.Data.{Data, string, object, Members, no_members, put}
 use Rattle.serde_json.specs.Find.{get, as_str}
 use Rattle.pres_tree.specs.Paths.{Path, segments, path_fault, path_text}
@@ -23,9 +22,6 @@ abbrev pub path_json : Path → Data
 path_json p = string (path_text p)
 
 -- ---- fields from JSON
-
-abbrev pub is_word : List ℕ → List ℕ → Bool
-is_word word name = pointwise ◌==◌ word name
 
 -- the field of this name, where it is what it has to be
 abbrev pub field_of : {A : Type 0} → (Data → Option A) → List ℕ → Data → Option A

@@ -17,8 +17,8 @@ use Rattle.pres_wire.specs.declared.fault.WireFault.TheVariants.{NotJson, TooLon
 use Rattle.pres_wire.specs.declared.up.Up.{Up}
 use Rattle.pres_wire.specs.declared.up.Up.TheVariants as up
 use Rattle.pres_wire.specs.Faults.{field_name}
-use Rattle.pres_ids.specs.Forms.{whole, session_json, message_number, session_of}
-use Rattle.pres_wire.specs.Fields.{message, path_json, is_word, field_of, path_of}
+use Rattle.pres_ids.specs.Forms.{is_word, whole, session_json, message_number, session_of}
+use Rattle.pres_wire.specs.Fields.{message, path_json, field_of, path_of}
 
 -- the JSON of a message: its word, and its fields in the order in which they are checked
 abbrev pub up_json : Up → Data

@@ -6,7 +6,7 @@ ghost use Rattle.serde_json.specs.View.{view};
 ghost use Rattle.serde_json.specs.Written.{compact_text};
 ghost use Rattle.pres_wire.specs.Messages.{session_for, number_in};
 ghost use Rattle.pres_wire.specs.DownForms.{code_number, limit_number, down_json};
-ghost use Rattle.pres_wire.specs.DownReads.{with_one_null, decoded, HasForm};
+ghost use Rattle.pres_wire.specs.DownReads.{limit_of, limit_in, with_one_null, decoded, HasForm};
 ghost use Rattle.pres_wire.specs.declared.fault.WireFault.TheVariants.{Memory};
 
 use crate::down_form::{
@@ -154,6 +154,24 @@ impl Limit {
             Limit::Plan => 1,
             Limit::Listens => 2,
         }
+    }
+
+    // The limit of the number.
+    fn of_number(number: Number) -> Option<Limit>
+        ensures { result ≡ limit_of number }
+    {
+        match number.get() {
+            1 => Some(Limit::Plan),
+            2 => Some(Limit::Listens),
+            _ => None,
+        }
+    }
+
+    /// The limit whose number a JSON value is, none where it is no such number.
+    pub fn from_value(value: &Value) -> Option<Limit>
+        ensures { result ≡ limit_in (view value.now) }
+    {
+        Limit::of_number(Number::from_value(value)?)
     }
 }
 

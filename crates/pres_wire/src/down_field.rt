@@ -2,14 +2,13 @@
 
 ghost use Rattle.std.specs.Prelude.{◌≡◌, ◌⊎◌, IfOk, MatchResult, Ok, Err};
 ghost use Rattle.serde_json.specs.View.{view};
-ghost use Rattle.pres_tree.specs.Rows.{option_of};
-ghost use Rattle.pres_wire.specs.DownReads.{why_of, why_in, out_of, limit_of, limit_in, session_or_none, ops_field, out_field, why_field, limit_field, value_field, values_field, session_or_null_field, last_field, code_of, code_field};
+ghost use Rattle.pres_wire.specs.DownReads.{out_of, session_or_none, ops_field, out_field, why_field, limit_field, value_field, values_field, session_or_null_field, last_field, code_of, code_field};
 ghost use Rattle.pres_wire.specs.declared.fault.WireFault.TheVariants.{Memory};
 
 use crate::down::{Code, Limit};
 use crate::fault::{Field, WireFault};
 use crate::field::number_field;
-use crate::part::tree_of;
+use crate::part::{held_of, tree_of};
 use crate::values::Values;
 use pres_ids::{Count, Number, SessionId, Stamp, Why};
 use pres_tree::Tree;
@@ -27,52 +26,14 @@ pub(crate) fn ops_field(message: &Value) -> Result<Count, WireFault>
         .ok_or(WireFault::Field(Field::Ops))
 }
 
-// Why a session ended, as the word says.
-fn why_of(word: &str) -> Option<Why>
-    ensures { result ≡ why_of word.now }
-{
-    match word {
-        "bye" => Some(Why::Bye),
-        "lost" => Some(Why::Lost),
-        "lease" => Some(Why::Lease),
-        "superseded" => Some(Why::Superseded),
-        "slow" => Some(Why::Slow),
-        "restart" => Some(Why::Restart),
-        _ => None,
-    }
-}
-
-fn why_in(value: &Value) -> Option<Why>
-    ensures { result ≡ why_in (view value.now) }
-{
-    why_of(value.as_str()?)
-}
-
 // Why a session ended.
 pub(crate) fn why_field(message: &Value) -> Result<Why, WireFault>
     ensures { result ≡ why_field (view message.now) }
 {
     message
         .get(Field::Why.name())
-        .and_then(why_in)
+        .and_then(Why::from_value)
         .ok_or(WireFault::Field(Field::Why))
-}
-
-// The limit of a number.
-fn limit_of(number: Number) -> Option<Limit>
-    ensures { result ≡ limit_of number }
-{
-    match number.get() {
-        1 => Some(Limit::Plan),
-        2 => Some(Limit::Listens),
-        _ => None,
-    }
-}
-
-fn limit_in(value: &Value) -> Option<Limit>
-    ensures { result ≡ limit_in (view value.now) }
-{
-    limit_of(Number::from_value(value)?)
 }
 
 // The limit that a message met.
@@ -81,7 +42,7 @@ pub(crate) fn limit_field(message: &Value) -> Result<Limit, WireFault>
 {
     message
         .get(Field::Why.name())
-        .and_then(limit_in)
+        .and_then(Limit::from_value)
         .ok_or(WireFault::Field(Field::Why))
 }
 
@@ -131,13 +92,6 @@ fn session_or_none(alloc: Global, value: &Value) -> Result<Option<Option<Session
         Some(session) => Ok(Some(Some(session))),
         None => Ok(None),
     }
-}
-
-// A place's value, none where nothing stands there.
-fn held_of(tree: Tree) -> Option<Tree>
-    ensures { result ≡ option_of tree }
-{
-    if tree.is_empty() { None } else { Some(tree) }
 }
 
 // What a write came to, as a text or an object says.

@@ -3,18 +3,16 @@
 ghost use Rattle.std.specs.Prelude.{◌≡◌, ◌≤◌, ◌∷◌, [], IfOk, Some, codes};
 ghost use Rattle.serde_json.specs.Data.{depth};
 ghost use Rattle.serde_json.specs.View.{view, members_view};
-ghost use Rattle.pres_tree.specs.Rows.{rows_in};
 ghost use Rattle.pres_tree.specs.Printing.{json_of};
 ghost use Rattle.pres_tree.specs.Scalars.{scalar_printing};
-ghost use Rattle.pres_ids.specs.Forms.{whole, stamp_json, session_json, message_number, session_of};
+ghost use Rattle.pres_ids.specs.Forms.{whole, stamp_json, session_json, message_number, session_of, stamp_in};
 ghost use Rattle.pres_wire.specs.Fields.{message, members_of, path_json, path_of};
-ghost use Rattle.pres_wire.specs.DownForms.{why_word, out_json, session_or_null, down_json};
-ghost use Rattle.pres_ids.specs.Forms.{stamp_in};
-ghost use Rattle.pres_wire.specs.DownReads.{session_or_none, why_of, one_null, out_of, value_of, HasForm};
+ghost use Rattle.pres_wire.specs.DownForms.{out_json, session_or_null, down_json};
+ghost use Rattle.pres_wire.specs.DownReads.{session_or_none, one_null, out_of, value_of, HasForm};
 
 use crate::down::{Code, Down, Limit};
 use crate::form::Form;
-use crate::part::tree_value;
+use crate::part::{held_value, tree_value};
 use crate::values::Values;
 use pres_ids::{Count, Number, SessionId, Stamp, Why};
 use pres_tree::{Path, Tree};
@@ -48,37 +46,9 @@ pub(crate) fn gone_value(
     ensures json { IfOk result (λ made. view made ≡ down_json (Down.Gone session.now r z why)) }
     ensures form { IfOk result (λ _. HasForm (Down.Gone session.now r z why)) }
 {
-    let word = Value::try_from_str(alloc, word_of(why))?;
+    let word = Value::try_from_str(alloc, why.word())?;
     let form = Form::new(alloc).value(alloc, "why", word)?;
     form.sent(alloc, "gone", session, r, z)
-}
-
-// The word for why a session ended.
-fn word_of(why: Why) -> &'static str
-    ensures word { result.now ≡ why_word why }
-    ensures form { why_of (why_word why) ≡ Some why }
-{
-    match why {
-        Why::Bye => "bye",
-        Why::Lost => "lost",
-        Why::Lease => "lease",
-        Why::Superseded => "superseded",
-        Why::Slow => "slow",
-        Why::Restart => "restart",
-    }
-}
-
-// The JSON value of a value that a place held.
-fn held_value(alloc: Global, held: &Option<Tree>) -> Result<Value, AllocError>
-    ensures json { IfOk result (λ made. view made ≡ json_of scalar_printing (rows_in held.now)) }
-    ensures reads_back { IfOk result (λ _.
-        value_of (json_of scalar_printing (rows_in held.now)) ≡ Some (rows_in held.now)) }
-    ensures low { IfOk result (λ _. depth (json_of scalar_printing (rows_in held.now)) ≤ 33) }
-{
-    match held {
-        Some(value) => tree_value(alloc, value),
-        None => Ok(Value::Null),
-    }
 }
 
 // The JSON value of what a write came to.

@@ -9,15 +9,15 @@ use pres_ids::{Number, SessionId};
 use serde_json::{Map, Value};
 use std::alloc::{AllocError, Global};
 
-// The fields of a message so far. A field is put in whatever the order.
+/// The fields of a JSON object so far. A field is put in whatever the order.
 #[derive(Drop)]
-pub(crate) struct Form {
-    members: Map<String, Value>,
+pub struct Form {
+    pub members: Map<String, Value>,
 }
 
 impl Form {
-    // No fields.
-    pub(crate) fn new(alloc: Global) -> Form
+    /// No fields. It takes no memory.
+    pub fn new(alloc: Global) -> Form
         ensures { members_view result.members.entries ≡ no_members }
     {
         Form {
@@ -25,8 +25,8 @@ impl Form {
         }
     }
 
-    // With the value under the name.
-    pub(crate) fn value(self, alloc: Global, name: &str, value: Value) -> Result<Form, AllocError>
+    /// With the value under the name.
+    pub fn value(self, alloc: Global, name: &str, value: Value) -> Result<Form, AllocError>
         ensures { IfOk result (λ made. members_view made.members.entries
             ≡ with_member name.now (view value) (members_view self.members.entries)) }
     {
@@ -35,18 +35,20 @@ impl Form {
         Ok(Form { members })
     }
 
-    // With the number under the name.
-    pub(crate) fn number(
-        self,
-        alloc: Global,
-        name: &str,
-        number: Number,
-    ) -> Result<Form, AllocError>
+    /// With the number under the name.
+    pub fn number(self, alloc: Global, name: &str, number: Number) -> Result<Form, AllocError>
         ensures fields { IfOk result (λ made. members_view made.members.entries
             ≡ with_member name.now (whole number) (members_view self.members.entries)) }
         ensures reads_back { message_number (whole number) ≡ Some number }
     {
         self.value(alloc, name, Value::from(number.get()))
+    }
+
+    /// The object of the fields.
+    pub fn object(self) -> Value
+        ensures { view result ≡ object (members_view self.members.entries) }
+    {
+        Value::Object(self.members)
     }
 
     // The object of the fields, with the word of the message.
@@ -57,7 +59,7 @@ impl Form {
     {
         let word = Value::try_from_str(alloc, word)?;
         let form = self.value(alloc, "m", word)?;
-        Ok(Value::Object(form.members))
+        Ok(form.object())
     }
 
     // The object of the fields, with the word and the session of the message.

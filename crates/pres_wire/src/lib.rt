@@ -8,12 +8,13 @@ mod down_read;
 mod fault;
 mod field;
 mod form;
-mod part;
+pub mod part;
 mod up;
 mod values;
 
 pub use down::{Code, Down, Limit};
 pub use fault::{Field, WireFault};
+pub use form::Form;
 pub use pres_ids::{ClientId, Count, IdFault, Number, SessionId, Stamp, Why};
 pub use up::{MAX_TEXT_BYTES, Up};
 pub use values::{PathValue, Values};

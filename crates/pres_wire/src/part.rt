@@ -1,15 +1,17 @@
-//! Parts of fields, read and printed.
+//! Parts of fields, read and printed: for messages, and for other JSON that holds the same.
 
-ghost use Rattle.std.specs.Prelude.{◌≡◌, ◌≤◌, IfOk, Some, None};
+ghost use Rattle.std.specs.Prelude.{◌≡◌, ◌≤◌, IfOk, Some, None, Ok};
 ghost use Rattle.serde_json.specs.Data.{depth};
 ghost use Rattle.serde_json.specs.View.{view};
+ghost use Rattle.pres_tree.specs.Rows.{option_of, rows_in};
 ghost use Rattle.pres_tree.specs.Printing.{json_of};
 ghost use Rattle.pres_tree.specs.Scalars.{scalar_printing};
+ghost use Rattle.pres_write.specs.OpForms.{op_json, op_read};
 ghost use Rattle.pres_wire.specs.Fields.{path_in, path_of};
-ghost use Rattle.pres_ids.specs.Forms.{pair_of};
 ghost use Rattle.pres_wire.specs.DownReads.{value_of};
 
 use pres_tree::{Path, Tree, TreeFault};
+use pres_write::Op;
 use serde_json::Value;
 use std::alloc::{AllocError, Global};
 
@@ -24,8 +26,8 @@ fn path_in(alloc: Global, text: &str) -> Result<Option<Path>, AllocError>
     }
 }
 
-// The path that a JSON value is the text of.
-pub(crate) fn path_of(alloc: Global, value: &Value) -> Result<Option<Path>, AllocError>
+/// The path that a JSON value is the text of, none where it isn't the text of one.
+pub fn path_of(alloc: Global, value: &Value) -> Result<Option<Path>, AllocError>
     ensures { IfOk result (λ found. found ≡ path_of (view value.now)) }
 {
     match value.as_str() {
@@ -34,8 +36,8 @@ pub(crate) fn path_of(alloc: Global, value: &Value) -> Result<Option<Path>, Allo
     }
 }
 
-// The tree of a JSON value.
-pub(crate) fn tree_of(alloc: Global, value: &Value) -> Result<Option<Tree>, AllocError>
+/// The tree of a JSON value, none where it is refused.
+pub fn tree_of(alloc: Global, value: &Value) -> Result<Option<Tree>, AllocError>
     ensures { IfOk result (λ found. found ≡ value_of (view value.now)) }
 {
     match Tree::from_value(alloc, value) {
@@ -45,8 +47,8 @@ pub(crate) fn tree_of(alloc: Global, value: &Value) -> Result<Option<Tree>, Allo
     }
 }
 
-// The JSON value of a tree, which is read as the tree, and nests few levels.
-pub(crate) fn tree_value(alloc: Global, tree: &Tree) -> Result<Value, AllocError>
+/// The JSON value of a tree, which is read as the tree, and nests few levels.
+pub fn tree_value(alloc: Global, tree: &Tree) -> Result<Value, AllocError>
     ensures json { IfOk result (λ made. view made ≡ json_of scalar_printing tree.now) }
     ensures reads_back { IfOk result (λ _.
         value_of (json_of scalar_printing tree.now) ≡ Some tree.now) }
@@ -55,4 +57,33 @@ pub(crate) fn tree_value(alloc: Global, tree: &Tree) -> Result<Value, AllocError
     // it ensures that the tree is a value
     let _ = tree.depth();
     tree.to_value(alloc)
+}
+
+/// A place's value, none where nothing stands there.
+pub fn held_of(tree: Tree) -> Option<Tree>
+    ensures { result ≡ option_of tree }
+{
+    if tree.is_empty() { None } else { Some(tree) }
+}
+
+/// The JSON value of a value that a place held, null for none. It nests few levels.
+pub fn held_value(alloc: Global, held: &Option<Tree>) -> Result<Value, AllocError>
+    ensures json { IfOk result (λ made. view made ≡ json_of scalar_printing (rows_in held.now)) }
+    ensures reads_back { IfOk result (λ _.
+        value_of (json_of scalar_printing (rows_in held.now)) ≡ Some (rows_in held.now)) }
+    ensures low { IfOk result (λ _. depth (json_of scalar_printing (rows_in held.now)) ≤ 33) }
+{
+    match held {
+        Some(value) => tree_value(alloc, value),
+        None => Ok(Value::Null),
+    }
+}
+
+/// The JSON value of an operation, which is read as the operation, and nests few levels.
+pub fn op_value(alloc: Global, op: &Op) -> Result<Value, AllocError>
+    ensures json { IfOk result (λ made. view made ≡ op_json op.now) }
+    ensures reads_back { IfOk result (λ _. op_read (op_json op.now) ≡ Ok op.now) }
+    ensures low { IfOk result (λ _. depth (op_json op.now) ≤ 64) }
+{
+    op.to_value(alloc)
 }

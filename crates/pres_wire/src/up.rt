@@ -4,7 +4,7 @@ ghost use Rattle.std.specs.Prelude.{◌≡◌, ◌≤◌, ◌⊎◌, ◌∷◌, 
 ghost use Rattle.serde_json.specs.Data.{depth};
 ghost use Rattle.serde_json.specs.View.{view};
 ghost use Rattle.serde_json.specs.Written.{compact_text};
-ghost use Rattle.pres_write.specs.OpForms.{op_json, op_read};
+ghost use Rattle.pres_write.specs.OpForms.{op_json};
 ghost use Rattle.pres_write.specs.Unconditionals.{as_op, unconditional_read};
 ghost use Rattle.pres_ids.specs.Forms.{whole, session_json, message_number, session_of};
 ghost use Rattle.pres_wire.specs.Fields.{message, path_json, path_of};
@@ -18,6 +18,7 @@ ghost use Rattle.pres_wire.specs.declared.fault.WireFault.TheVariants.{Memory};
 use crate::fault::{Field, WireFault};
 use crate::field::{left_field, number_field, op_field, path_field, session_field};
 use crate::form::Form;
+use crate::part::op_value;
 use pres_ids::{Number, SessionId};
 use pres_tree::Path;
 use pres_write::{Op, Unconditional};
@@ -415,15 +416,6 @@ fn unconditional_value(alloc: Global, op: &Unconditional) -> Result<Value, Alloc
     ensures reads_back { IfOk result (λ _.
         unconditional_read (op_json (as_op op.now)) ≡ Ok (Some op.now)) }
     ensures low { IfOk result (λ _. depth (op_json (as_op op.now)) ≤ 64) }
-{
-    op.to_value(alloc)
-}
-
-// The JSON value of an operation, which is read as the operation, and nests few levels.
-fn op_value(alloc: Global, op: &Op) -> Result<Value, AllocError>
-    ensures json { IfOk result (λ made. view made ≡ op_json op.now) }
-    ensures reads_back { IfOk result (λ _. op_read (op_json op.now) ≡ Ok op.now) }
-    ensures low { IfOk result (λ _. depth (op_json op.now) ≤ 64) }
 {
     op.to_value(alloc)
 }

@@ -9,6 +9,7 @@ pub mod Ordered
 pub mod Overlaps
 pub mod Placed
 pub mod Printed
+pub mod Puttable
 pub mod Putting
 pub mod Slots
 pub mod Together

@@ -1,5 +1,6 @@
 -- Operations that ask for nothing of what stands, so that they may be left for a disconnection, and what they put.
-use Rattle.std.specs.Prelude.{◌≡◌, ◌≤◌, ◌++◌, [], ◌∷◌, if◌then◌else◌, false, length, map, Option, Some, None, Result, Ok, Err}
+use Rattle.std.specs.Prelude.{◌≡◌, ◌≤◌, ◌&&◌, ◌++◌, Bool, [], ◌∷◌, if◌then◌else◌, false, not, nat_le, length, map, Option, Some, None, Result, Ok, Err}
+use Rattle.std.specs.FinMap.Entries.{is_sorted}
 use Rattle.std.specs.Map.{keys_of}
 use Rattle.std.specs.List.Sorted.{IsStrictlySortedBy}
 use Rattle.serde_json.specs.Data.{Data}
@@ -48,3 +49,10 @@ pub record ArePuts (puts : Places) : Type 0 where
   pub in_order : IsStrictlySortedBy path_cmp (keys_of puts)
   pub apart : overlap (keys_of puts) ≡ false
   pub few : length puts ≤ most_places
+
+-- drafts that may be the puts of one operation
+abbrev pub may_be_puts : Places → Bool
+may_be_puts puts = is_sorted path_cmp puts && not (overlap (keys_of puts)) && nat_le (length puts) most_places
+
+abbrev pub as_puts : Places → Option Places
+as_puts puts = if may_be_puts puts then Some puts else None

@@ -54,6 +54,15 @@ impl Basic {
         })
     }
 
+    /// The same where the value is known to fit.
+    pub fn fitting(path: Path, value: Tree) -> Basic
+        requires { Fits path value }
+        ensures { result ≡ basic path value }
+    {
+        let value = some_value(value);
+        Basic { path, value }
+    }
+
     /// The path.
     pub fn path(&self) -> &Path
         ensures path { result.now ≡ self.now.path }

@@ -44,8 +44,8 @@ impl Placement {
         Ok(Placement { path, draft })
     }
 
-    // The same where it is known to fit.
-    pub(crate) fn fitting(path: Path, draft: Draft) -> Placement
+    /// The same where it is known to fit.
+    pub fn fitting(path: Path, draft: Draft) -> Placement
         requires { Fits path draft }
         ensures { result ≡ (path, draft) }
     {

@@ -29,7 +29,7 @@ use std::collections::BTreeMap;
 use std::marker::Model;
 
 // The places of the largest update.
-const MOST: usize = 256;
+pub(crate) const MOST: usize = 256;
 
 /// Drafts at 0 to 256 places below a path, of which none is at or above another. Contracts see
 /// the path, and the places in path order with the path cut off.

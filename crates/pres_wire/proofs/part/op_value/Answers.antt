@@ -1,5 +1,5 @@
 use Rattle.pres_wire.proofs.OpNesting.{made_low}
-use Rattle.pres_wire.proofs.up.op_value.Goals as goal
+use Rattle.pres_wire.proofs.part.op_value.Goals as goal
 
 pub returns-clause-low : goal.returns-clause-low
 returns-clause-low c = made_low c.to_value.result c.args.op.now c.to_value.ensures.json c.to_value.ensures.reads_back

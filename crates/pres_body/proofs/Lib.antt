@@ -1,0 +1,5 @@
+pub mod Back
+pub mod Below
+pub mod Forms
+pub mod Listed
+pub mod Whole

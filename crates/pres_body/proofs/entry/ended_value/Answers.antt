@@ -1,0 +1,6 @@
+use Rattle.pres_body.proofs.Forms.{ok_so, ended_form}
+use Rattle.pres_body.proofs.entry.ended_value.Goals as goal
+
+pub returns-clause-form : goal.returns-clause-form
+returns-clause-form c =
+    ok_so c.entry_value.result (ended_form c.args.session.now c.args.q c.args.why c.args.rows.now c.number_value.ensures.reads_back c.word.ensures.form c.in_ok-rows.ensures.reads_back) c.entry_value.ensures.reads_back

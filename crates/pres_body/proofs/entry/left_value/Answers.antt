@@ -1,0 +1,6 @@
+use Rattle.pres_body.proofs.Forms.{ok_so, left_form}
+use Rattle.pres_body.proofs.entry.left_value.Goals as goal
+
+pub returns-clause-form : goal.returns-clause-form
+returns-clause-form c =
+    ok_so c.entry_value.result (left_form c.args.session.now c.args.q c.args.puts.now c.number.ensures.reads_back c.in_ok-rows.ensures.reads_back) c.entry_value.ensures.reads_back

@@ -1,0 +1,11 @@
+use Rattle.std.proofs.Common.{sym, ap, subst, ◌∙◌}
+use Rattle.std.specs.Prelude.{IfOk}
+use Rattle.pres_log.specs.declared.entry.Entry.{Entry}
+use Rattle.pres_log.specs.declared.entry.Entry.TheVariants as entry
+use Rattle.pres_body.specs.Reads.{HasForm}
+use Rattle.pres_body.proofs.entry.value_of.Goals as goal
+
+pub returns-in-Ended-clause-form : goal.returns-in-Ended-clause-form
+returns-in-Ended-clause-form c =
+    let is = ap (λ rows. entry.Ended c.in-Ended.session c.in-Ended.q c.in-Ended.why rows) c.as_slice.ensures ∙ sym c.in-Ended.is in
+    subst (λ (e : Entry). IfOk c.ended_value.result (λ _. HasForm e)) is c.ended_value.ensures.form

@@ -1,0 +1,11 @@
+use Rattle.std.proofs.Common.{arith}
+use Rattle.pres_body.proofs.Listed.{list_read, list_low}
+use Rattle.pres_body.proofs.list.list_value.Goals as goal
+
+pub returns-clause-reads_back : goal.returns-clause-reads_back
+returns-clause-reads_back g c =
+    list_read g.T.Saved.found g.T.Saved.json g.T.Saved.kept c.args.saved.now (λ k d l. c.loop-one.invariant.read k d (omega arith))
+
+pub returns-clause-low : goal.returns-clause-low
+returns-clause-low g c =
+    list_low g.T.Saved.json g.T.Saved.levels c.args.saved.now (λ k d l. c.loop-one.invariant.low k d (omega arith))

@@ -1,0 +1,11 @@
+//! The text in which the entries of a batch are saved.
+#![tactic(auto)]
+
+mod body;
+mod entry;
+mod field;
+mod list;
+mod part;
+mod read;
+
+pub use body::{print_entries, read_entries};

@@ -1,0 +1,201 @@
+//! Parts of entries: rows, what operations came to, puts.
+
+ghost use Rattle.std.specs.Prelude.{◌≡◌, ◌≤◌, IfOk, IfSome, Some, None};
+ghost use Rattle.serde_json.specs.Data.{depth};
+ghost use Rattle.serde_json.specs.View.{view};
+ghost use Rattle.pres_tree.specs.Rows.{Fits, rows_in};
+ghost use Rattle.pres_tree.specs.Printing.{json_of};
+ghost use Rattle.pres_wire.specs.Fields.{path_json, path_of};
+ghost use Rattle.pres_body.specs.Entries.{row_json, outcome_json, list_json, put_json, number_or_null};
+ghost use Rattle.pres_body.specs.Reads.{rows_below, row_of, op_in, outcome_by, outcome_in, one_null, puts_in, number_or_none};
+
+use crate::list::{Saved, list_value, read_list};
+use pres_ids::{Number, pair_of};
+use pres_tree::{Leaf, Nested, Path, Tree, TreeFault};
+use pres_wire::part::{held_of, held_value, path_of, tree_of};
+use pres_write::{Basic, Op, Outcome, Placement, Puts, WriteFault};
+use serde_json::{Value, json};
+use std::alloc::{AllocError, Global};
+
+// The JSON value of a path and what is there: `[path,value]`. It is read again as both.
+fn row_value<L: Leaf>(alloc: Global, path: &Path, rows: &Nested<L>) -> Result<Value, AllocError>
+    requires { Fits path.now rows.now }
+    ensures json { IfOk result (λ made.
+        view made ≡ row_json path.now (json_of L.printing rows.now)) }
+    ensures path { IfOk result (λ _. path_of (path_json path.now) ≡ Some path.now) }
+    ensures rows { IfOk result (λ _.
+        rows_below L.reading path.now (json_of L.printing rows.now) ≡ Some rows.now) }
+{
+    let mut pair = Vec::new(alloc);
+    pair.push(Value::String(path.text(alloc)?))?;
+    pair.push(rows.to_value(alloc)?)?;
+    Ok(Value::Array(pair))
+}
+
+// The path and the value of a row, none where it isn't a list of both, or the value may not stand
+// at the path.
+fn read_row<L: Leaf>(alloc: Global, value: &Value) -> Result<Option<(Path, Nested<L>)>, AllocError>
+    ensures found { IfOk result (λ found. found ≡ row_of L.reading (view value.now)) }
+    ensures fits { IfOk result (λ found. IfSome found (λ row. Fits row.0 row.1)) }
+{
+    let Some((path, value)) = pair_of(value) else {
+        return Ok(None);
+    };
+    let Some(path) = path_of(alloc, path)? else {
+        return Ok(None);
+    };
+    match Nested::from_value_below(alloc, value, &path) {
+        Ok(rows) => Ok(Some((path, rows))),
+        Err(TreeFault::Memory) => Err(AllocError),
+        Err(_) => Ok(None),
+    }
+}
+
+impl Saved for Basic {
+    ghost use Rattle.pres_body.specs.Entries.{write_json};
+    ghost use Rattle.pres_body.specs.Reads.{write_in};
+
+    ghost json = { write_json };
+
+    ghost found = { write_in };
+
+    ghost kept = { λ write. write };
+
+    ghost levels = { 34 };
+
+    fn to_json(&self, alloc: Global) -> Result<Value, AllocError> {
+        let null = Tree::empty();
+        let value = self.value().unwrap_or(&null);
+        let made = row_value(alloc, self.path(), value);
+        drop(null);
+        made
+    }
+
+    fn from_json(alloc: Global, value: &Value) -> Result<Option<Basic>, AllocError> {
+        match read_row(alloc, value)? {
+            Some((path, tree)) => Ok(Some(Basic::fitting(path, tree))),
+            None => Ok(None),
+        }
+    }
+}
+
+impl Saved for Placement {
+    ghost use Rattle.pres_body.specs.Entries.{put_json};
+    ghost use Rattle.pres_body.specs.Reads.{put_in};
+
+    ghost json = { put_json };
+
+    ghost found = { put_in };
+
+    ghost kept = { λ put. put };
+
+    ghost levels = { 34 };
+
+    fn to_json(&self, alloc: Global) -> Result<Value, AllocError> {
+        row_value(alloc, self.path(), self.draft())
+    }
+
+    fn from_json(alloc: Global, value: &Value) -> Result<Option<Placement>, AllocError> {
+        match read_row(alloc, value)? {
+            Some((path, draft)) => Ok(Some(Placement::fitting(path, draft))),
+            None => Ok(None),
+        }
+    }
+}
+
+// The JSON list of the puts, which is read again as them.
+pub(crate) fn puts_value(alloc: Global, puts: &Puts) -> Result<Value, AllocError>
+    ensures json { IfOk result (λ made. view made ≡ list_json put_json puts.now) }
+    ensures reads_back { IfOk result (λ _. puts_in (list_json put_json puts.now) ≡ Some puts.now) }
+    ensures low { IfOk result (λ _. depth (list_json put_json puts.now) ≤ 35) }
+{
+    list_value(alloc, puts.as_slice())
+}
+
+// The puts of a JSON list, none where it isn't the list of any.
+pub(crate) fn read_puts(alloc: Global, value: &Value) -> Result<Option<Puts>, AllocError>
+    ensures { IfOk result (λ found. found ≡ puts_in (view value.now)) }
+{
+    match read_list(alloc, value)? {
+        Some(placements) => Ok(Puts::new(placements.into_vec())),
+        None => Ok(None),
+    }
+}
+
+// The JSON value of what an operation came to, which is read again, a null as none.
+pub(crate) fn outcome_value(alloc: Global, outcome: &Outcome) -> Result<Value, AllocError>
+    ensures json { IfOk result (λ made. view made ≡ outcome_json outcome.now) }
+    ensures reads_back { IfOk result (λ _.
+        outcome_in (outcome_json outcome.now) ≡ Some (one_null outcome.now)) }
+    ensures low { IfOk result (λ _. depth (outcome_json outcome.now) ≤ 36) }
+{
+    match outcome {
+        Outcome::Wrote(writes) => {
+            let writes = list_value(alloc, writes.as_slice())?;
+            json!(in alloc; {"wrote": writes})
+        }
+        Outcome::Stale(held) => {
+            let held = held_value(alloc, held)?;
+            json!(in alloc; {"stale": held})
+        }
+    }
+}
+
+// What an operation came to where it is stale.
+fn read_stale(alloc: Global, value: &Value) -> Result<Option<Outcome>, AllocError>
+    ensures { IfOk result (λ found. found ≡ outcome_by None (view value.now)) }
+{
+    let Some(held) = value.get("stale") else {
+        return Ok(None);
+    };
+    match tree_of(alloc, held)? {
+        Some(tree) => Ok(Some(Outcome::Stale(held_of(tree)))),
+        None => Ok(None),
+    }
+}
+
+// What an operation came to, none where the JSON value isn't that of any.
+pub(crate) fn read_outcome(alloc: Global, value: &Value) -> Result<Option<Outcome>, AllocError>
+    ensures { IfOk result (λ found. found ≡ outcome_in (view value.now)) }
+{
+    let Some(writes) = value.get("wrote") else {
+        return read_stale(alloc, value);
+    };
+    match read_list(alloc, writes)? {
+        Some(writes) => Ok(Some(Outcome::Wrote(writes))),
+        None => Ok(None),
+    }
+}
+
+// The operation of a JSON value, none where it is refused.
+pub(crate) fn read_op(alloc: Global, value: &Value) -> Result<Option<Op>, AllocError>
+    ensures { IfOk result (λ found. found ≡ op_in (view value.now)) }
+{
+    match Op::from_value(alloc, value) {
+        Ok(op) => Ok(Some(op)),
+        Err(WriteFault::Tree(TreeFault::Memory)) => Err(AllocError),
+        Err(_) => Ok(None),
+    }
+}
+
+// The JSON value of a number, or null.
+pub(crate) fn number_value(number: Option<Number>) -> Value
+    ensures json { view result ≡ number_or_null number }
+    ensures reads_back { number_or_none (number_or_null number) ≡ Some number }
+    ensures low { depth (number_or_null number) ≡ 0 }
+{
+    match number {
+        Some(number) => Value::from(number.get()),
+        None => Value::Null,
+    }
+}
+
+// The number that a JSON value is, or none of null; none where it is neither.
+pub(crate) fn read_number(value: &Value) -> Option<Option<Number>>
+    ensures { result ≡ number_or_none (view value.now) }
+{
+    if value.is_null() {
+        return Some(None);
+    }
+    Some(Some(Number::from_value(value)?))
+}

@@ -1,0 +1,195 @@
+//! Tests of saved bodies: what is read and printed again, and which texts are none. A table is a
+//! text of lines, each a case and what it must answer.
+
+use pres_body::{print_entries, read_entries};
+use pres_log::Entry;
+use pres_write::Items;
+use std::alloc::Global;
+use std::test::Fail;
+
+// The text of the entries.
+fn printed(alloc: Global, entries: Items<Entry>) -> Result<String, Fail> {
+    let text = print_entries(alloc, entries.as_slice());
+    drop(entries);
+    Ok(text?)
+}
+
+// The text that the entries of a text are printed as, `same` where it is the text, or `none`.
+fn body_answer(alloc: Global, text: &str) -> Result<String, Fail> {
+    let Some(entries) = read_entries(alloc, text)? else {
+        return Ok(String::from_str(alloc, "none")?);
+    };
+    let again = printed(alloc, entries)?;
+    if again.as_str() == text {
+        return Ok(String::from_str(alloc, "same")?);
+    }
+    Ok(again)
+}
+
+// Notes the line where something else is answered.
+fn try_line(alloc: Global, line: &str, wrong: &mut String) -> Result<(), Fail> {
+    let (case, wanted) = line.split_once(" => ").ok_or("no answer")?;
+    let said = body_answer(alloc, case)?;
+    if said.as_str() != wanted {
+        let line = format!(in alloc; "{case} => {said}\n")?;
+        wrong.push_str(line.as_str())?;
+    }
+    Ok(())
+}
+
+// The lines that answer something else, each with that.
+fn wrong_in(alloc: Global, lines: &str) -> Result<String, Fail> {
+    let mut wrong = String::new(alloc);
+    for line in lines.lines() {
+        try_line(alloc, line, &mut wrong)?;
+    }
+    Ok(wrong)
+}
+
+const SAVED: &str = r#"[{"e":"open","s":["alice",1,1]}] => same
+[{"e":"op","n":1,"op":{"op":"set","path":"/a","value":1},"out":{"wrote":[["/a",1]]},"q":1,"s":["alice",1,1]}] => same
+[{"e":"op","n":2,"op":{"op":"update","path":"/","values":{"a":null,"b":{".sv":"timestamp"}}},"out":{"wrote":[["/a",null],["/b",5]]},"q":2,"s":["alice",1,1]}] => same
+[{"e":"op","n":3,"op":{"expect":0,"op":"tx","path":"/n","value":1},"out":{"stale":null},"q":3,"s":["alice",1,1]}] => same
+[{"e":"op","n":3,"op":{"expect":0,"op":"tx","path":"/n","value":1},"out":{"stale":{"b":2}},"q":3,"s":["alice",1,1]}] => same
+[{"e":"again","n":1,"q":2,"s":["bob",2,3]}] => same
+[{"e":"left","q":1,"rows":[["/last",{".sv":"timestamp"}],["/online",null]],"s":["alice",1,1]}] => same
+[{"e":"left","q":1,"rows":[],"s":["alice",1,1]}] => same
+[{"e":"cancelled","path":"/a/b","q":2,"s":["alice",1,1]}] => same
+[{"e":"denied","q":2,"s":["alice",1,1],"why":1}] => same
+[{"e":"denied","q":2,"s":["alice",1,1],"why":2}] => same
+[{"e":"on","path":"/a","q":1,"s":["bob",1,1]}] => same
+[{"e":"off","path":"/","q":9007199254740991,"s":["bob",1,1]}] => same
+[{"e":"ended","q":4,"rows":[["/b",null],["/a",{"c":true}],["/b","x"]],"s":["alice",1,1],"why":"bye"}] => same
+[{"e":"ended","q":null,"rows":[],"s":["alice",1,1],"why":"lost"}] => same
+[{"e":"ended","q":null,"rows":[],"s":["alice",1,1],"why":"lease"}] => same
+[{"e":"ended","q":null,"rows":[],"s":["alice",1,1],"why":"slow"}] => same
+[{"e":"ended","q":null,"rows":[],"s":["alice",1,1],"why":"restart"}] => same
+[{"e":"ended","q":null,"rows":[],"s":["alice",1,1],"why":"superseded"},{"e":"open","s":["alice",1,2]}] => same"#;
+
+// Spaces, other names and orders, paths and values in other forms.
+const UNTIDY: &str =
+    r#" [ {"s":["a",1,1],"more":{"e":"off"},"e":"on","path":"a//b/","q":2} ] => [{"e":"on","path":"/a/b","q":2,"s":["a",1,1]}]
+[{"e":"ended","q":null,"rows":[["a",[null,{}]]],"s":["a",1,1],"why":"lost"}] => [{"e":"ended","q":null,"rows":[["/a",null]],"s":["a",1,1],"why":"lost"}]
+[{"e":"op","n":1,"op":{"op":"remove","path":"a"},"out":{"stale":1,"wrote":[]},"q":1,"s":["a",1,1]}] => [{"e":"op","n":1,"op":{"op":"set","path":"/a","value":null},"out":{"wrote":[]},"q":1,"s":["a",1,1]}]
+[{"e":"op","n":1,"op":{"op":"remove","path":"a"},"out":{"stale":[null]},"q":1,"s":["a",1,1]}] => [{"e":"op","n":1,"op":{"op":"set","path":"/a","value":null},"out":{"stale":null},"q":1,"s":["a",1,1]}]"#;
+
+// No lists of one entry, or of an end and an opening.
+const NO_BATCHES: &str = r#"[ => none
+ => none
+null => none
+{} => none
+{"e":"open","s":["a",1,1]} => none
+[] => none
+[1] => none
+[{}] => none
+[{"s":["a",1,1]}] => none
+[{"e":1,"s":["a",1,1]}] => none
+[{"e":"opened","s":["a",1,1]}] => none
+[{"e":"open","s":["a",1,1]},{"e":"open","s":["a",1,2]}] => none
+[{"e":"open","s":["a",1,2]},{"e":"ended","q":null,"rows":[],"s":["a",1,1],"why":"lost"}] => none
+[{"e":"ended","q":null,"rows":[],"s":["a",1,1],"why":"lost"},{"e":"on","path":"/","q":1,"s":["a",1,2]}] => none
+[{"e":"ended","q":null,"rows":[],"s":["a",1,1],"why":"lost"},{"e":"open","s":["a",1,2]},{"e":"open","s":["a",1,3]}] => none
+[{"e":"open","s":["a",1,1]},null] => none"#;
+
+// Fields that are missing or wrong.
+const NO_ENTRIES: &str = r#"[{"e":"open"}] => none
+[{"e":"open","s":["a!",1,1]}] => none
+[{"e":"open","s":["a",0,1]}] => none
+[{"e":"again","n":1,"q":0,"s":["a",1,1]}] => none
+[{"e":"again","n":9007199254740992,"q":1,"s":["a",1,1]}] => none
+[{"e":"again","n":1,"s":["a",1,1]}] => none
+[{"e":"again","q":1,"s":["a",1,1]}] => none
+[{"e":"on","path":1,"q":1,"s":["a",1,1]}] => none
+[{"e":"off","path":"/a.b","q":1,"s":["a",1,1]}] => none
+[{"e":"cancelled","q":1,"s":["a",1,1]}] => none
+[{"e":"denied","q":1,"s":["a",1,1],"why":3}] => none
+[{"e":"denied","q":1,"s":["a",1,1],"why":"plan"}] => none
+[{"e":"ended","rows":[],"s":["a",1,1],"why":"lost"}] => none
+[{"e":"ended","q":0,"rows":[],"s":["a",1,1],"why":"bye"}] => none
+[{"e":"ended","q":null,"rows":[],"s":["a",1,1],"why":"gone"}] => none
+[{"e":"ended","q":null,"s":["a",1,1],"why":"lost"}] => none
+[{"e":"ended","q":null,"rows":{},"s":["a",1,1],"why":"lost"}] => none
+[{"e":"ended","q":null,"rows":[["/a"]],"s":["a",1,1],"why":"lost"}] => none
+[{"e":"ended","q":null,"rows":[["/a",1,2]],"s":["a",1,1],"why":"lost"}] => none
+[{"e":"ended","q":null,"rows":[["/a",1.5]],"s":["a",1,1],"why":"lost"}] => none
+[{"e":"ended","q":null,"rows":[["/a",{".sv":"timestamp"}]],"s":["a",1,1],"why":"lost"}] => none
+[{"e":"op","n":1,"op":null,"out":{"wrote":[]},"q":1,"s":["a",1,1]}] => none
+[{"e":"op","n":1,"op":{"op":"remove","path":"a"},"q":1,"s":["a",1,1]}] => none
+[{"e":"op","n":1,"op":{"op":"remove","path":"a"},"out":"wrote","q":1,"s":["a",1,1]}] => none
+[{"e":"op","n":1,"op":{"op":"remove","path":"a"},"out":{},"q":1,"s":["a",1,1]}] => none
+[{"e":"op","n":1,"op":{"op":"remove","path":"a"},"out":{"stale":1,"wrote":null},"q":1,"s":["a",1,1]}] => none"#;
+
+// Rows of a Left that aren't puts.
+const NO_PUTS: &str = r#"[{"e":"left","q":1,"rows":[["/b",1],["/a",2]],"s":["a",1,1]}] => none
+[{"e":"left","q":1,"rows":[["/a",1],["/a",2]],"s":["a",1,1]}] => none
+[{"e":"left","q":1,"rows":[["/a",1],["/a/b",2]],"s":["a",1,1]}] => none
+[{"e":"left","q":1,"rows":[["/a/b",1],["/a/c",2],["/b",3]],"s":["a",1,1]}] => same
+[{"e":"left","q":1,"rows":[["/a",{".sv":"now"}]],"s":["a",1,1]}] => none"#;
+
+#[test]
+fn bodies_are_read_and_printed(rt: HostRuntime) -> Result<(), Fail> {
+    assert_eq!(rt; wrong_in(rt.alloc(), SAVED)?.as_str(), "");
+    Ok(())
+}
+
+#[test]
+fn bodies_are_printed_tidily(rt: HostRuntime) -> Result<(), Fail> {
+    assert_eq!(rt; wrong_in(rt.alloc(), UNTIDY)?.as_str(), "");
+    Ok(())
+}
+
+#[test]
+fn other_texts_are_none(rt: HostRuntime) -> Result<(), Fail> {
+    assert_eq!(rt; wrong_in(rt.alloc(), NO_BATCHES)?.as_str(), "");
+    assert_eq!(rt; wrong_in(rt.alloc(), NO_ENTRIES)?.as_str(), "");
+    assert_eq!(rt; wrong_in(rt.alloc(), NO_PUTS)?.as_str(), "");
+    Ok(())
+}
+
+// An end with a write of the value at a path of so many keys.
+fn deep_text(alloc: Global, keys: usize, value: &str) -> Result<String, Fail> {
+    let mut path = String::new(alloc);
+    for _ in 0..keys {
+        path.push_str("/a")?;
+    }
+    Ok(format!(in alloc;
+        r#"[{{"e":"ended","q":null,"rows":[["{path}",{value}]],"s":["a",1,1],"why":"lost"}}]"#
+    )?)
+}
+
+fn deep_answer(alloc: Global, keys: usize, value: &str) -> Result<String, Fail> {
+    let text = deep_text(alloc, keys, value)?;
+    body_answer(alloc, text.as_str())
+}
+
+#[test]
+fn writes_reach_32_keys(rt: HostRuntime) -> Result<(), Fail> {
+    assert_eq!(rt; deep_answer(rt.alloc(), 32, "1")?.as_str(), "same");
+    assert_eq!(rt; deep_answer(rt.alloc(), 31, r#"{"b":1}"#)?.as_str(), "same");
+    assert_eq!(rt; deep_answer(rt.alloc(), 32, r#"{"b":1}"#)?.as_str(), "none");
+    assert_eq!(rt; deep_answer(rt.alloc(), 33, "null")?.as_str(), "none");
+    Ok(())
+}
+
+// A Left with a row for each number from 1000 to before the end, at paths that rise.
+fn wide_text(alloc: Global, end: usize) -> Result<String, Fail> {
+    let mut all = String::new(alloc);
+    for row in 1000..end {
+        let comma = if row == 1000 { "" } else { "," };
+        let row = format!(in alloc; r#"{comma}["/k{row}",null]"#)?;
+        all.push_str(row.as_str())?;
+    }
+    Ok(format!(in alloc; r#"[{{"e":"left","q":1,"rows":[{all}],"s":["a",1,1]}}]"#)?)
+}
+
+fn wide_answer(alloc: Global, end: usize) -> Result<String, Fail> {
+    let text = wide_text(alloc, end)?;
+    body_answer(alloc, text.as_str())
+}
+
+#[test]
+fn lefts_hold_256_rows(rt: HostRuntime) -> Result<(), Fail> {
+    assert_eq!(rt; wide_answer(rt.alloc(), 1256)?.as_str(), "same");
+    assert_eq!(rt; wide_answer(rt.alloc(), 1257)?.as_str(), "none");
+    Ok(())
+}
