@@ -11,5 +11,5 @@ returns-clause-serves g c =
     let new = state g.S.Store c.insert.new.connection in
     let b : Saved = record { moment = c.args.moment; body = c.args.body.now } in
     rw (← c.self.view_is) (λ serves clean.
-        let early : HasCleanDisk old = omega (arith, (c.insert.ensures.crash serves).clean, clean) in
-        awaits_more old new (c.self.inside.last + 1) b (serves early) (c.in_ok-insert.ensures.ok clean serves))
+    let early : HasCleanDisk old = omega (arith, (c.insert.ensures.crash serves).clean, clean) in
+    awaits_more old new (c.self.inside.last + 1) b (serves early) (c.in_ok-insert.ensures.ok clean serves))
