@@ -1,6 +1,6 @@
 //! The table of saved rows.
 
-ghost use Rattle.std.specs.Prelude.{◌≡◌, ◌⊎◌, ◌+◌, ◌<◌, ◌≤◌, ◌++◌, ◌∷◌, [], false, Ok, Err, if◌then◌else◌, is_ok, map, IsTrue, IfOk, IfErr, MatchResult, OnOk, OnErr};
+ghost use Rattle.std.specs.Prelude.{◌≡◌, ◌⊎◌, ◌+◌, ◌<◌, ◌≤◌, ◌++◌, ◌∷◌, [], false, length, Ok, Err, if◌then◌else◌, is_ok, map, IsTrue, IfOk, IfErr, MatchResult, OnOk, OnErr};
 ghost use Rattle.sqlite.specs.Held.{state};
 ghost use Rattle.sqlite.specs.State.{HasCleanDisk, Survives};
 ghost use Rattle.pres_wire.specs.Numbers.{greatest_number};
@@ -118,6 +118,12 @@ impl<S: Alter + Drop> Table<S> {
             → OnOk result (AddsRow (state S.Store self.old.connection)
             (state S.Store self.new.connection) (self.old.last + 1)
             (record { moment = moment; body = body.now })) }
+        ensures saved { HasCleanDisk (state S.Store self.new.connection) → Serves S.Store self.old
+            → OnOk result ((before : _)
+            → saved_rows (shown_rows (state S.Store self.old.connection)) ≡ Ok before
+            → self.old.last ≡ length before
+            → saved_rows (shown_rows (state S.Store self.new.connection))
+            ≡ Ok (before ++ record { moment = moment; body = body.now } ∷ [])) }
         ensures last { self.new.last
             ≡ (if is_ok result then self.old.last + 1 else self.old.last) }
         ensures err { HasCleanDisk (state S.Store self.new.connection) → Serves S.Store self.old
@@ -136,6 +142,7 @@ impl<S: Alter + Drop> Table<S> {
         if self.last >= MAX_SAFE_INTEGER {
             return Err(SavedFault::Database);
         }
+        let _ = moment.millis();
         insert(&mut self.connection, self.last + 1, moment, body)?;
         self.last += 1;
         Ok(())

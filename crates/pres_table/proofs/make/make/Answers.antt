@@ -96,7 +96,7 @@ returns-clause-makes g c clean =
     let two = c.in_ok-execute-2.ensures.runs (omega (arith, c.execute-3.ensures.survives.clean, late)) one.1.mode in
     let three = c.in_ok-execute-3.ensures.runs late two.1.mode in
     let finish : OnOk c.commit.result (Makes g.S.Store old (state g.S.Store end)) = on_ok_weaker c.commit.result (λ done.
-        (first, c.in_ok-execute.field-0, rw begun at one, (second, c.in_ok-execute-2.field-0, two, (third, c.in_ok-execute-3.field-0, three, (done.1.now_is, done.1.committed_is)))))
+    (first, c.in_ok-execute.field-0, rw begun at one, (second, c.in_ok-execute-2.field-0, two, (third, c.in_ok-execute-3.field-0, three, (done.1.now_is, done.1.committed_is)))))
     (c.commit.ensures.ok ended) in
     subst (λ h. OnOk c.commit.result (Makes g.S.Store old (state g.S.Store h))) same finish
 
