@@ -6,3 +6,4 @@ pub mod Progress
 pub mod Making
 pub mod Finding
 pub mod Collecting
+pub mod Growing

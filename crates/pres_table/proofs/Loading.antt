@@ -55,7 +55,7 @@ begins s rows ours h =
 -- ---- what they save
 
 -- two rows that save something, one after the other
-then_ok : (due : ℕ) (o : Option Saved) (more : Result (List Saved) ℕ) (saved : List Saved) → rows_then due o more ≡ Ok saved
+pub then_ok : (due : ℕ) (o : Option Saved) (more : Result (List Saved) ℕ) (saved : List Saved) → rows_then due o more ≡ Ok saved
     → (first : Saved) × (rest : List Saved) × (o ≡ Some first) × (more ≡ Ok rest) × (saved ≡ first ∷ rest)
 then_ok due None more saved h = absurd (cc)
 then_ok due (Some s) (Ok rest) saved h = (s, rest, refl, refl, cc)

@@ -1,5 +1,5 @@
 -- What the statements that make the tables do.
-use Rattle.std.proofs.Common.{◌≡◌, ◌≢◌, ℕ, List, [], ◌∷◌, true, false, Some, None, Ok, Err, Result, refl, sym, ap, subst, ◌∙◌, IsTrue, arith, codes, pos}
+use Rattle.std.proofs.Common.{◌≡◌, ◌≢◌, ℕ, List, [], ◌∷◌, true, false, Some, None, Ok, Err, Result, refl, sym, ap, subst, ◌∙◌, IsTrue, IfErr, arith, codes, pos}
 use Rattle.sqlite.specs.Table.{Table}
 use Rattle.sqlite.specs.Schema.{Schema}
 use Rattle.sqlite.specs.Source.TheVariants.{Values}
@@ -16,9 +16,9 @@ use Rattle.sqlite.specs.Effect.{Database}
 use Rattle.sqlite.specs.State.{State, mode_of, Writes, Executes}
 use Rattle.sqlite.proofs.Callers.{IsPlain, command_of, statement_of, runs_as, one_step}
 use Rattle.pres_table.specs.Schemas.{meta, batch, no_schema, meta_schema, saved_schema}
-use Rattle.pres_table.proofs.Statements.{meta_text, batch_text, set_format_text, set_format_terms, set_format_is, set_format_plain, meta_is, batch_is, create_meta_is, create_batch_is, meta_plain, batch_plain}
+use Rattle.pres_table.proofs.Statements.{set_format_terms, set_format_is, set_format_plain, meta_is, batch_is, create_meta_is, create_batch_is, meta_plain, batch_plain}
 use Rattle.pres_table.proofs.Inserting.{went, same_value, cast_null, cast_int}
-use Rattle.pres_table.specs.Opened.{format_row}
+use Rattle.pres_table.specs.Made.{meta_text, batch_text, set_format_text, format_row}
 use Rattle.sqlite.specs.declared.types.Value.TheVariants.{Null, Int, Text}
 
 module _ (schema : Schema) (text : List ℕ) (table : Table) (command : command_of (understood schema text) ≡ CreateTable) (whole : statement_of text (understood schema text) ≡ text)
@@ -74,3 +74,7 @@ adds_format old new count has empty h =
       ap (λ (d : Database). d.trees 2) now ∙ ap (λ (t : Trees). t 2) ends ∙ kept.1.0 (λ e. omega (arith, e)),
       ap (λ (d : Database). d.trees 0) now ∙ ap (λ (t : Trees). t 0) ends ∙ applied.rows ∙ edit,
     )
+
+pub err_weaker : {A E : Type 0} (r : Result A E) (P Q : E → Type 0) → ((e : E) → P e → Q e) → IfErr r P → IfErr r Q
+err_weaker (Ok a) P Q f h = tt
+err_weaker (Err e) P Q f h = f e h

@@ -15,14 +15,9 @@ use Rattle.sqlite.specs.Collation.TheVariants.{Binary}
 use Rattle.sqlite_tied.specs.Compute.{everything}
 use Rattle.sqlite.specs.Listing.{understood, reads_listing}
 use Rattle.sqlite.proofs.Callers.{IsPlain, command_of, statement_of}
+use Rattle.pres_table.specs.Made.{meta_text, batch_text, set_format_text}
 use Rattle.pres_table.specs.Opened.{format_text}
 use Rattle.pres_table.specs.Schemas.{meta, batch, no_schema, meta_schema, saved_schema}
-
-abbrev pub meta_text : List ℕ
-meta_text = codes "CREATE TABLE meta(name TEXT PRIMARY KEY, value INTEGER NOT NULL)"
-
-abbrev pub batch_text : List ℕ
-batch_text = codes "CREATE TABLE batch(k INTEGER PRIMARY KEY, moment INTEGER NOT NULL, body TEXT NOT NULL)"
 
 abbrev pub insert_text : List ℕ
 insert_text = codes "INSERT INTO batch(k, moment, body) VALUES(?1, ?2, ?3)"
@@ -69,9 +64,6 @@ insert_plain = (refl, refl)
 pub select_plain : IsPlain (understood saved_schema select_text)
 unfolding understood everything
 select_plain = (refl, refl)
-
-abbrev pub set_format_text : List ℕ
-set_format_text = codes "INSERT INTO meta(name, value) VALUES('format', 1)"
 
 abbrev pub set_format_terms : List Term
 set_format_terms = lit Null ∷ lit (Text (codes "format")) ∷ lit (Int (pos 1)) ∷ []

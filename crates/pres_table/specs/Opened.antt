@@ -1,35 +1,14 @@
--- What making the tables leaves, and how they are found.
-use Rattle.std.specs.Prelude.{◌≡◌, ◌≢◌, ◌⊎◌, ℕ, ◌+◌, false, max, List, [], ◌∷◌, Some, unwrap_or, Ok, Err, pos, codes, IsTrue}
+-- How the tables are found.
+use Rattle.std.specs.Prelude.{◌≡◌, ◌≢◌, ◌⊎◌, ℕ, ◌+◌, false, max, List, [], ◌∷◌, Some, unwrap_or, Ok, Err, codes}
 use Rattle.sqlite.specs.declared.error.Error.{Error}
-use Rattle.sqlite.specs.declared.error.Error.TheVariants.{SqliteFailure, SqlInputError, QueryReturnedNoRows}
-use Rattle.sqlite.specs.declared.error.ErrorCode.TheVariants.{NameTaken}
-use Rattle.sqlite.specs.declared.types.Value.TheVariants.{Int, Text}
+use Rattle.sqlite.specs.declared.error.Error.TheVariants.{SqlInputError, QueryReturnedNoRows}
 use Rattle.sqlite.specs.Order.{Row, column}
 use Rattle.sqlite.specs.State.{State, QueriesRow}
 use Rattle.pres_table.specs.declared.fault.SavedFault.{SavedFault}
 use Rattle.pres_table.specs.declared.fault.SavedFault.TheVariants.{NotOurs, Version}
 use Rattle.pres_table.specs.Faults.{fault_of}
-use Rattle.pres_table.specs.Schemas.{saved_schema}
 use Rattle.pres_table.specs.Saved.{rows_in, shown_rows, whole_of, AreBelow}
 use Rattle.pres_table.specs.Kept.{IsSame}
-
--- the row of the table meta, in its first place
-abbrev pub format_row : Row
-format_row = Int (pos 1) ∷ Text (codes "format") ∷ Int (pos 1) ∷ []
-
--- both tables, committed: no saved row, and the format 1
-pub record IsMade (s : State) : Type 0 where
-  pub schema : s.now.schema ≡ saved_schema
-  pub rows : rows_in s ≡ []
-  pub format : s.now.trees 0 ≡ format_row ∷ []
-  pub committed : s.committed ≡ s.now
-  pub is_open : IsTrue s.is_open
-  pub mode : s.in_transaction ≡ false
-
--- a name that is taken is another's table
-abbrev pub making_fault : Error → SavedFault
-making_fault (SqliteFailure NameTaken) = NotOurs
-making_fault e = fault_of e
 
 abbrev pub format_text : List ℕ
 format_text = codes "SELECT value FROM meta WHERE name = 'format'"

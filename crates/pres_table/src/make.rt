@@ -1,9 +1,9 @@
 //! The statements that make the tables.
 
-ghost use Rattle.std.specs.Prelude.{◌≡◌, false, IsTrue, OnOk, OnErr};
+ghost use Rattle.std.specs.Prelude.{◌≡◌, false, IsTrue, IfErr, OnOk, OnErr};
 ghost use Rattle.sqlite.specs.Held.{state};
-ghost use Rattle.sqlite.specs.State.{HasCleanDisk};
-ghost use Rattle.pres_table.specs.Opened.{IsMade, making_fault};
+ghost use Rattle.sqlite.specs.State.{HasCleanDisk, Survives};
+ghost use Rattle.pres_table.specs.Made.{IsMade, HoldsFormat, Makes, FailsToMake, making_fault};
 ghost use Rattle.pres_table.specs.Schemas.{no_schema};
 
 use crate::fault::SavedFault;
@@ -22,6 +22,12 @@ pub(crate) fn make<S: Alter>(connection: &mut Connection<S>) -> Result<(), Error
         × ((state S.Store connection.new).committed
         ≡ (state S.Store connection.old).committed)) }
     ensures mode { connection.new.in_transaction ≡ false }
+    ensures makes { HasCleanDisk (state S.Store connection.new)
+        → OnOk result (Makes S.Store connection.old (state S.Store connection.new)) }
+    ensures refused { HasCleanDisk (state S.Store connection.new)
+        → IfErr result (FailsToMake S.Store connection.old) }
+    ensures crash { connection.old.schema ≡ no_schema
+        → Survives (state S.Store connection.old) (state S.Store connection.new) HoldsFormat }
 {
     let _alone = connection.is_autocommit();
     let mut tx = connection.transaction();

@@ -1,11 +1,12 @@
 //! The table of saved rows.
 
-ghost use Rattle.std.specs.Prelude.{◌≡◌, ◌⊎◌, ◌+◌, ◌<◌, ◌≤◌, ◌++◌, ◌∷◌, [], false, Ok, Err, if◌then◌else◌, is_ok, map, IsTrue, IfOk, IfErr, OnOk, OnErr};
+ghost use Rattle.std.specs.Prelude.{◌≡◌, ◌⊎◌, ◌+◌, ◌<◌, ◌≤◌, ◌++◌, ◌∷◌, [], false, length, Ok, Err, if◌then◌else◌, is_ok, map, IsTrue, IfOk, IfErr, MatchResult, OnOk, OnErr};
 ghost use Rattle.sqlite.specs.Held.{state};
 ghost use Rattle.sqlite.specs.State.{HasCleanDisk, Survives};
 ghost use Rattle.pres_ids.specs.Numbers.{greatest_number};
 ghost use Rattle.pres_table.specs.Kept.{IsOurs, Serves, AddsRow, IsLeft};
-ghost use Rattle.pres_table.specs.Opened.{IsMade, HasFormat, LacksFormat, IsFound};
+ghost use Rattle.pres_table.specs.Opened.{HasFormat, LacksFormat, IsFound};
+ghost use Rattle.pres_table.specs.Made.{IsMade, HoldsFormat, Makes, FailsToMake, making_fault};
 ghost use Rattle.pres_table.specs.Schemas.{no_schema};
 ghost use Rattle.pres_table.specs.Saved.{saved_of, saved_rows, shown_rows, stored, rows_in};
 ghost use Rattle.pres_table.specs.Taking.{GoesOver};
@@ -64,6 +65,16 @@ impl<S: Alter + Drop> Table<S> {
             → ((state S.Store e.1).now ≡ (state S.Store connection).now)
             × ((state S.Store e.1).committed ≡ (state S.Store connection).committed)) }
         ensures mode { IfErr result (λ e. e.1.in_transaction ≡ false) }
+
+        // By the meaning of the statements, in whatever database.
+        ensures makes { IfOk result (λ t. HasCleanDisk (state S.Store t.connection)
+            → Makes S.Store connection (state S.Store t.connection)) }
+        ensures refused { IfErr result (λ e. HasCleanDisk (state S.Store e.1)
+            → (why : _) × FailsToMake S.Store connection why × (e.0 ≡ making_fault why)) }
+
+        ensures crash { connection.schema ≡ no_schema → MatchResult result
+            (λ t. Survives (state S.Store connection) (state S.Store t.connection) HoldsFormat)
+            (λ e. Survives (state S.Store connection) (state S.Store e.1) HoldsFormat) }
     {
         let mut connection = connection;
         match make(&mut connection) {
@@ -107,6 +118,12 @@ impl<S: Alter + Drop> Table<S> {
             → OnOk result (AddsRow (state S.Store self.old.connection)
             (state S.Store self.new.connection) (self.old.last + 1)
             (record { moment = moment; body = body.now })) }
+        ensures saved { HasCleanDisk (state S.Store self.new.connection) → Serves S.Store self.old
+            → OnOk result ((before : _)
+            → saved_rows (shown_rows (state S.Store self.old.connection)) ≡ Ok before
+            → self.old.last ≡ length before
+            → saved_rows (shown_rows (state S.Store self.new.connection))
+            ≡ Ok (before ++ record { moment = moment; body = body.now } ∷ [])) }
         ensures last { self.new.last
             ≡ (if is_ok result then self.old.last + 1 else self.old.last) }
         ensures err { HasCleanDisk (state S.Store self.new.connection) → Serves S.Store self.old
@@ -125,6 +142,7 @@ impl<S: Alter + Drop> Table<S> {
         if self.last >= MAX_SAFE_INTEGER {
             return Err(SavedFault::Database);
         }
+        let _ = moment.millis();
         insert(&mut self.connection, self.last + 1, moment, body)?;
         self.last += 1;
         Ok(())
@@ -154,8 +172,9 @@ impl<S: Alter + Drop> Table<S> {
             → IfOk result (λ rows. saved_rows (shown_rows (state S.Store self.old.connection))
             ≡ Ok (map saved_of rows.items)) }
         ensures bad { HasCleanDisk (state S.Store self.new.connection) → Serves S.Store self.old
-            → IfErr result (λ e. (k : _) → e ≡ SavedFault.BadRow k
-            → saved_rows (shown_rows (state S.Store self.old.connection)) ≡ Err k) }
+            → IfErr result (λ e. ((k : _) × (e ≡ SavedFault.BadRow k)
+            × (saved_rows (shown_rows (state S.Store self.old.connection)) ≡ Err k))
+            ⊎ ((e ≡ SavedFault.Memory) ⊎ (e ≡ SavedFault.Database))) }
         ensures left { HasCleanDisk (state S.Store self.new.connection) → Serves S.Store self.old
             → IsLeft (state S.Store self.old.connection) (state S.Store self.new.connection) }
         ensures last { self.new.last ≡ self.old.last }

@@ -2,6 +2,7 @@ use Rattle.std.proofs.Common.{◌≡◌, ◌+◌, arith}
 use Rattle.sqlite.specs.State.{HasCleanDisk}
 use Rattle.sqlite.specs.Held.{state}
 use Rattle.pres_table.specs.Saved.{Saved}
+use Rattle.pres_table.proofs.Growing.{saved_more}
 use Rattle.pres_table.proofs.Inserting.{awaits_more}
 use Rattle.pres_table.proofs.table.Table.append.Goals as goal
 
@@ -11,5 +12,13 @@ returns-clause-serves g c =
     let new = state g.S.Store c.insert.new.connection in
     let b : Saved = record { moment = c.args.moment; body = c.args.body.now } in
     rw (← c.self.view_is) (λ serves clean.
-        let early : HasCleanDisk old = omega (arith, (c.insert.ensures.crash serves).clean, clean) in
-        awaits_more old new (c.self.inside.last + 1) b (serves early) (c.in_ok-insert.ensures.ok clean serves))
+    let early : HasCleanDisk old = omega (arith, (c.insert.ensures.crash serves).clean, clean) in
+    awaits_more old new (c.self.inside.last + 1) b (serves early) (c.in_ok-insert.ensures.ok clean serves))
+
+pub returns-clause-saved : goal.returns-clause-saved
+returns-clause-saved g c =
+    let old = state g.S.Store c.self.inside.connection in
+    let new = state g.S.Store c.insert.new.connection in
+    let b : Saved = record { moment = c.args.moment; body = c.args.body.now } in
+    rw (← c.self.view_is) (λ clean serves before holds count.
+    saved_more old new c.self.inside.last b c.millis.ensures.bound c.utf8.body (c.in_ok-insert.ensures.ok clean serves) before holds count)

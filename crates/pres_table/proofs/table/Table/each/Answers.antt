@@ -19,5 +19,5 @@ returns-clause-serves g c =
     let new = state g.S.Store c.go_over.new.connection in
     let k = c.self.inside.last + 1 in
     rw (← c.self.view_is) (λ serves clean.
-        let early : HasCleanDisk old = omega (arith, (c.go_over.ensures.crash k serves).clean, clean) in
-        awaits_left old new k (serves early) (c.go_over.ensures.left clean k serves))
+    let early : HasCleanDisk old = omega (arith, (c.go_over.ensures.crash k serves).clean, clean) in
+    awaits_left old new k (serves early) (c.go_over.ensures.left clean k serves))
