@@ -22,4 +22,5 @@ pub mod Turned
 pub mod OpenList
 pub mod Follows
 pub mod Anew
+pub mod Replayed
 pub mod Views

@@ -99,6 +99,8 @@ impl Replay {
     fn refused(&self) -> ReplayFault
         ensures { (k : ℕ) × (result ≡ NotLegal k) × (k ≡ length self.now + 1) }
     {
+        // it ensures that the log is legal, and so that its batches are few
+        let _ = self.server.number();
         let Some(number) = Number::new(self.server.log().batches().len() as u64 + 1) else {
             unreachable!()
         };

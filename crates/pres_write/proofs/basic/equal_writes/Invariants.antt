@@ -1,0 +1,7 @@
+use Rattle.std.proofs.Common.{◌≡◌, drop}
+use Rattle.std.specs.Prelude.{◌↔◌}
+use Rattle.pres_write.proofs.basic.equal_writes.Given as goal
+
+-- what is left of both decides
+abbrev pub invariant-loop-write : goal.invariant-loop-write
+invariant-loop-write l = (l.writes ≡ l.others) ↔ (drop l.write-index l.writes ≡ l.rest)
