@@ -62,12 +62,18 @@ holds_anew log m old places kept h g ordered = record {
   ordered = ordered;
 }
 
-moments_set : (m : ℕ) (es : List (ClientId × Session)) → map (λ (e : ClientId × Session). (e.0, e.1.heard)) (all_heard m es) ≡ map (λ (e : ClientId × _). (e.0, m)) (behind id_of es)
+abbrev moment_of : ClientId × Session → ClientId × ℕ
+moment_of e = (e.0, e.1.heard)
+
+abbrev at_moment : {X : Type 0} → ℕ → ClientId × X → ClientId × ℕ
+at_moment m e = (e.0, m)
+
+moments_set : (m : ℕ) (es : List (ClientId × Session)) → map moment_of (all_heard m es) ≡ map (at_moment m) (behind id_of es)
 moments_set m [] = refl
 moments_set m (e ∷ es) = ap (λ l. (e.0, m) ∷ l) (moments_set m es)
 
 pub heard_is_anew : (log : Log) (m : ℕ) (old : Index) (places : Places) → Holds log m old → places.live.entries ≡ all_heard m old.places.live.entries → heard_of_all places ≡ heard_anew log
 heard_is_anew log m old places kept h =
-    ap (map (λ (e : ClientId × Session). (e.0, e.1.heard))) h
+    ap (map moment_of) h
     ∙ moments_set m old.places.live.entries
-    ∙ (λ i. map (λ e. (e.0, kept.last i)) (open_list (entries log) old kept.indexed (legal_is_sound log kept.legal) kept.ordered i))
+    ∙ (λ i. map (at_moment (kept.last i)) (open_list (entries log) old kept.indexed (legal_is_sound log kept.legal) kept.ordered i))

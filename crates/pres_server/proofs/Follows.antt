@@ -1,5 +1,5 @@
 -- What the index says of a batch is what the log asks of it.
-use Rattle.std.proofs.Common.{sym, ◌∙◌, ap, subst, refl, ◌≡◌, ℕ, ◌+◌, ◌≤◌, List, [], ◌∷◌, ◌++◌, length, Bool, true, false, cond, append_assoc, arith, length-append, Option, Some, None}
+use Rattle.std.proofs.Common.{sym, ◌∙◌, ap, subst, refl, ◌≡◌, ℕ, ◌+◌, ◌≤◌, List, [], ◌∷◌, ◌++◌, length, Bool, true, false, cond, append_assoc, arith, length-append, ◌↔◌, Option, Some, None}
 use Rattle.std.specs.List.{list_any, list_all}
 use Rattle.std.proofs.lemmas.Bool.{and_parts}
 use Rattle.pres_tree.specs.declared.scalar.Scalar.{Scalar}
@@ -25,7 +25,7 @@ use Rattle.pres_server.specs.Invariants.{Holds}
 use Rattle.pres_server.specs.Parts.{Part, Sound, part_of, live_in, plan_in, plan_after, listed, is_live, open_steps}
 use Rattle.pres_server.specs.Places.{open_count}
 use Rattle.pres_server.specs.Index.{part_at, paths_at}
-use Rattle.pres_server.specs.Follows.{IsNextIn, IsNextBy, IsEndNumberBy, MayComeBy, IsNewerBy, MayComeTogetherBy, LeavesRoomBy}
+use Rattle.pres_server.specs.Follows.{IsNextIn, IsNextBy, IsEndNumberBy, MayComeBy, IsNewerBy, MayComeTogetherBy, LeavesRoomBy, MayJoinOn}
 use Rattle.pres_server.proofs.Since.{session_itself}
 use Rattle.pres_server.proofs.PlanSteps.{plan_own}
 use Rattle.pres_server.proofs.ListenSteps.{listened_own}
@@ -255,3 +255,19 @@ joins_out log moment index b kept follows =
       room = omega arith;
       together = subst (SaidTogether b.moment b.entries) (sym (said_is log moment index kept)) (together_out es b.moment b.entries sound follows.allowed);
     }
+
+-- the readers of the log and of the batch decide whether it may follow
+abbrev JoinsAt : Index → ℕ × ℕ × List Entry → Type 0
+JoinsAt index x = MayJoinOn index (record { number = x.0; moment = x.1 }) x.2
+
+pub follows_by : (log : Log) (moment : ℕ) (index : Index) (b : Batch) (n m : ℕ) (es : List Entry) → Holds log moment index → n ≡ number log → m ≡ b.moment → es ≡ b.entries
+    → b.first ≡ n + 1 → moment ≤ m → m ≤ moments.last_moment → MayJoinOn index (record { number = n; moment = m }) es ↔ MayFollow log b
+follows_by log moment index b n m es kept en em ee first later range =
+    (
+      λ h.
+      let j = subst (JoinsAt index) (λ i. (en i, em i, ee i)) h in
+      joins_in log moment index b kept (omega arith) (record { first = omega arith; not_earlier = omega arith; room = j.0; together = j.1 }),
+      λ f.
+      let j = joins_out log moment index b kept f in
+      subst (JoinsAt index) (λ i. (sym en i, sym em i, sym ee i)) (j.room, j.together),
+    )
