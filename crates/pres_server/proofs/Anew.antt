@@ -1,5 +1,5 @@
 -- The server that is made from its log, whose clients count as heard of at the log's greatest moment.
-use Rattle.std.proofs.Common.{refl, sym, ◌∙◌, ap, subst, ◌≡◌, ℕ, List, [], ◌∷◌, map, Option, Some, None}
+use Rattle.std.proofs.Common.{refl, ◌∙◌, ap, ◌≡◌, ℕ, List, [], ◌∷◌, map, Option, Some, None}
 use Rattle.std.specs.Map.{lookup}
 use Rattle.std.specs.BTreeMap.{get, is_at, IsOrdered}
 use Rattle.std.specs.Option.{option_map}
@@ -9,13 +9,11 @@ use Rattle.pres_wire.specs.Ids.{ClientId, client_cmp}
 use Rattle.pres_retry.specs.declared.table.Row.{Row}
 use Rattle.pres_retry.specs.Tables.{rows_of}
 use Rattle.pres_log.specs.declared.entry.Entry.{Entry}
-use Rattle.pres_log.specs.Logs.{Log, entries, last_moment}
+use Rattle.pres_log.specs.Logs.{Log, entries}
 use Rattle.pres_server.specs.declared.index.Index.{Index}
 use Rattle.pres_server.specs.declared.places.Places.{Places}
-use Rattle.pres_server.specs.Sessions.{open_entries}
-use Rattle.pres_server.specs.Heard.{Heard}
 use Rattle.pres_server.specs.Places.{Session, sent_to, heard_only, heard_of_all}
-use Rattle.pres_server.specs.Index.{session_at, gone_at, part_at, sent_at, Indexed}
+use Rattle.pres_server.specs.Index.{session_at, gone_at, Indexed}
 use Rattle.pres_server.specs.Invariants.{Holds}
 use Rattle.pres_server.specs.Replays.{heard_anew}
 use Rattle.pres_server.proofs.Heard.{behind}

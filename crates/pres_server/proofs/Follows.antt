@@ -1,5 +1,5 @@
 -- What the index says of a batch is what the log asks of it.
-use Rattle.std.proofs.Common.{sym, ◌∙◌, ap, subst, refl, ◌≡◌, ℕ, ◌+◌, ◌≤◌, List, [], ◌∷◌, ◌++◌, length, Bool, true, false, cond, append_assoc, arith, length-append, ◌↔◌, Option, Some, None}
+use Rattle.std.proofs.Common.{sym, ◌∙◌, ap, subst, refl, ◌≡◌, ℕ, ◌+◌, ◌≤◌, List, [], ◌∷◌, ◌++◌, length, Bool, true, false, cond, arith, length-append, ◌↔◌, Option, Some, None}
 use Rattle.std.specs.List.{list_any, list_all}
 use Rattle.std.proofs.lemmas.Bool.{and_parts}
 use Rattle.pres_tree.specs.declared.scalar.Scalar.{Scalar}
@@ -20,9 +20,9 @@ use Rattle.pres_server.specs.declared.index.Index.{Index}
 use Rattle.pres_server.specs.Sessions.{session_of, opens, is_open, is_newest, count, open_sessions, open_sessions_of}
 use Rattle.pres_server.specs.Listening.{listened}
 use Rattle.pres_server.specs.SessionPlans.{plan, due_at}
-use Rattle.pres_server.specs.LegalLog.{IsNext, IsEndNumber, MayCome, MayComeTogether, Supersedes, LeavesRoom, MayFollow}
+use Rattle.pres_server.specs.LegalLog.{IsNext, IsEndNumber, MayCome, MayComeTogether, Supersedes, MayFollow}
 use Rattle.pres_server.specs.Invariants.{Holds}
-use Rattle.pres_server.specs.Parts.{Part, Sound, part_of, live_in, plan_in, plan_after, listed, is_live, open_steps}
+use Rattle.pres_server.specs.Parts.{Part, Sound, part_of, live_in, plan_in, plan_after, listed, open_steps}
 use Rattle.pres_server.specs.Places.{open_count}
 use Rattle.pres_server.specs.Index.{part_at, paths_at}
 use Rattle.pres_server.specs.Follows.{IsNextIn, IsNextBy, IsEndNumberBy, MayComeBy, IsNewerBy, MayComeTogetherBy, LeavesRoomBy, MayJoinOn}

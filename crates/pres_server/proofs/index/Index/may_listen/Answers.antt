@@ -1,4 +1,4 @@
-use Rattle.std.proofs.Common.{◌≡◌, ◌≤◌, ◌∙◌, ap, sym, subst, ℕ, List, length, Bool, true, false, cond, nat_le, arith, IsTrue, ◌↔◌}
+use Rattle.std.proofs.Common.{◌≡◌, ◌≤◌, ◌∙◌, ap, sym, ℕ, List, length, Bool, true, cond, nat_le, arith, IsTrue, ◌↔◌}
 use Rattle.std.proofs.lemmas.Bool.Decides.{nat_tests}
 use Rattle.pres_tree.specs.Paths.{Path}
 use Rattle.pres_wire.specs.declared.id.SessionId.{SessionId}

@@ -1,5 +1,4 @@
-use Rattle.std.proofs.Common.{◌≡◌, ◌∙◌, ap, ◌<◌, ◌^◌, length, arith}
-use Rattle.pres_log.specs.Logs.{Log}
+use Rattle.std.proofs.Common.{◌≡◌, ◌∙◌, ap, length, arith}
 use Rattle.pres_server.proofs.Replayed.{few_batches}
 use Rattle.pres_server.proofs.replay.Replay.refused.Goals as goal
 
