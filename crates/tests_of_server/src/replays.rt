@@ -208,3 +208,13 @@ fn batches_are_replayed(rt: HostRuntime) -> Result<(), Fail> {
     assert_eq!(rt; wrong.as_str(), "");
     Ok(())
 }
+
+#[test]
+fn faults_are_numbered_and_named(rt: HostRuntime) -> Result<(), Fail> {
+    let refused = ReplayFault::NotLegal(Number::first());
+    assert_eq!(rt; (ReplayFault::Memory.number(), refused.number()), (1, 2));
+    assert_eq!(rt; refused.name(), "NotLegal");
+    let text = refused.to_string(rt.alloc())?;
+    assert_eq!(rt; text.as_str(), "batch 1 may not follow");
+    Ok(())
+}
