@@ -20,4 +20,7 @@ pub mod Heard
 pub mod Readers
 pub mod Turned
 pub mod OpenList
+pub mod Follows
+pub mod Anew
+pub mod Replayed
 pub mod Views

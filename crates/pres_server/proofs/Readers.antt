@@ -16,7 +16,7 @@ use Rattle.pres_server.proofs.Decide.{live_is, stamp_itself}
 pub open_is : (es : List Entry) (index : Index) (s : SessionId) → Sound es → Indexed es index → is_live (part_at index s.client).live (stamp_of s) ≡ is_open s es
 open_is es index s sound ix = ap (λ (p : Part). is_live p.live (stamp_of s)) (ix.parts s.client) ∙ sym (live_is s es sound)
 
-count_by : (s : SessionId) (es : List Entry) → Sound es → count_in (part_of s.client es).live (stamp_of s) ≡ cond (is_open s es) (Some (count s es)) None
+pub count_by : (s : SessionId) (es : List Entry) → Sound es → count_in (part_of s.client es).live (stamp_of s) ≡ cond (is_open s es) (Some (count s es)) None
 count_by s es sound = elim (is_open s es) as (λ b. is_open s es ≡ b → count_in (part_of s.client es).live (stamp_of s) ≡ cond b (Some (count s es)) None) [
   | true ↦ λ o. ap (λ xs. count_in (live_in xs es) (stamp_of s)) (only_open s es sound o) ∙ ap (λ b. cond b (Some (count s es)) None) (stamp_itself (stamp_of s))
   | false ↦ λ o. by (part_of s.client es).live (sym (live_is s es sound) ∙ o)

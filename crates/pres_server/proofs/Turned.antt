@@ -15,7 +15,7 @@ use Rattle.pres_server.specs.Turns.{moment_of, wanted, turn, batch_of}
 use Rattle.pres_server.specs.Parts.{wanted_by, limited_by}
 use Rattle.pres_server.specs.Heard.{State, heard_after_all}
 use Rattle.pres_server.specs.Index.{part_at, paths_at, heard_in, Indexed, Tells}
-use Rattle.pres_server.specs.Invariants.{MayTakeAll, Holds, Waits}
+use Rattle.pres_server.specs.Invariants.{MayTakeAll, Holds}
 use Rattle.pres_server.specs.Sessions.{open_sessions}
 use Rattle.pres_server.specs.Places.{open_count}
 use Rattle.pres_server.proofs.OpenList.{open_count_is}
@@ -25,7 +25,7 @@ use Rattle.pres_server.specs.Parts.{Part}
 use Rattle.pres_server.proofs.AfterEntry.{open_counted}
 use Rattle.pres_server.proofs.Heard.{heard_is, heard_sorted, sorted_after_all}
 
-count_is : (log : Log) (moment : ℕ) (index : Index) → Holds log moment index → open_count index.places ≡ length (open_sessions (entries log))
+pub count_is : (log : Log) (moment : ℕ) (index : Index) → Holds log moment index → open_count index.places ≡ length (open_sessions (entries log))
 count_is log moment index kept = open_count_is (entries log) index kept.indexed (legal_is_sound log kept.legal) kept.ordered
 
 -- the numbers are far from the last one
@@ -66,15 +66,15 @@ turned log moment now index i kept low =
 
 -- ---- the commit
 
-pub fitting : (log : Log) (moment : ℕ) (index : Index) (b : Batch) → Holds log moment index → Waits log b → MayTakeAll (entries log) b.first b.moment b.entries index
-fitting log moment index b kept waits =
-    let room = waits.follows.room in
+pub fitting : (log : Log) (moment : ℕ) (index : Index) (b : Batch) → Holds log moment index → MayFollow log b → MayTakeAll (entries log) b.first b.moment b.entries index
+fitting log moment index b kept follows =
+    let room = follows.room in
     let both = length-append (entries log) b.entries in
     record {
       indexed = kept.indexed;
       sound = legal_is_sound log kept.legal;
-      next = waits.follows.first;
-      in_turn = follows_in_turn (entries log) b.moment b.entries waits.follows.allowed;
+      next = follows.first;
+      in_turn = follows_in_turn (entries log) b.moment b.entries follows.allowed;
       room = omega arith;
     }
 

@@ -11,4 +11,7 @@ pub mod Places
 pub mod Pushes
 pub mod Index
 pub mod Invariants
+pub mod Follows
+pub mod Replays
+pub mod Faults
 pub mod Laws

@@ -59,6 +59,10 @@ answered_at moment live = option_map (λ session. answered moment session.plan s
 abbrev pub heard_at : ℕ → Option Session → Option Session
 heard_at moment live = option_map (λ session. record { stamp = session.stamp; count = session.count; sent = session.sent; heard = max session.heard moment; plan = session.plan }) live
 
+-- a session whose client counts as heard of at the moment
+abbrev pub heard_only : ℕ → Session → Session
+heard_only moment session = record { stamp = session.stamp; count = session.count; sent = session.sent; heard = moment; plan = session.plan }
+
 -- a session that begins
 abbrev pub began : Stamp → ℕ → Session
 began stamp moment = opened stamp moment []

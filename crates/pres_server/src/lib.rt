@@ -2,12 +2,14 @@
 //! of entries. The batch is committed by the caller before the turn is done and anything answered.
 #![tactic(auto)]
 
+mod follow;
 mod index;
 mod input;
 pub mod laws;
 mod places;
 mod push;
 mod reopen;
+mod replay;
 mod server;
 mod turn;
 
@@ -21,4 +23,5 @@ pub use pres_wire::{
 };
 pub use pres_write::{Basic, Items, Kept, Moment, Op, Outcome, Placement, Puts, Unconditional};
 pub use reopen::Reopen;
+pub use replay::{Replay, ReplayFault};
 pub use server::{Busy, Server, Turn};

@@ -1,9 +1,9 @@
 //! Where each client stands.
 
-ghost use Rattle.std.specs.Prelude.{◌≡◌, ◌+◌, nat_lt, [], IfSome, OnOk, IfOk, IsSome, Some, None, option_map, option_copied};
+ghost use Rattle.std.specs.Prelude.{◌≡◌, ◌+◌, nat_lt, [], map, IfSome, OnOk, IfOk, IsSome, Some, None, option_map, option_copied};
 ghost use Rattle.std.specs.BTreeMap.{get, Updates, IsOrdered};
 ghost use Rattle.pres_ids.specs.Ids.{client_cmp, stamp_of};
-ghost use Rattle.pres_server.specs.Places.{began, next_number, last_stamp, open_count, MayOpen, MayLeave, MayLeaveAt, AreDueAt, HasRoom, MaySend, sent_one, answered, answered_at, live_after, heard_at, heard_of_all};
+ghost use Rattle.pres_server.specs.Places.{began, next_number, last_stamp, open_count, MayOpen, MayLeave, MayLeaveAt, AreDueAt, HasRoom, MaySend, sent_one, answered, answered_at, live_after, heard_at, heard_only, heard_of_all};
 ghost use Rattle.pres_server.specs.Heard.{lease, late_client};
 ghost use Rattle.pres_log.specs.declared.entry.Entry.TheVariants as entry;
 
@@ -285,6 +285,19 @@ impl Places {
         if let Some(live) = self.live.get_mut(client) {
             live.hear(moment);
         }
+    }
+
+    /// The client of each open session counts as heard of at the moment. It takes no memory.
+    pub(crate) fn hear_anew(&mut self, moment: Moment)
+        ensures live { self.new.live.entries
+            ≡ map (λ e. (e.0, heard_only moment e.1)) self.old.live.entries }
+        ensures gone { self.new.gone ≡ self.old.gone }
+        ensures ordered { IsOrdered client_cmp self.new.live }
+    {
+        self.live.retain(|_client, live| {
+            live.set_heard(moment);
+            true
+        });
     }
 
     /// The first client, in byte order, that is silent for longer than its lease.

@@ -1,6 +1,6 @@
 //! The server.
 
-ghost use Rattle.std.specs.Prelude.{◌≡◌, ◌++◌, ◌∷◌, [], IfOk, IfErr, MatchOption, Some, None, false, is_some, if◌then◌else◌};
+ghost use Rattle.std.specs.Prelude.{◌≡◌, ◌↔◌, ◌++◌, ◌∷◌, [], IsTrue, IfOk, IfErr, MatchOption, Some, None, false, is_some, if◌then◌else◌};
 ghost use Rattle.pres_tree.specs.Rows.{is_null, value_at};
 ghost use Rattle.pres_log.specs.Logs.{number, entries, tree};
 ghost use Rattle.pres_log.specs.declared.fault.Fault.TheVariants.{Busy as OutOfMemory};
@@ -10,6 +10,7 @@ ghost use Rattle.pres_server.specs.Outcomes.{rows_for};
 ghost use Rattle.pres_server.specs.LegalLog.{IsLegal, MayFollow};
 ghost use Rattle.pres_server.specs.Turns.{turn, batch_of, state_after, IsTurn, IsRefusal};
 ghost use Rattle.pres_server.specs.Streams.{answers};
+ghost use Rattle.pres_server.specs.Replays.{made_from};
 
 use crate::index::{Index, Made, take_all};
 use crate::input::Input;
@@ -20,7 +21,7 @@ use pres_retry::Row;
 use pres_tree::{Path, Tree};
 use pres_wire::{ClientId, Count, Down, Number, SessionId};
 use pres_write::{Items, Moment};
-use std::alloc::Global;
+use std::alloc::{AllocError, Global};
 use std::marker::Model;
 
 /// A server of one thread: many clients share its tree by sessions and numbered writes. All that
@@ -198,6 +199,60 @@ impl Server {
             Err(fault) => Err((fault, self)),
         }
     }
+
+    /// Whether the batch may follow the log.
+    pub(crate) fn may_follow(&self, batch: &Batch) -> Result<bool, AllocError>
+        ensures { IfOk result (λ may. IsTrue may ↔ MayFollow self.now.log batch.now) }
+    {
+        let number = self.log.len();
+        let moment = batch.moment();
+        if batch.first().get() != number + 1 || moment.millis() < self.moment.millis() {
+            return Ok(false);
+        }
+        self.index.may_join(self.alloc, batch.entries(), Now { number, moment })
+    }
+
+    /// The server with a batch behind its log, and the answers of the batch in their order.
+    pub(crate) fn join(self, batch: Batch) -> Result<(Server, Items<Down>), Reopen>
+        requires { MayFollow self.log batch }
+        ensures server { IfOk result
+            (λ done. done.0 ≡ state_after self batch.moment batch.entries) }
+        ensures answers { IfOk result
+            (λ done. done.1 ≡ answers (entries self.log) batch.entries) }
+    {
+        let Server {
+            alloc,
+            mut log,
+            mut index,
+            ..
+        } = self;
+        let moment = batch.moment();
+        let made = Made {
+            number: batch.first(),
+            moment,
+        };
+        let mut answers = Vec::new(alloc);
+        take_all(&mut index, alloc, batch.entries(), made, &mut answers)?;
+        // it ensures that the clients are in order
+        let _ = index.places.open_count();
+        let Ok(()) = log.push(batch) else {
+            return Err(Reopen);
+        };
+        let server = Server {
+            alloc,
+            log,
+            moment,
+            index,
+        };
+        Ok((server, Items::of(answers)))
+    }
+
+    /// The client of each open session counts as heard of at the log's greatest moment.
+    pub(crate) fn hear_anew(&mut self)
+        ensures { self.new ≡ made_from self.old.log }
+    {
+        self.index.places.hear_anew(self.moment);
+    }
 }
 
 impl Busy {
@@ -226,30 +281,6 @@ impl Busy {
             (λ done. done.1 ≡ answers (entries self.state.log) self.made) }
     {
         let Busy { server, batch } = self;
-        let Server {
-            alloc,
-            mut log,
-            mut index,
-            ..
-        } = server;
-        let moment = batch.moment();
-        let made = Made {
-            number: batch.first(),
-            moment,
-        };
-        let mut answers = Vec::new(alloc);
-        take_all(&mut index, alloc, batch.entries(), made, &mut answers)?;
-        // it ensures that the clients are in order
-        let _ = index.places.open_count();
-        let Ok(()) = log.push(batch) else {
-            return Err(Reopen);
-        };
-        let server = Server {
-            alloc,
-            log,
-            moment,
-            index,
-        };
-        Ok((server, Items::of(answers)))
+        server.join(batch)
     }
 }

@@ -27,11 +27,11 @@ use pres_write::{Items, Moment, Op, Puts, Unconditional};
 use std::alloc::Global;
 
 // So many sessions may be open at a time.
-const MOST_SESSIONS: u64 = 1024;
+pub(crate) const MOST_SESSIONS: u64 = 1024;
 
 // 2^52 - 1: the number of the last entry and the open sessions together stay at or below it, so
 // that each session can end, and no count of messages passes 2^53 - 1.
-const MOST_NUMBERS: u64 = 4503599627370495;
+pub(crate) const MOST_NUMBERS: u64 = 4503599627370495;
 
 /// What a turn does.
 #[derive(Drop)]

@@ -103,6 +103,14 @@ impl<P> Live<P> {
         self.heard = self.heard.max(now);
     }
 
+    /// The client counts as heard of at this moment, also where it was heard of later: who makes a
+    /// server anew doesn't know when that was.
+    pub fn set_heard(&mut self, moment: Moment)
+        ensures { self.new ≡ record self.old { heard = moment } }
+    {
+        self.heard = moment;
+    }
+
     /// The number of the client's next message, from 1 on. Spent after 2^53 - 1.
     pub fn accept(&mut self) -> Result<Number, SessionFault>
         ensures number { IfOk result (λ q. q ≡ self.old.count + 1) }

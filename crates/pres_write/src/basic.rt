@@ -1,6 +1,6 @@
 //! Basic writes, and how they change the tree.
 
-ghost use Rattle.std.specs.Prelude.{◌≡◌, ◌+◌, ◌<◌, [], IfOk, IfErr, MatchResult, length, option_copied};
+ghost use Rattle.std.specs.Prelude.{◌≡◌, ◌↔◌, ◌+◌, ◌<◌, [], IsTrue, IfOk, IfErr, MatchResult, length, option_copied};
 ghost use Rattle.pres_tree.specs.Paths.{max_depth};
 ghost use Rattle.pres_tree.specs.Rows.{Fits, depth_of, option_of, rows_in};
 ghost use Rattle.pres_tree.specs.declared.fault.TreeFault.TheVariants.{Memory};
@@ -96,6 +96,42 @@ impl Basic {
             value: copy_value(alloc, self.value.as_ref())?,
         })
     }
+
+    /// Whether both put the same value at the same path. It takes no memory.
+    pub fn equal(&self, other: &Basic) -> bool
+        ensures { IsTrue result ↔ (self.now ≡ other.now) }
+    {
+        self.path == other.path && equal_value(self.value.as_ref(), other.value.as_ref())
+    }
+}
+
+// Whether both are the same value, or both none.
+pub(crate) fn equal_value(value: Option<&Tree>, other: Option<&Tree>) -> bool
+    ensures { IsTrue result ↔ (option_copied value.entry ≡ option_copied other.entry) }
+{
+    match value {
+        Some(value) => match other {
+            Some(other) => value.equal(other),
+            None => false,
+        },
+        None => other.is_none(),
+    }
+}
+
+/// Whether the writes are the same, in the same order. It takes no memory.
+pub fn equal_writes(writes: &[Basic], others: &[Basic]) -> bool
+    ensures { IsTrue result ↔ (writes.now ≡ others.now) }
+{
+    let mut rest = others.iter();
+    for write in writes {
+        let Some(other) = rest.next() else {
+            return false;
+        };
+        if !write.equal(other) {
+            return false;
+        }
+    }
+    rest.next().is_none()
 }
 
 // An equal value, or none.

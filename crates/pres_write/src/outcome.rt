@@ -1,12 +1,12 @@
 //! What operations come to.
 
-ghost use Rattle.std.specs.Prelude.{◌≡◌, [], IfOk};
+ghost use Rattle.std.specs.Prelude.{◌≡◌, ◌↔◌, [], IsTrue, IfOk};
 ghost use Rattle.pres_tree.specs.Rows.{Fits};
 ghost use Rattle.pres_write.specs.Basics.{Apart};
 ghost use Rattle.pres_write.specs.Outcomes.{kept_of, resolved, writes_in};
 ghost use Rattle.pres_write.specs.declared.op.Op.TheVariants.{Set};
 
-use crate::basic::{Basic, copy_value, copy_writes, settled_write};
+use crate::basic::{Basic, copy_value, copy_writes, equal_value, equal_writes, settled_write};
 use crate::draft::Draft;
 use crate::items::Items;
 use crate::moment::Moment;
@@ -47,6 +47,22 @@ impl Outcome {
         match self {
             Outcome::Wrote(writes) => Ok(Outcome::Wrote(copy_writes(alloc, writes.as_slice())?)),
             Outcome::Stale(held) => Ok(Outcome::Stale(copy_value(alloc, held.as_ref())?)),
+        }
+    }
+
+    /// Whether both are the same. It takes no memory.
+    pub fn equal(&self, other: &Outcome) -> bool
+        ensures { IsTrue result ↔ (self.now ≡ other.now) }
+    {
+        match self {
+            Outcome::Wrote(writes) => match other {
+                Outcome::Wrote(others) => equal_writes(writes.as_slice(), others.as_slice()),
+                Outcome::Stale(_) => false,
+            },
+            Outcome::Stale(held) => match other {
+                Outcome::Wrote(_) => false,
+                Outcome::Stale(other) => equal_value(held.as_ref(), other.as_ref()),
+            },
         }
     }
 }

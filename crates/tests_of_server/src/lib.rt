@@ -16,6 +16,8 @@ mod plans;
 #[cfg(test)]
 mod pushes;
 #[cfg(test)]
+mod replays;
+#[cfg(test)]
 mod sessions;
 #[cfg(test)]
 mod turns;

@@ -2,8 +2,11 @@
 //! `=>`, what it must say. A step is a moment and an input, whose answers it says (`1000 {..}`, or in
 //! place of a message `lost`, `slow` and a session, `restart` and a client, or `tick`); the same behind `see`,
 //! which says what is seen of the server afterwards, or behind `abandon`, whose commit is refused;
-//! or a question about the server: `seen`, `log`, `moments`, `value` and a path, `history` and a client.
+//! or a question about the server: `seen`, `log`, `moments`, `value` and a path, `history` and a client;
+//! or `replay`, from which on the server is one that is made anew from all batches, or that and numbers
+//! of batches, which says what becomes of these in a server of their own.
 
+use crate::replays::{ordered, replayed};
 use pres_server::{
     Batch, Busy, ClientId, Count, Down, Entry, Fault, Input, Limit, Log, Moment, Number, Outcome,
     Path, Row, Server, SessionId, Turn, Up, Why,
@@ -63,7 +66,7 @@ fn fault_text(alloc: Global, fault: Fault) -> Result<String, Fail> {
 }
 
 // The server with a text, where it was made.
-fn with(server: Server, text: Result<String, Fail>) -> Result<(Server, String), Fail> {
+pub(crate) fn with(server: Server, text: Result<String, Fail>) -> Result<(Server, String), Fail> {
     match text {
         Ok(text) => Ok((server, text)),
         Err(fail) => {
@@ -302,6 +305,8 @@ fn step(alloc: Global, server: Server, case: &str) -> Result<(Server, String), F
     match case.split_once(' ') {
         Some(("see", case)) => watched(alloc, server, case),
         Some(("abandon", case)) => abandoned(alloc, server, case),
+        Some(("replay", order)) => ordered(alloc, server, order),
+        None if case == "replay" => replayed(alloc, server),
         _ => asked(alloc, server, case),
     }
 }

@@ -1,0 +1,37 @@
+-- Servers that are made anew from their batches.
+use Rattle.std.specs.Prelude.{ℕ, ◌+◌, ◌≡◌, List, [], ◌∷◌, ◌++◌, map, length}
+use Rattle.pres_log.specs.declared.entry.Batch.{Batch}
+use Rattle.pres_log.specs.Logs.{Log, entries, last_moment}
+use Rattle.pres_server.specs.declared.replay.ReplayFault.{ReplayFault}
+use Rattle.pres_server.specs.declared.replay.ReplayFault.TheVariants.{Memory, NotLegal}
+use Rattle.pres_server.specs.Sessions.{open_entries}
+use Rattle.pres_server.specs.LegalLog.{MayFollow, IsLegal}
+use Rattle.pres_server.specs.Heard.{Heard, State}
+
+-- the client of each open session counts as heard of at the log's greatest moment
+abbrev pub heard_anew : Log → Heard
+heard_anew log = map (λ e. (e.0, last_moment log)) (open_entries (entries log))
+
+-- the server that is made from a log
+abbrev pub made_from : Log → State
+made_from log = record { log = log; heard = heard_anew log }
+
+-- why a batch isn't added to a log, and the log then: at want of memory it begins anew
+abbrev pub IsNotAdded : Log → Batch → Log → ReplayFault → Type 0
+IsNotAdded old batch new Memory = new ≡ []
+IsNotAdded old batch new (NotLegal k) = ¬ (MayFollow old batch) × (k ≡ length old + 1) × (new ≡ old)
+
+-- batch number k is the first that may not follow those before it
+pub record IsFirstIllegal (batches : List Batch) (k : ℕ) : Type 0 where
+  pub before : Log
+  pub batch : Batch
+  pub later : List Batch
+  pub parts : batches ≡ before ++ batch ∷ later
+  pub number : k ≡ length before + 1
+  pub legal : IsLegal before
+  pub refused : MayFollow before batch → ⊥
+
+-- why batches are refused as a log
+abbrev pub IsNoLog : List Batch → ReplayFault → Type 0
+IsNoLog batches Memory = Unit {0}
+IsNoLog batches (NotLegal k) = IsFirstIllegal batches k
