@@ -7,7 +7,7 @@ ghost use Rattle.pres_server.specs.LegalLog.{IsLegal, MayFollow};
 ghost use Rattle.pres_server.specs.Replays.{made_from, IsNotAdded, IsNoLog};
 
 use crate::server::Server;
-use pres_log::Batch;
+use pres_log::{Batch, Log};
 use pres_wire::Number;
 use std::alloc::{AllocError, AllocFailed, Global};
 use std::marker::Model;
@@ -95,13 +95,20 @@ impl Replay {
         }
     }
 
+    /// The log of the batches so far.
+    pub fn log(&self) -> &Log
+        ensures { result.now ≡ self.now }
+    {
+        self.server.log()
+    }
+
     // The number of the next batch, which the log refuses.
     fn refused(&self) -> ReplayFault
         ensures { (k : ℕ) × (result ≡ NotLegal k) × (k ≡ length self.now + 1) }
     {
         // it ensures that the log is legal, and so that its batches are few
         let _ = self.server.number();
-        let Some(number) = Number::new(self.server.log().batches().len() as u64 + 1) else {
+        let Some(number) = Number::new(self.log().batches().len() as u64 + 1) else {
             unreachable!()
         };
         ReplayFault::NotLegal(number)
