@@ -1,11 +1,10 @@
-use Rattle.std.proofs.Common.{◌≡◌, ◌⊎◌, ◌+◌, inl, inr, ℕ, [], Some, None, Ok, Err, refl, sym, ap, subst, ◌∙◌, IsTrue, rules, arith}
+use Rattle.std.proofs.Common.{◌≡◌, ◌⊎◌, ◌+◌, inl, inr, ℕ, [], Some, refl, sym, subst, ◌∙◌, IsTrue, rules, arith}
 use Rattle.std.proofs.lemmas.Result.{err_from_is_err_and}
 use Rattle.sqlite.specs.State.{HasCleanDisk, IsUnchanged, IsRolledBack, Survives, CommitsShowing}
 use Rattle.sqlite.specs.Held.{state}
-use Rattle.sqlite.specs.Given.{Advances}
 use Rattle.sqlite.proofs.StateLemmas.{unchanged}
 use Rattle.pres_table.specs.Kept.{Awaits, IsLeft, IsOurs}
-use Rattle.pres_table.specs.Saved.{Saved, saved_row, saved_of, shown_rows}
+use Rattle.pres_table.specs.Saved.{saved_row, saved_of}
 use Rattle.pres_table.proofs.Refusals.{named}
 use Rattle.pres_table.proofs.Statements.{select_text}
 use Rattle.pres_table.proofs.Inserting.{left_by}
