@@ -108,7 +108,7 @@ impl Replay {
     {
         // it ensures that the log is legal, and so that its batches are few
         let _ = self.server.number();
-        let Some(number) = Number::new(self.log().batches().len() as u64 + 1) else {
+        let Some(number) = Number::new(self.server.log().batches().len() as u64 + 1) else {
             unreachable!()
         };
         ReplayFault::NotLegal(number)

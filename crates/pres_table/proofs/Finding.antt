@@ -1,5 +1,5 @@
 -- How the tables are found.
-use Rattle.std.proofs.Common.{◌≡◌, ◌⊎◌, inl, inr, ℕ, ◌+◌, ◌<◌, ◌≤◌, ◌^◌, max, ℤ, negsuc, IfSome, List, [], ◌∷◌, ◌++◌, map, Option, Some, None, unwrap_or, Result, Ok, Err, IfOk, OnOk, pos, false, IsTrue, refl, sym, ap, subst, ◌∙◌, arith, Less}
+use Rattle.std.proofs.Common.{◌≡◌, ◌⊎◌, inl, inr, ℕ, ◌+◌, ◌<◌, ◌≤◌, ◌^◌, max, ℤ, negsuc, IfSome, List, [], ◌∷◌, ◌++◌, map, Option, Some, None, unwrap_or, Result, Ok, Err, IfOk, OnOk, pos, false, refl, sym, ap, subst, ◌∙◌, arith, Less}
 use Rattle.std.specs.List.{AllByRecursion}
 use Rattle.std.proofs.lemmas.Bool.{cases_lt}
 use Rattle.sqlite.specs.Store.{Ghosts}
@@ -20,8 +20,7 @@ use Rattle.sqlite_keyed.proofs.KeyedLemmas.{Less-from_lt}
 use Rattle.std.proofs.lemmas.Int.{ints}
 use Rattle.sqlite_keyed.proofs.ListLemmas.{all_unmap}
 use Rattle.sqlite.proofs.Callers.{IsPlain, begun_plain, unchanged_then}
-use Rattle.pres_table.specs.Schemas.{saved_schema}
-use Rattle.pres_table.specs.Kept.{IsOurs, CanTake, IsIdle, IsSame, IsLeft}
+use Rattle.pres_table.specs.Kept.{IsOurs, IsIdle, IsLeft}
 use Rattle.pres_table.specs.Saved.{rows_in, shown_row, shown_rows, whole_of, AreBelow}
 use Rattle.pres_table.specs.Opened.{format_text, greatest_in, IsFound}
 use Rattle.pres_table.proofs.Statements.{select_text, select_plain, format_plain}

@@ -1,14 +1,13 @@
 -- One row more, as what the rows save.
-use Rattle.std.proofs.Common.{◌≡◌, ◌==◌, ◌&&◌, ℕ, ◌+◌, ◌≤◌, max, nat_le, List, [], ◌∷◌, ◌++◌, map, length, Option, Some, None, unwrap_or, Result, Ok, Err, true, cond, refl, sym, ap, subst, ◌∙◌, arith}
+use Rattle.std.proofs.Common.{◌≡◌, ◌==◌, ℕ, ◌+◌, ◌≤◌, nat_le, List, [], ◌∷◌, ◌++◌, map, length, Some, Ok, true, refl, ap, ◌∙◌, arith}
 use Rattle.std.proofs.lemmas.Bool.Decides.{nat_tests}
-use Rattle.std.specs.Str.{is_utf8, IsUtf8}
+use Rattle.std.specs.Str.{IsUtf8}
 use Rattle.std.proofs.lemmas.Str.{is_utf8-from_IsUtf8}
-use Rattle.sqlite.specs.Order.{Row, column}
+use Rattle.sqlite.specs.Order.{Row}
 use Rattle.sqlite.specs.State.{State}
 use Rattle.pres_write.specs.Moments.{last_moment}
-use Rattle.pres_table.specs.Saved.{Saved, stored, rows_in, shown_row, shown_rows, whole_of, text_of, saved_as, saved_row, saved_from, saved_rows}
+use Rattle.pres_table.specs.Saved.{Saved, stored, rows_in, shown_row, shown_rows, saved_row, saved_from, saved_rows}
 use Rattle.pres_table.specs.Kept.{AddsRow}
-use Rattle.pres_table.specs.Opened.{greatest_in}
 use Rattle.pres_table.proofs.Loading.{then_ok, saved_push}
 
 map_push : {A B : Type 0} (f : A → B) (xs : List A) (x : A) → map f (xs ++ x ∷ []) ≡ map f xs ++ f x ∷ []

@@ -1,5 +1,5 @@
 -- What the statement that reads all rows shows, and what the shown rows save.
-use Rattle.std.proofs.Common.{◌≡◌, ℕ, ◌+◌, List, [], ◌∷◌, ◌++◌, map, flat_map, length, Option, Some, None, Result, Ok, Err, refl, sym, ap, subst, ◌∙◌, arith, Less, Equal, IsPermutation, append_assoc}
+use Rattle.std.proofs.Common.{◌≡◌, ℕ, ◌+◌, List, [], ◌∷◌, ◌++◌, map, flat_map, length, Option, Some, None, Result, Ok, Err, refl, sym, ap, subst, ◌∙◌, arith, Less, Equal, IsPermutation}
 use Rattle.std.specs.Ordering.{ordering_then}
 use Rattle.sqlite.specs.declared.types.Value.TheVariants.{Null}
 use Rattle.sqlite.specs.Order.{Row}
@@ -15,7 +15,7 @@ use Rattle.sqlite.specs.State.{State, Shown, Begins}
 use Rattle.sqlite.proofs.Callers.{reads_as, begins_as}
 use Rattle.pres_table.specs.Schemas.{saved_schema}
 use Rattle.pres_table.specs.Kept.{IsOurs}
-use Rattle.pres_table.specs.Saved.{Saved, shown_row, shown_rows, saved_row, saved_from, rows_then, front_from, front_then}
+use Rattle.pres_table.specs.Saved.{Saved, shown_rows, saved_row, saved_from, rows_then, front_from, front_then}
 use Rattle.pres_table.proofs.Statements.{select_text, query, select_is, select_plain}
 
 singles : {A B : Type 0} (f : A → B) (xs : List A) → flat_map (λ x. f x ∷ []) xs ≡ map f xs

@@ -1,11 +1,11 @@
 -- What the statements that make the tables do.
-use Rattle.std.proofs.Common.{◌≡◌, ◌≢◌, ℕ, List, [], ◌∷◌, true, false, Some, None, Ok, Err, Result, refl, sym, ap, subst, ◌∙◌, IsTrue, IfErr, arith, codes, pos}
+use Rattle.std.proofs.Common.{◌≡◌, ℕ, List, [], ◌∷◌, false, None, Ok, Err, Result, refl, sym, ap, subst, ◌∙◌, IfErr, arith, pos}
 use Rattle.sqlite.specs.Table.{Table}
 use Rattle.sqlite.specs.Schema.{Schema}
 use Rattle.sqlite.specs.Source.TheVariants.{Values}
 use Rattle.sqlite.specs.Command.TheVariants.{Insert, CreateTable}
 use Rattle.sqlite.specs.Compile.{table_defined_by}
-use Rattle.sqlite.specs.Edit.{Edit, edit_of, edited}
+use Rattle.sqlite.specs.Edit.{edit_of, edited}
 use Rattle.sqlite.specs.Rowids.TheVariants.{Chosen}
 use Rattle.sqlite.specs.Change.{created, next_tree, KeepsRows}
 use Rattle.sqlite.specs.Does.{Tally, Does, lacks_sequence}
@@ -19,7 +19,6 @@ use Rattle.pres_table.specs.Schemas.{meta, batch, no_schema, meta_schema, saved_
 use Rattle.pres_table.proofs.Statements.{set_format_terms, set_format_is, set_format_plain, meta_is, batch_is, create_meta_is, create_batch_is, meta_plain, batch_plain}
 use Rattle.pres_table.proofs.Inserting.{went, same_value, cast_null, cast_int}
 use Rattle.pres_table.specs.Made.{meta_text, batch_text, set_format_text, format_row}
-use Rattle.sqlite.specs.declared.types.Value.TheVariants.{Null, Int, Text}
 
 module _ (schema : Schema) (text : List ℕ) (table : Table) (command : command_of (understood schema text) ≡ CreateTable) (whole : statement_of text (understood schema text) ≡ text)
     (defined : table_defined_by text ≡ Ok table) (plain : IsPlain (understood schema text)) (lacks : lacks_sequence (created schema table) ≡ false) where

@@ -1,13 +1,13 @@
 -- Going over the rows of a query, one at a time.
-use Rattle.std.proofs.Common.{◌≡◌, ◌⊎◌, inl, inr, ℕ, ◌+◌, false, List, [], ◌∷◌, ◌++◌, map, length, length-append, Option, Some, None, Result, Ok, Err, IsTrue, refl, sym, ap, subst, ◌∙◌, arith, append_assoc, append-nil}
+use Rattle.std.proofs.Common.{◌≡◌, ◌⊎◌, inl, inr, ℕ, ◌+◌, List, [], ◌∷◌, ◌++◌, map, length, length-append, Option, Some, None, Ok, Err, IsTrue, refl, sym, ap, subst, ◌∙◌, arith, append_assoc}
 use Rattle.sqlite.specs.Store.{Ghosts}
 use Rattle.sqlite.specs.Order.{Row}
 use Rattle.sqlite.specs.Tree.{IsTable, Trees}
 use Rattle.sqlite.specs.Effect.{Database}
 use Rattle.sqlite.specs.Listing.{understood}
-use Rattle.sqlite.specs.State.{State, HasCleanDisk, IsUnchanged, IsRolledBack, Fails, Survives, Shown, ShowsRows, CommitsShowing, FailsToQuery, FailsToShow, IsNotRun, RunsCommand}
+use Rattle.sqlite.specs.State.{State, HasCleanDisk, IsUnchanged, IsRolledBack, Survives, Shown, ShowsRows, CommitsShowing, FailsToQuery, FailsToShow, IsNotRun}
 use Rattle.sqlite.specs.Held.{Held, state}
-use Rattle.sqlite.specs.Given.{HasGiven, HasBegun, GivesOn, Advances}
+use Rattle.sqlite.specs.Given.{HasGiven, HasBegun, Advances}
 use Rattle.sqlite.specs.declared.error.Error.{Error}
 use Rattle.sqlite_schema.specs.declared.command.Returning.{Returning}
 use Rattle.sqlite_resolve.specs.declared.compiled.Compiled.{Compiled}
@@ -16,9 +16,9 @@ use Rattle.sqlite.proofs.Callers.{IsPlain, begun_plain, never_commits, given_beg
 use Rattle.pres_table.specs.declared.fault.SavedFault.{SavedFault}
 use Rattle.pres_table.specs.declared.fault.SavedFault.TheVariants.{Memory, Database as DatabaseFault, BadRow}
 use Rattle.pres_table.specs.Schemas.{saved_schema}
-use Rattle.pres_table.specs.Kept.{IsOurs, IsIdle, Awaits, IsSame, IsLeft}
-use Rattle.pres_table.specs.Saved.{Saved, rows_in, shown_row, shown_rows, saved_row, saved_from, saved_rows, saved_front, front_from, front_then}
-use Rattle.pres_table.specs.Taking.{TakesAll, StopsEarly, IsRefused, MeetsBadRow, GoesOver}
+use Rattle.pres_table.specs.Kept.{IsOurs, Awaits, IsLeft}
+use Rattle.pres_table.specs.Saved.{Saved, shown_row, shown_rows, saved_row, saved_from, saved_rows, saved_front, front_from}
+use Rattle.pres_table.specs.Taking.{TakesAll, GoesOver}
 use Rattle.pres_table.proofs.Statements.{select_text, select_plain}
 use Rattle.pres_table.proofs.Inserting.{left_later}
 use Rattle.pres_table.proofs.Loading.{loads, begins, saved_push, saved_stops, front_append, front_all}

@@ -3,7 +3,8 @@ use Rattle.std.specs.Prelude.{◌≡◌, ◌⊎◌, ℕ, List, [], ◌∷◌, tr
 use Rattle.sqlite.specs.Store.{Ghosts}
 use Rattle.sqlite.specs.Tree.{Trees}
 use Rattle.sqlite.specs.declared.error.Error.{Error}
-use Rattle.sqlite.specs.declared.error.Error.TheVariants.{SqliteFailure}
+use Rattle.sqlite.specs.declared.error.Error.TheVariants.{SqliteFailure, SqlInputError}
+use Rattle.sqlite_resolve.specs.declared.error.CompileError.TheVariants.{Exists}
 use Rattle.sqlite.specs.declared.error.ErrorCode.TheVariants.{NameTaken}
 use Rattle.sqlite.specs.declared.types.Value.TheVariants.{Int, Text}
 use Rattle.sqlite.specs.Order.{Row}
@@ -45,6 +46,7 @@ HoldsFormat db = (db 2 ≡ []) × (db 0 ≡ format_row ∷ [])
 -- a name that is taken is another's table
 abbrev pub making_fault : Error → SavedFault
 making_fault (SqliteFailure NameTaken) = NotOurs
+making_fault (SqlInputError Exists) = NotOurs
 making_fault e = fault_of e
 
 module _ {S : Type 0} (g : Ghosts S) where

@@ -8,6 +8,7 @@ ghost use Rattle.pres_table.specs.Schemas.{no_schema};
 
 use crate::fault::SavedFault;
 use sqlite::{Alter, Connection, Error, ErrorCode};
+use sqlite_resolve::CompileError;
 
 // Makes both tables and the row of the format, in one transaction.
 pub(crate) fn make<S: Alter>(connection: &mut Connection<S>) -> Result<(), Error>
@@ -48,7 +49,8 @@ pub(crate) fn making_fault(error: Error) -> SavedFault
     ensures { result ≡ making_fault error }
 {
     match error {
-        Error::SqliteFailure(ErrorCode::NameTaken) => SavedFault::NotOurs,
+        Error::SqliteFailure(ErrorCode::NameTaken) | Error::SqlInputError(CompileError::Exists) =>
+            SavedFault::NotOurs,
         _ => SavedFault::from(error),
     }
 }

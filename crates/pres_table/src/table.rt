@@ -2,7 +2,7 @@
 
 ghost use Rattle.std.specs.Prelude.{◌≡◌, ◌⊎◌, ◌+◌, ◌<◌, ◌≤◌, ◌++◌, ◌∷◌, [], false, length, Ok, Err, if◌then◌else◌, is_ok, map, IsTrue, IfOk, IfErr, MatchResult, OnOk, OnErr};
 ghost use Rattle.sqlite.specs.Held.{state};
-ghost use Rattle.sqlite.specs.State.{HasCleanDisk, Survives};
+ghost use Rattle.sqlite.specs.State.{HasCleanDisk, IsUnchanged, Survives};
 ghost use Rattle.pres_ids.specs.Numbers.{greatest_number};
 ghost use Rattle.pres_table.specs.Kept.{IsOurs, Serves, AddsRow, IsLeft};
 ghost use Rattle.pres_table.specs.Opened.{HasFormat, LacksFormat, IsFound};
@@ -156,6 +156,9 @@ impl<S: Alter + Drop> Table<S> {
             taker.old taker.new result }
         ensures left { HasCleanDisk (state S.Store self.new.connection) → Serves S.Store self.old
             → IsLeft (state S.Store self.old.connection) (state S.Store self.new.connection) }
+        ensures same { HasCleanDisk (state S.Store self.new.connection) → Serves S.Store self.old
+            → OnOk result (IsUnchanged (state S.Store self.old.connection)
+            (state S.Store self.new.connection)) }
         ensures last { self.new.last ≡ self.old.last }
         ensures crash { Serves S.Store self.old
             → Survives (state S.Store self.old.connection) (state S.Store self.new.connection)
@@ -177,6 +180,9 @@ impl<S: Alter + Drop> Table<S> {
             ⊎ ((e ≡ SavedFault.Memory) ⊎ (e ≡ SavedFault.Database))) }
         ensures left { HasCleanDisk (state S.Store self.new.connection) → Serves S.Store self.old
             → IsLeft (state S.Store self.old.connection) (state S.Store self.new.connection) }
+        ensures same { HasCleanDisk (state S.Store self.new.connection) → Serves S.Store self.old
+            → OnOk result (IsUnchanged (state S.Store self.old.connection)
+            (state S.Store self.new.connection)) }
         ensures last { self.new.last ≡ self.old.last }
         ensures crash { Serves S.Store self.old
             → Survives (state S.Store self.old.connection) (state S.Store self.new.connection)

@@ -2,7 +2,7 @@
 
 ghost use Rattle.std.specs.Prelude.{◌≡◌, ◌++◌, ◌∷◌, [], map, IfErr, OnOk, IsTrue};
 ghost use Rattle.sqlite.specs.Held.{state};
-ghost use Rattle.sqlite.specs.State.{HasCleanDisk, Survives};
+ghost use Rattle.sqlite.specs.State.{HasCleanDisk, IsUnchanged, Survives};
 ghost use Rattle.pres_table.specs.Kept.{Awaits, IsLeft};
 ghost use Rattle.pres_table.specs.Saved.{Saved, saved_of, shown_rows};
 ghost use Rattle.pres_table.specs.Taking.{GoesOver};
@@ -40,6 +40,10 @@ pub(crate) fn go_over<S: Alter, T: Take>(
     ensures left { HasCleanDisk (state S.Store connection.new)
         → (k : _) → Awaits (state S.Store connection.old) k
         → IsLeft (state S.Store connection.old) (state S.Store connection.new) }
+    ensures same { HasCleanDisk (state S.Store connection.new)
+        → (k : _) → Awaits (state S.Store connection.old) k
+        → OnOk result
+        (IsUnchanged (state S.Store connection.old) (state S.Store connection.new)) }
     ensures crash { (k : _) → Awaits (state S.Store connection.old) k
         → Survives (state S.Store connection.old) (state S.Store connection.new)
         (λ _. IsTrue (state S.Store connection.old).is_open → ⊥) }

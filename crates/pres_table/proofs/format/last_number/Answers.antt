@@ -1,4 +1,4 @@
-use Rattle.std.proofs.Common.{◌≡◌, ◌+◌, max, [], refl, sym, ap, subst, ◌∙◌, IsTrue, rules, arith}
+use Rattle.std.proofs.Common.{◌≡◌, max, [], refl, sym, subst, ◌∙◌, IsTrue, rules, arith}
 use Rattle.sqlite.specs.State.{HasCleanDisk, IsUnchanged}
 use Rattle.sqlite.specs.Held.{state}
 use Rattle.sqlite.proofs.Callers.{unchanged_then}

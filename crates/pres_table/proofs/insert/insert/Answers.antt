@@ -1,11 +1,10 @@
-use Rattle.std.proofs.Common.{rules, ◌≡◌, ◌∷◌, [], ℕ, refl, sym, ap, subst, ◌∙◌, IsTrue, arith, to_z, w64, pos}
+use Rattle.std.proofs.Common.{rules, ◌≡◌, IsTrue, arith, to_z, w64, pos}
 use Rattle.std.proofs.lemmas.Int.{ints}
 use Rattle.sqlite.specs.Held.{state}
-use Rattle.sqlite.specs.State.{HasCleanDisk, Survives, Executes}
-use Rattle.pres_table.specs.Kept.{IsIdle, IsLeft}
+use Rattle.sqlite.specs.State.{HasCleanDisk}
+use Rattle.pres_table.specs.Kept.{IsLeft}
 use Rattle.pres_table.specs.Saved.{Saved}
 use Rattle.pres_table.proofs.Inserting.{commits, fails, left_by, survives, params_for}
-use Rattle.pres_table.proofs.Refusals.{named}
 use Rattle.pres_table.proofs.Statements.{insert_text}
 use Rattle.pres_table.proofs.insert.insert.Goals as goal
 

@@ -1,4 +1,4 @@
-use Rattle.std.proofs.Common.{◌≡◌, inl, inr, [], refl, sym, ap, subst, ◌∙◌, IsTrue, arith, rules, OnOk}
+use Rattle.std.proofs.Common.{◌≡◌, inl, inr, sym, ap, subst, ◌∙◌, arith, rules, OnOk}
 use Rattle.std.proofs.lemmas.Result.{on_ok_weaker, err_from_is_err_and}
 use Rattle.sqlite.specs.Tree.{Trees}
 use Rattle.sqlite.specs.Steps.{FailsToCommit}
@@ -7,7 +7,6 @@ use Rattle.sqlite.proofs.Callers.{survives_begin}
 use Rattle.sqlite.specs.Effect.{Database}
 use Rattle.sqlite.specs.Held.{state}
 use Rattle.sqlite.specs.State.{HasCleanDisk, Survives}
-use Rattle.pres_table.specs.Schemas.{no_schema}
 use Rattle.pres_table.specs.Made.{IsMade, HoldsFormat, Makes, FailsToMake}
 use Rattle.pres_table.proofs.Making.{creates_meta, creates_batch, adds_format, err_weaker}
 use Rattle.pres_table.proofs.make.make.Goals as goal

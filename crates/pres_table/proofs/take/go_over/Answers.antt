@@ -1,11 +1,11 @@
-use Rattle.std.proofs.Common.{◌≡◌, ◌⊎◌, ◌+◌, inl, inr, ℕ, [], Some, None, Ok, Err, refl, sym, ap, subst, ◌∙◌, IsTrue, rules, arith}
+use Rattle.std.proofs.Common.{◌≡◌, ◌⊎◌, ◌+◌, inl, inr, ℕ, [], Some, refl, sym, subst, ◌∙◌, IsTrue, rules, arith}
 use Rattle.std.proofs.lemmas.Result.{err_from_is_err_and}
 use Rattle.sqlite.specs.State.{HasCleanDisk, IsUnchanged, IsRolledBack, Survives, CommitsShowing}
 use Rattle.sqlite.specs.Held.{state}
-use Rattle.sqlite.specs.Given.{Advances}
 use Rattle.sqlite.proofs.StateLemmas.{unchanged}
+use Rattle.sqlite.proofs.Callers.{unchanged_then}
 use Rattle.pres_table.specs.Kept.{Awaits, IsLeft, IsOurs}
-use Rattle.pres_table.specs.Saved.{Saved, saved_row, saved_of, shown_rows}
+use Rattle.pres_table.specs.Saved.{saved_row, saved_of}
 use Rattle.pres_table.proofs.Refusals.{named}
 use Rattle.pres_table.proofs.Statements.{select_text}
 use Rattle.pres_table.proofs.Inserting.{left_by}
@@ -122,6 +122,20 @@ returns-in_default-clause-crash g c k awaits =
     let same : now ≡ end = search rules in
     subst (λ h. Survives (state g.S.Store old) (state g.S.Store h) (WhileShut (state g.S.Store old))) same
     (nothing_more (state g.S.Store old) (state g.S.Store held) (state g.S.Store now) (c.rows.invariant.1 k awaits) moved.survives)
+
+pub returns-in_default-clause-same : goal.returns-in_default-clause-same
+returns-in_default-clause-same g c clean k awaits =
+    let old = c.args.connection.now in
+    let held = c.rows.rows.conn.now in
+    let moved = c.next.follows.holds-at-none in
+    let now = c.next.follows.lender-at-none.conn.now in
+    let end = c.connection-in_default-1.given.0 in
+    let same : now ≡ end = search rules in
+    let late : HasCleanDisk (state g.S.Store now) = subst (λ h. HasCleanDisk (state g.S.Store h)) (sym same) clean in
+    let progress = c.rows.invariant.2 (omega (arith, moved.survives.clean, late)) k awaits in
+    let stays = rw c.in_ok-row.was at (moved.same late) in
+    subst (λ h. IsUnchanged (state g.S.Store old) (state g.S.Store h)) same
+    (unchanged_then (state g.S.Store old) (state g.S.Store held) (state g.S.Store now) progress.same stays)
 
 -- ---- no number is left
 

@@ -1,4 +1,4 @@
-use Rattle.std.proofs.Common.{◌≡◌, ◌+◌, arith}
+use Rattle.std.proofs.Common.{◌+◌, arith}
 use Rattle.sqlite.specs.State.{HasCleanDisk}
 use Rattle.sqlite.specs.Held.{state}
 use Rattle.pres_table.proofs.Inserting.{awaits_left}
@@ -21,3 +21,6 @@ returns-clause-serves g c =
     rw (← c.self.view_is) (λ serves clean.
     let early : HasCleanDisk old = omega (arith, (c.go_over.ensures.crash k serves).clean, clean) in
     awaits_left old new k (serves early) (c.go_over.ensures.left clean k serves))
+
+pub returns-clause-same : goal.returns-clause-same
+returns-clause-same g c = rw (← c.self.view_is) (λ clean serves. c.go_over.ensures.same clean (c.self.inside.last + 1) serves)

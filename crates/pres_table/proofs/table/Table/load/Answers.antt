@@ -1,4 +1,4 @@
-use Rattle.std.proofs.Common.{◌≡◌, ◌++◌, map, Ok, sym, ap, ◌∙◌}
+use Rattle.std.proofs.Common.{◌++◌, map, Ok, sym, ap, ◌∙◌}
 use Rattle.sqlite.specs.Held.{state}
 use Rattle.pres_table.specs.Saved.{saved_of, saved_front, shown_rows}
 use Rattle.pres_table.specs.declared.take.Collector.{Collector}
