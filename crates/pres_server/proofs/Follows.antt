@@ -262,12 +262,11 @@ JoinsAt index x = MayJoinOn index (record { number = x.0; moment = x.1 }) x.2
 
 pub follows_by : (log : Log) (moment : ℕ) (index : Index) (b : Batch) (n m : ℕ) (es : List Entry) → Holds log moment index → n ≡ number log → m ≡ b.moment → es ≡ b.entries
     → b.first ≡ n + 1 → moment ≤ m → m ≤ moments.last_moment → MayJoinOn index (record { number = n; moment = m }) es ↔ MayFollow log b
-follows_by log moment index b n m es kept en em ee first later range =
-    (
-      λ h.
+follows_by log moment index b n m es kept en em ee first later range = (
+  λ h.
       let j = subst (JoinsAt index) (λ i. (en i, em i, ee i)) h in
       joins_in log moment index b kept (omega arith) (record { first = omega arith; not_earlier = omega arith; room = j.0; together = j.1 }),
-      λ f.
+  λ f.
       let j = joins_out log moment index b kept f in
       subst (JoinsAt index) (λ i. (sym en i, sym em i, sym ee i)) (j.room, j.together),
-    )
+)

@@ -1,6 +1,6 @@
 //! Whether a batch may follow, read off the index.
 
-ghost use Rattle.std.specs.Prelude.{◌≡◌, ◌≢◌, ◌↔◌, ◌+◌, ◌-◌, ◌^◌, ◌<◌, ◌≤◌, ℕ, IsTrue, IfOk, IsSome, length, [], ◌∷◌};
+ghost use Rattle.std.specs.Prelude.{◌≡◌, ◌↔◌, ◌+◌, ◌-◌, ◌^◌, ◌<◌, ◌≤◌, ℕ, IsTrue, IfOk, IsSome, length, [], ◌∷◌};
 ghost use Rattle.pres_plan.specs.Plans.{due};
 ghost use Rattle.pres_write.specs.Outcomes.{resolved};
 ghost use Rattle.pres_ids.specs.Ids.{stamp_of};
@@ -218,12 +218,7 @@ impl Index {
     }
 
     // Whether the entry may come.
-    fn may_come(
-        &self,
-        alloc: Global,
-        entry: &Entry,
-        moment: Moment,
-    ) -> Result<bool, AllocError>
+    fn may_come(&self, alloc: Global, entry: &Entry, moment: Moment) -> Result<bool, AllocError>
         ensures { IfOk result (λ may. IsTrue may ↔ MayComeOn self.now moment entry.now) }
     {
         match entry {
@@ -256,12 +251,7 @@ impl Index {
     }
 
     // Whether the entry may come as a batch.
-    fn may_come_alone(
-        &self,
-        alloc: Global,
-        entry: &Entry,
-        now: Now,
-    ) -> Result<bool, AllocError>
+    fn may_come_alone(&self, alloc: Global, entry: &Entry, now: Now) -> Result<bool, AllocError>
         requires { Ready self.now now }
         ensures { IfOk result (λ may. IsTrue may ↔ MayJoinOn self.now now (entry.now ∷ [])) }
     {

@@ -209,7 +209,8 @@ impl Server {
         if batch.first().get() != number + 1 || moment.millis() < self.moment.millis() {
             return Ok(false);
         }
-        self.index.may_join(self.alloc, batch.entries(), Now { number, moment })
+        self.index
+            .may_join(self.alloc, batch.entries(), Now { number, moment })
     }
 
     /// The server with a batch behind its log, and the answers of the batch in their order.

@@ -30,6 +30,15 @@ fn renumbered(alloc: Global, first: u64, batch: &Batch) -> Result<Batch, Fail> {
     Ok(Batch::new(first, batch.moment(), Items::of(copies)))
 }
 
+// The number of the batch that is refused.
+fn refusal(alloc: Global, fault: ReplayFault) -> Result<String, Fail> {
+    let ReplayFault::NotLegal(number) = fault else {
+        return said(alloc, "out of memory");
+    };
+    let place = number.get();
+    Ok(format!(in alloc; "refused {place}")?)
+}
+
 // What becomes of the batch, whose first entry has this number, and the number of the next one.
 fn added(
     alloc: Global,
@@ -41,10 +50,7 @@ fn added(
     let batch = renumbered(alloc, first, batch)?;
     match replay.add(batch) {
         Ok(()) => Ok((said(alloc, "added")?, next)),
-        Err(ReplayFault::NotLegal(number)) => {
-            Ok((format!(in alloc; "refused {number}")?, first))
-        }
-        Err(ReplayFault::Memory) => Err("out of memory")?,
+        Err(fault) => Ok((refusal(alloc, fault)?, first)),
     }
 }
 
