@@ -9,8 +9,8 @@ ghost use Rattle.pres_fan.specs.declared.fault.FanFault.TheVariants.{Full, Memor
 ghost use Rattle.pres_fan.specs.declared.listeners.Listener.{Listener};
 
 use crate::fault::FanFault;
-use pres_tree::Path;
 use pres_ids::SessionId;
+use pres_tree::Path;
 use pres_write::{Basic, Items};
 use std::alloc::{AllocError, Global};
 use std::collections::BTreeSet;

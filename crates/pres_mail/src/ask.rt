@@ -61,11 +61,7 @@ impl Ask {
     }
 
     /// The same of copies.
-    pub fn transaction(
-        &self,
-        alloc: Global,
-        draft: &Draft,
-    ) -> Result<Transaction, AllocError>
+    pub fn transaction(&self, alloc: Global, draft: &Draft) -> Result<Transaction, AllocError>
         requires { is_too_deep self.now draft.now ≡ false }
         ensures { IfOk result (λ t. t ≡ comparison self.now.path self.now.value draft.now) }
     {

@@ -128,12 +128,7 @@ impl Mail {
     }
 
     /// Makes room for so many more of each.
-    pub fn reserve(
-        &mut self,
-        queue: usize,
-        sends: usize,
-        notices: usize,
-    ) -> Result<(), AllocError>
+    pub fn reserve(&mut self, queue: usize, sends: usize, notices: usize) -> Result<(), AllocError>
         ensures queue { self.new.queue ≡ self.old.queue }
         ensures sends { self.new.sends ≡ self.old.sends }
         ensures notices { self.new.notices ≡ self.old.notices }
@@ -254,12 +249,7 @@ impl Mail {
     }
 
     /// The messages that wait for their answers, with their numbers, of which these are the first.
-    pub fn messages(
-        &self,
-        session: &SessionId,
-        q: u64,
-        n: u64,
-    ) -> Result<Vec<Up>, AllocError>
+    pub fn messages(&self, session: &SessionId, q: u64, n: u64) -> Result<Vec<Up>, AllocError>
         requires q { MayNumber q (length self.now.queue) }
         requires n { MayNumber n (count_writes self.now.queue) }
         ensures { IfOk result (λ v. v.items ≡ messages session.now q n self.now.queue) }

@@ -8,9 +8,9 @@ ghost use Rattle.pres_plan.specs.declared.fault.PlanFault.TheVariants.{Full, Mem
 
 use crate::fault::PlanFault;
 use crate::row::{Action, DueRow, PlanRow};
+use pres_ids::Number;
 use pres_session::Pays;
 use pres_tree::{Path, Tree};
-use pres_ids::Number;
 use pres_write::{Basic, Items, Moment, Placement};
 use std::alloc::{AllocError, Global};
 use std::marker::Model;

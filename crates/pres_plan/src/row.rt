@@ -5,8 +5,8 @@ ghost use Rattle.pres_tree.specs.Rows.{Fits, value_at};
 ghost use Rattle.pres_write.specs.Basics.{basic};
 ghost use Rattle.pres_plan.specs.Plans.{path_of, is_put, due_write, due_row};
 
-use pres_tree::{Path, Tree};
 use pres_ids::Number;
+use pres_tree::{Path, Tree};
 use pres_write::{Basic, Moment, Placement, settle};
 use std::alloc::{AllocError, Global};
 

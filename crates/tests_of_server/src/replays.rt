@@ -84,7 +84,11 @@ fn counted(alloc: Global, replay: Replay, mut words: String) -> Result<String, F
 }
 
 // The server, and what becomes of its batches, added by their numbers in this order.
-pub(crate) fn ordered(alloc: Global, server: Server, order: &str) -> Result<(Server, String), Fail> {
+pub(crate) fn ordered(
+    alloc: Global,
+    server: Server,
+    order: &str,
+) -> Result<(Server, String), Fail> {
     let mut replay = Replay::new(alloc);
     let words = match all_added(alloc, &mut replay, server.log().batches(), order) {
         Ok(words) => counted(alloc, replay, words),

@@ -14,8 +14,8 @@ pub returns-then-eq : goal.returns-then-eq
 returns-then-eq c =
     let p = (same_paths c.self.inside.path c.other.inside.path c.eq.result c.eq.ensures).0 c.if-eq.true in (
       λ h.
-      let v = sym c.as_ref.ensures.value ∙ c.equal_value.ensures.0 h ∙ c.as_ref-then-eq.ensures.value in
-      sym c.self.view_is ∙ (λ i. record { path = p i; value = v i }) ∙ c.other.view_is,
+          let v = sym c.as_ref.ensures.value ∙ c.equal_value.ensures.0 h ∙ c.as_ref-then-eq.ensures.value in
+          sym c.self.view_is ∙ (λ i. record { path = p i; value = v i }) ∙ c.other.view_is,
       λ e. c.equal_value.ensures.1 (c.as_ref.ensures.value ∙ ap (λ (b : BasicWrite). b.value) (c.self.view_is ∙ e ∙ sym c.other.view_is) ∙ sym c.as_ref-then-eq.ensures.value),
     )
 
