@@ -32,11 +32,16 @@ in_range m h = grind (arith, nat_tests)
 reads_stored : (k : ℕ) (s : Saved) → s.moment ≤ last_moment → IsUtf8 s.body → saved_row k (shown_row (stored k s)) ≡ Some s
 reads_stored k s low text = rw (is_utf8-from_IsUtf8 s.body text, same_number k, in_range s.moment low)
 
+-- a row behind these is the last that is saved
+pub saved_next : (rows : List Row) (last : ℕ) (s : Saved) → s.moment ≤ last_moment → IsUtf8 s.body
+    → (before : List Saved) → saved_rows (map shown_row rows) ≡ Ok before → last ≡ length before → saved_rows (map shown_row (rows ++ stored (last + 1) s ∷ [])) ≡ Ok (before ++ s ∷ [])
+saved_next rows last s low text before holds count =
+    let number : last + 1 ≡ 1 + length (map shown_row rows) = omega (arith, saved_count 1 (map shown_row rows) before holds, count) in
+    ap saved_rows (map_push shown_row rows (stored (last + 1) s))
+    ∙ saved_push 1 (last + 1) (map shown_row rows) (shown_row (stored (last + 1) s)) before s holds number (reads_stored (last + 1) s low text)
+
 -- the row that was added is the last that is saved
 pub saved_more : (old new : State) (last : ℕ) (s : Saved) → s.moment ≤ last_moment → IsUtf8 s.body → AddsRow old new (last + 1) s
     → (before : List Saved) → saved_rows (shown_rows old) ≡ Ok before → last ≡ length before → saved_rows (shown_rows new) ≡ Ok (before ++ s ∷ [])
 saved_more old new last s low text adds before holds count =
-    let number : last + 1 ≡ 1 + length (shown_rows old) = omega (arith, saved_count 1 (shown_rows old) before holds, count) in
-    ap (λ rows. saved_rows (map shown_row rows)) adds.rows
-    ∙ ap saved_rows (map_push shown_row (rows_in old) (stored (last + 1) s))
-    ∙ saved_push 1 (last + 1) (shown_rows old) (shown_row (stored (last + 1) s)) before s holds number (reads_stored (last + 1) s low text)
+    ap (λ rows. saved_rows (map shown_row rows)) adds.rows ∙ saved_next (rows_in old) last s low text before holds count

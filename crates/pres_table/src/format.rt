@@ -46,6 +46,7 @@ fn check_format<S: Alter>(connection: &mut Connection<S>) -> Result<(), SavedFau
     ensures clean { doubt (state S.Store connection.old).is_clean
         ≤ doubt (state S.Store connection.new).is_clean }
 {
+    // it ensures that what is shown was committed, where no transaction is open
     let _alone = connection.is_autocommit();
     let row = match connection.query_row("SELECT value FROM meta WHERE name = 'format'", &[]) {
         Ok(row) => row,
@@ -96,6 +97,7 @@ fn last_number<S: Alter>(connection: &mut Connection<S>) -> Result<u64, SavedFau
     ensures clean { doubt (state S.Store connection.old).is_clean
         ≤ doubt (state S.Store connection.new).is_clean }
 {
+    // it ensures that what is shown was committed, where no transaction is open
     let _alone = connection.is_autocommit();
     let mut last = 0;
     let mut rows = connection.query("SELECT k, moment, body FROM batch ORDER BY k", &[])?;

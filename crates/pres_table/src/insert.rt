@@ -33,6 +33,7 @@ pub(crate) fn insert<S: Alter>(
         → db 2 ≡ rows_in (state S.Store connection.old)
         ++ stored number (record { moment = moment; body = body.now }) ∷ []) }
 {
+    // it ensures that what is shown was committed, where no transaction is open
     let _alone = connection.is_autocommit();
     let text = body.as_bytes();
     let millis = moment.millis();

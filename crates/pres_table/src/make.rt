@@ -30,6 +30,7 @@ pub(crate) fn make<S: Alter>(connection: &mut Connection<S>) -> Result<(), Error
     ensures crash { connection.old.schema ≡ no_schema
         → Survives (state S.Store connection.old) (state S.Store connection.new) HoldsFormat }
 {
+    // it ensures that what is shown was committed, where no transaction is open
     let _alone = connection.is_autocommit();
     let mut tx = connection.transaction();
     tx.execute(

@@ -142,6 +142,7 @@ impl<S: Alter + Drop> Table<S> {
         if self.last >= MAX_SAFE_INTEGER {
             return Err(SavedFault::Database);
         }
+        // it ensures that the moment is in range
         let _ = moment.millis();
         insert(&mut self.connection, self.last + 1, moment, body)?;
         self.last += 1;

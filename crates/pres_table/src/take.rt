@@ -48,6 +48,7 @@ pub(crate) fn go_over<S: Alter, T: Take>(
         → Survives (state S.Store connection.old) (state S.Store connection.new)
         (λ _. IsTrue (state S.Store connection.old).is_open → ⊥) }
 {
+    // it ensures that what is shown was committed, where no transaction is open
     let _alone = connection.is_autocommit();
     let mut rows = connection.query("SELECT k, moment, body FROM batch ORDER BY k", &[])?;
     'rows: for before in 0..u64::MAX {

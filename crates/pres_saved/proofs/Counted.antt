@@ -1,0 +1,38 @@
+-- Rows that are numbered 1, 2, ..: the greatest number is how many they are.
+use Rattle.std.proofs.Common.{◌≡◌, ◌==◌, ◌&&◌, Bool, true, false, ℕ, ◌+◌, max, nat_le, if◌then◌else◌, List, [], ◌∷◌, length, Option, Some, None, Ok, refl, sym, ap, ◌∙◌, arith}
+use Rattle.std.specs.Option.{unwrap_or}
+use Rattle.sqlite.specs.Order.{Row, column}
+use Rattle.pres_write.specs.Moments.{last_moment}
+use Rattle.pres_table.specs.Saved.{Saved, saved_as, saved_row, saved_from, saved_rows, whole_of, text_of}
+use Rattle.pres_table.specs.Opened.{greatest_in}
+use Rattle.pres_table.proofs.Loading.{then_ok}
+
+chosen : (b c : Bool) (x s : Saved) → (if b && c then Some x else None) ≡ Some s → b ≡ true
+chosen true c x s e = refl
+chosen false c x s e = absurd (cc)
+
+same_by : (k due : ℕ) → (k == due) ≡ true → k ≡ due
+same_by k due h = grind (arith, nat_tests)
+
+number_by : (due : ℕ) (k moment : Option ℕ) (body : Option (List ℕ)) (s : Saved) → saved_as due k moment body ≡ Some s → unwrap_or k 0 ≡ due
+number_by due (Some k) (Some moment) (Some body) s e =
+    same_by k due (chosen (k == due) (nat_le moment last_moment) (record { moment = moment; body = body }) s e)
+number_by due (Some k) (Some moment) None s e = absurd (cc)
+number_by due (Some k) None body s e = absurd (cc)
+number_by due None moment body s e = absurd (cc)
+
+number_read : (due : ℕ) (row : Row) (s : Saved) → saved_row due row ≡ Some s → unwrap_or (whole_of (column row 0)) 0 ≡ due
+number_read due row s e = number_by due (whole_of (column row 0)) (whole_of (column row 1)) (text_of (column row 2)) s e
+
+-- behind so many
+greatest_from : (before : ℕ) (rows : List Row) (saved : List Saved) → saved_from (before + 1) rows ≡ Ok saved → max before (greatest_in rows) ≡ before + length saved
+greatest_from before [] saved e = let none : saved ≡ [] = cc in let many = ap length none in omega (arith, many)
+greatest_from before (row ∷ rows) saved e =
+    let parts = then_ok (before + 1) (saved_row (before + 1) row) (saved_from (before + 1 + 1) rows) saved e in
+    let later = greatest_from (before + 1) rows parts.1 parts.3 in
+    let first = number_read (before + 1) row parts.0 parts.2 in
+    let many = ap length parts.4 in
+    omega (arith, later, first, many)
+
+pub greatest_is : (rows : List Row) (saved : List Saved) → saved_rows rows ≡ Ok saved → greatest_in rows ≡ length saved
+greatest_is rows saved e = let it = greatest_from 0 rows saved e in omega (arith, it)

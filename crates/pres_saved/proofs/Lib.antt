@@ -1,0 +1,4 @@
+pub mod Counted
+pub mod Nulls
+pub mod Reading
+pub mod Remade

@@ -1,0 +1,67 @@
+-- What saved rows stand for: the batches of a log, each under the number that is due.
+use Rattle.std.specs.Prelude.{◌≡◌, ◌⊎◌, ℕ, ◌+◌, nat_le, if◌then◌else◌, List, [], ◌∷◌, ◌++◌, length, map, Option, Some, None, option_and_then, Result, Ok, Err}
+use Rattle.sqlite.specs.Order.{Row}
+use Rattle.pres_ids.specs.Numbers.{greatest_number}
+use Rattle.pres_log.specs.declared.entry.Batch.{Batch}
+use Rattle.pres_log.specs.declared.entry.Entry.{Entry}
+use Rattle.pres_log.specs.Logs.{Log, number}
+use Rattle.pres_body.specs.Reads.{entries_in, with_one_null}
+use Rattle.pres_table.specs.declared.fault.SavedFault.{SavedFault}
+use Rattle.pres_table.specs.declared.fault.SavedFault.TheVariants.{Memory, Database, BadRow}
+use Rattle.pres_table.specs.Saved.{Saved, saved_rows, saved_front}
+use Rattle.pres_server.specs.declared.replay.ReplayFault.{ReplayFault}
+use Rattle.pres_server.specs.declared.replay.ReplayFault.TheVariants.{Memory as OutOfMemory, NotLegal}
+use Rattle.pres_server.specs.LegalLog.{IsLegal}
+use Rattle.pres_server.specs.Heard.{State}
+use Rattle.pres_server.specs.Replays.{IsFirstIllegal, made_from}
+
+abbrev pub batch_of : ℕ → ℕ → List Entry → Option Batch
+batch_of first moment es = if nat_le first greatest_number then Some (record { first = first; moment = moment; entries = es }) else None
+
+-- the batch that a row saves behind so many entries
+abbrev pub batch_in : ℕ → Saved → Option Batch
+batch_in before row = option_and_then (batch_of (before + 1) row.moment) (entries_in row.body)
+
+abbrev pub log_then : Log → Option Batch → (Log → Result Log ℕ) → Result Log ℕ
+log_then log None more = Err (length log + 1)
+log_then log (Some b) more = more (log ++ b ∷ [])
+
+-- the log with the batches of these rows behind it, or the number of the first row that saves none
+abbrev pub log_after : Log → List Saved → Result Log ℕ
+log_after log [] = Ok log
+log_after log (row ∷ later) = log_then log (batch_in (number log) row) (λ more. log_after more later)
+
+abbrev pub if_all_read : Result (List Saved) ℕ → Result Log ℕ → Result Log ℕ
+if_all_read rows (Err k) = Err k
+if_all_read (Err k) (Ok log) = Err k
+if_all_read (Ok rows) (Ok log) = Ok log
+
+-- the log of the rows that a table shows, or the number of the first that is no batch: a row before it that is read
+-- has a text that isn't, or the row itself isn't read
+abbrev pub saved_log : List Row → Result Log ℕ
+saved_log shown = if_all_read (saved_rows shown) (log_after [] (saved_front shown))
+
+-- no value is held as null and not as none; so it is with what a turn makes
+abbrev pub HasOneNull : List Entry → Type 0
+HasOneNull es = map with_one_null es ≡ es
+
+-- ---- a server made of its batches
+
+-- a batch that may not follow is a bad row
+abbrev pub bad_batch : ReplayFault → SavedFault
+bad_batch OutOfMemory = Memory
+bad_batch (NotLegal k) = BadRow k
+
+-- the fault is want of memory, or the database's
+abbrev pub IsOfStore : SavedFault → Type 0
+IsOfStore e = (e ≡ Memory) ⊎ (e ≡ Database)
+
+-- why no server is made of a log: the batch with that number is the first that may not follow, or memory or the
+-- database refused
+abbrev pub IsNoServer : Log → SavedFault → Type 0
+IsNoServer log (BadRow k) = IsFirstIllegal log k
+IsNoServer log e = IsOfStore e
+
+-- the server with exactly this log
+abbrev pub IsServerOf : Log → State → Type 0
+IsServerOf log server = IsLegal log × (server ≡ made_from log)

@@ -1,0 +1,64 @@
+//! A keeper in memory.
+
+ghost use Rattle.std.specs.Prelude.{◌≡◌, []};
+
+use crate::keeper::{Keeper, bad_batch};
+use pres_log::Batch;
+use pres_server::Server;
+use pres_table::SavedFault;
+use std::alloc::Global;
+use std::marker::Model;
+
+/// Batches in memory: they last as long as the process. Contracts see the list of them.
+#[derive(Drop)]
+pub struct MemKeeper {
+    alloc: Global,
+    batches: Vec<Batch>,
+}
+
+impl Model for MemKeeper {
+    ghost use Rattle.pres_log.specs.Logs.{Log};
+
+    ghost Value = { Log };
+
+    ghost view = { λ k. k.batches.items };
+}
+
+impl MemKeeper {
+    /// No batches. It takes no memory.
+    pub fn new(alloc: Global) -> MemKeeper
+        ensures { result ≡ [] }
+    {
+        MemKeeper {
+            alloc,
+            batches: Vec::new(alloc),
+        }
+    }
+}
+
+impl Keeper for MemKeeper {
+    ghost use Rattle.std.specs.Prelude.{◌≡◌, ⊤};
+
+    ghost keeps = { λ kept log. kept ≡ log };
+
+    ghost works = { λ _. ⊤ };
+
+    ghost leaves = { λ _ _ _ _. ⊤ };
+
+    fn commit(&mut self, batch: &Batch) -> Result<(), SavedFault> {
+        self.batches.push(batch.copy(self.alloc)?)?;
+        Ok(())
+    }
+
+    fn batches(&mut self) -> Result<Vec<Batch>, SavedFault> {
+        let mut copies = Vec::new(self.alloc);
+        for batch in &self.batches {
+            copies.push(batch.copy(self.alloc)?)?;
+        }
+        Ok(copies)
+    }
+
+    fn server(&mut self) -> Result<Server, SavedFault> {
+        Server::replay(self.alloc, &self.batches).map_err(bad_batch)
+    }
+}

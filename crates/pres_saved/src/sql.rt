@@ -1,0 +1,180 @@
+//! A keeper over a database.
+
+ghost use Rattle.std.specs.Prelude.{◌≡◌, ◌⊎◌, [], false, Ok, IfOk, IfErr, MatchResult, IsTrue};
+ghost use Rattle.sqlite.specs.Held.{state};
+ghost use Rattle.sqlite.specs.State.{HasCleanDisk, Survives};
+ghost use Rattle.pres_table.specs.Kept.{Serves, IsLeft, IsOurs};
+ghost use Rattle.pres_table.specs.Made.{HoldsFormat, Makes, FailsToMake, making_fault};
+ghost use Rattle.pres_table.specs.Opened.{HasFormat, LacksFormat};
+ghost use Rattle.pres_table.specs.Schemas.{no_schema};
+ghost use Rattle.pres_table.specs.Saved.{shown_rows};
+ghost use Rattle.pres_saved.specs.Saved.{saved_log};
+ghost use Rattle.pres_saved.specs.Keeps.{KeepsLog};
+ghost use Rattle.pres_saved.specs.Taking.{IsUnread, IsServerIn, IsUnserved};
+
+use crate::keeper::Keeper;
+use crate::taker::{Batches, Remaking};
+use pres_body::print_entries;
+use pres_log::{Batch, Log};
+use pres_server::{Replay, Server};
+use pres_table::{SavedFault, Table};
+use sqlite::{Alter, Connection};
+use std::alloc::Global;
+use std::marker::Model;
+
+/// Batches in a database, each a row. Contracts see the connection and the number of the last row.
+///
+/// After a write whose end the disk didn't confirm, the store may be shut for good: then every call
+/// answers Database, and the next open finds the rows with or without that one.
+pub struct SqlKeeper<S: Alter> {
+    alloc: Global,
+    table: Table<S>,
+}
+
+impl<S: Alter> Model for SqlKeeper<S> {
+    ghost use Rattle.pres_table.specs.Kept.{Kept, kept_code};
+
+    ghost Value = { Kept S };
+
+    ghost coded = { kept_code S.code };
+
+    ghost view = { λ k. k.table };
+}
+
+impl<S: Alter + Drop> Drop for SqlKeeper<S> {
+    fn drop(self) {
+        let SqlKeeper { alloc: _, table: _ } = self;
+    }
+}
+
+impl<S: Alter + Drop> SqlKeeper<S> {
+    /// Makes the tables in a database that has none, in one transaction: no batches. NotOurs where a
+    /// table of such a name is there; a refusal leaves the database as it was.
+    pub fn create(
+        alloc: Global,
+        connection: Connection<S>,
+    ) -> Result<SqlKeeper<S>, (SavedFault, Connection<S>)>
+        requires { connection.in_transaction ≡ false }
+        ensures empty { IfOk result (λ k. HasCleanDisk (state S.Store k.connection)
+            → connection.schema ≡ no_schema → KeepsLog S.Store k []) }
+        ensures unchanged { IfErr result (λ e. HasCleanDisk (state S.Store e.1)
+            → IsTrue (state S.Store e.1).is_open
+            → ((state S.Store e.1).now ≡ (state S.Store connection).now)
+            × ((state S.Store e.1).committed ≡ (state S.Store connection).committed)) }
+        ensures mode { IfErr result (λ e. e.1.in_transaction ≡ false) }
+
+        // By the meaning of the statements, in whatever database.
+        ensures makes { IfOk result (λ k. HasCleanDisk (state S.Store k.connection)
+            → Makes S.Store connection (state S.Store k.connection)) }
+        ensures refused { IfErr result (λ e. HasCleanDisk (state S.Store e.1)
+            → (why : _) × FailsToMake S.Store connection why × (e.0 ≡ making_fault why)) }
+
+        ensures crash { connection.schema ≡ no_schema → MatchResult result
+            (λ k. Survives (state S.Store connection) (state S.Store k.connection) HoldsFormat)
+            (λ e. Survives (state S.Store connection) (state S.Store e.1) HoldsFormat) }
+    {
+        match Table::create(connection) {
+            Ok(table) => Ok(SqlKeeper { alloc, table }),
+            Err(refused) => Err(refused),
+        }
+    }
+
+    /// Finds the tables that `create` made, with their rows. NotOurs where the statement that asks
+    /// for the format isn't understood or has no answer, Version where it answers another format
+    /// than 1.
+    pub fn open(
+        alloc: Global,
+        connection: Connection<S>,
+    ) -> Result<SqlKeeper<S>, (SavedFault, Connection<S>)>
+        requires { connection.in_transaction ≡ false }
+        ensures format { IfOk result (λ k. HasCleanDisk (state S.Store k.connection)
+            → (mid : _) × HasFormat (state S.Store connection) (state S.Store mid)) }
+        ensures found { IfOk result (λ k. (log : _) → HasCleanDisk (state S.Store k.connection)
+            → IsOurs (state S.Store connection)
+            → saved_log (shown_rows (state S.Store connection)) ≡ Ok log
+            → KeepsLog S.Store k log) }
+        ensures err { IfErr result (λ e. HasCleanDisk (state S.Store e.1)
+            → ((mid : _) × LacksFormat (state S.Store connection) (state S.Store mid) e.0)
+            ⊎ ((e.0 ≡ SavedFault.Memory) ⊎ (e.0 ≡ SavedFault.Database))) }
+        ensures left { IfErr result (λ e. HasCleanDisk (state S.Store e.1)
+            → IsOurs (state S.Store connection)
+            → IsLeft (state S.Store connection) (state S.Store e.1)) }
+    {
+        match Table::open(connection) {
+            Ok(table) => Ok(SqlKeeper { alloc, table }),
+            Err(refused) => Err(refused),
+        }
+    }
+
+    /// The batches in their order, or `BadRow` with the number that was due at the first row that
+    /// is none.
+    pub fn load(&mut self) -> Result<Vec<Batch>, SavedFault>
+        ensures batches { HasCleanDisk (state S.Store self.new.connection) → Serves S.Store self.old
+            → IfOk result (λ batches.
+                saved_log (shown_rows (state S.Store self.old.connection)) ≡ Ok batches.items) }
+        ensures refused { HasCleanDisk (state S.Store self.new.connection) → Serves S.Store self.old
+            → IfErr result (IsUnread (shown_rows (state S.Store self.old.connection))) }
+        ensures left { HasCleanDisk (state S.Store self.new.connection) → Serves S.Store self.old
+            → IsLeft (state S.Store self.old.connection) (state S.Store self.new.connection) }
+        ensures last { self.new.last ≡ self.old.last }
+        ensures serves { Serves S.Store self.old → Serves S.Store self.new }
+    {
+        let mut all = Batches {
+            alloc: self.alloc,
+            log: Log::new(self.alloc),
+        };
+        self.table.each(self.alloc, &mut all)?;
+        Ok(all.log.into_batches())
+    }
+
+    /// The server that the rows make, read one at a time, or `BadRow` with the number that was due
+    /// at the first row that is no batch, or none that may follow those before it.
+    pub fn replay(&mut self) -> Result<Server, SavedFault>
+        ensures server { HasCleanDisk (state S.Store self.new.connection) → Serves S.Store self.old
+            → IfOk result (IsServerIn (shown_rows (state S.Store self.old.connection))) }
+        ensures refused { HasCleanDisk (state S.Store self.new.connection) → Serves S.Store self.old
+            → IfErr result (IsUnserved (shown_rows (state S.Store self.old.connection))) }
+        ensures left { HasCleanDisk (state S.Store self.new.connection) → Serves S.Store self.old
+            → IsLeft (state S.Store self.old.connection) (state S.Store self.new.connection) }
+        ensures last { self.new.last ≡ self.old.last }
+        ensures serves { Serves S.Store self.old → Serves S.Store self.new }
+    {
+        let mut made = Remaking {
+            alloc: self.alloc,
+            replay: Replay::new(self.alloc),
+        };
+        self.table.each(self.alloc, &mut made)?;
+        Ok(made.replay.finish())
+    }
+
+    /// The connection, with the same rows.
+    pub fn into_connection(self) -> Connection<S>
+        ensures { result ≡ self.connection }
+    {
+        let SqlKeeper { alloc: _, table } = self;
+        table.into_connection()
+    }
+}
+
+impl<S: Alter + Drop> Keeper for SqlKeeper<S> {
+    ghost use Rattle.pres_saved.specs.Keeps.{KeepsLog, Works, LeavesLog};
+
+    ghost keeps = { λ kept log. KeepsLog S.Store kept log };
+
+    ghost works = { λ kept. Works S.Store kept };
+
+    ghost leaves = { λ old log batch new. LeavesLog S.Store old log batch new };
+
+    fn commit(&mut self, batch: &Batch) -> Result<(), SavedFault> {
+        let text = print_entries(self.alloc, batch.entries())?;
+        self.table.append(batch.moment(), text.as_str())
+    }
+
+    fn batches(&mut self) -> Result<Vec<Batch>, SavedFault> {
+        self.load()
+    }
+
+    fn server(&mut self) -> Result<Server, SavedFault> {
+        self.replay()
+    }
+}
