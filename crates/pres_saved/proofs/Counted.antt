@@ -1,9 +1,10 @@
 -- Rows that are numbered 1, 2, ..: the greatest number is how many they are.
-use Rattle.std.proofs.Common.{◌≡◌, ◌==◌, ◌&&◌, Bool, true, false, ℕ, ◌+◌, max, nat_le, if◌then◌else◌, List, [], ◌∷◌, length, Option, Some, None, Ok, refl, sym, ap, ◌∙◌, arith}
+use Rattle.std.proofs.Common.{◌≡◌, ◌==◌, ◌&&◌, Bool, true, false, ℕ, ◌+◌, max, nat_le, if◌then◌else◌, List, [], ◌∷◌, length, Option, Some, None, Result, Ok, Err, refl, sym, ap, ◌∙◌, arith}
+use Rattle.std.proofs.lemmas.Bool.Decides.{nat_tests}
 use Rattle.std.specs.Option.{unwrap_or}
 use Rattle.sqlite.specs.Order.{Row, column}
 use Rattle.pres_write.specs.Moments.{last_moment}
-use Rattle.pres_table.specs.Saved.{Saved, saved_as, saved_row, saved_from, saved_rows, whole_of, text_of}
+use Rattle.pres_table.specs.Saved.{Saved, saved_as, saved_row, saved_from, saved_rows, rows_then, saved_front, front_from, front_then, whole_of, text_of}
 use Rattle.pres_table.specs.Opened.{greatest_in}
 use Rattle.pres_table.proofs.Loading.{then_ok}
 
@@ -36,3 +37,16 @@ greatest_from before (row ∷ rows) saved e =
 
 pub greatest_is : (rows : List Row) (saved : List Saved) → saved_rows rows ≡ Ok saved → greatest_in rows ≡ length saved
 greatest_is rows saved e = let it = greatest_from 0 rows saved e in omega (arith, it)
+
+-- the number that was due at the first row that saves nothing
+due_then : (due k : ℕ) (o : Option Saved) (more : Result (List Saved) ℕ) (front : List Saved) → ((j : ℕ) → more ≡ Err j → j ≡ due + 1 + length front) → rows_then due o more ≡ Err k → k ≡ due + length (front_then o front)
+due_then due k None more front ih e = let it : due ≡ k = cc in omega (arith, it)
+due_then due k (Some s) (Ok rows) front ih e = absurd (cc)
+due_then due k (Some s) (Err j) front ih e = let it : j ≡ k = cc in omega (arith, it, ih j refl)
+
+due_from : (due : ℕ) (rows : List Row) (k : ℕ) → saved_from due rows ≡ Err k → k ≡ due + length (front_from due rows)
+due_from due [] k e = absurd (cc)
+due_from due (row ∷ rows) k e = due_then due k (saved_row due row) (saved_from (due + 1) rows) (front_from (due + 1) rows) (due_from (due + 1) rows) e
+
+pub due_is : (rows : List Row) (k : ℕ) → saved_rows rows ≡ Err k → k ≡ length (saved_front rows) + 1
+due_is rows k e = let it = due_from 1 rows k e in omega (arith, it)

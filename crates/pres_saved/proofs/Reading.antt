@@ -19,7 +19,7 @@ use Rattle.pres_saved.proofs.Counted.{greatest_is}
 
 -- ---- results
 
-no_err : {A E : Type 0} → (e : E) (a : A) → (r : Result A E) → r ≡ Err e → r ≡ Ok a → ⊥
+pub no_err : {A E : Type 0} → (e : E) (a : A) → (r : Result A E) → r ≡ Err e → r ≡ Ok a → ⊥
 no_err e a r h k = true≢false (ap is_ok (sym k ∙ h))
 
 -- ---- the log of rows
@@ -76,8 +76,9 @@ log_unread shown log k r m = ap (λ x. if_all_read x (log_after [] (saved_front 
 
 pub log_stopped : (shown : List Row) (k : ℕ) → log_after [] (saved_front shown) ≡ Err k → saved_log shown ≡ Err k
 log_stopped shown k m = ap (if_all_read (saved_rows shown)) m ∙ stop (saved_rows shown)
-  where stop : (rows : Result (List Saved) ℕ) → if_all_read rows (Err k) ≡ Err k
-        stop rows = refl
+  where
+    stop : (rows : Result (List Saved) ℕ) → if_all_read rows (Err k) ≡ Err k
+    stop rows = refl
 
 -- ---- one row more
 
@@ -101,9 +102,9 @@ kept_next rows last log b s low text kept count one =
     let many = length_after was.rows [] log made in
     let now = saved_next rows last s low text was.rows was.all (omega (arith, many, count)) in
     log_of_read more (was.rows ++ s ∷ []) (log ++ b ∷ []) now
-        (ap (log_after []) (front_all 1 more (was.rows ++ s ∷ []) now)
-        ∙ then_log was.rows (s ∷ []) [] log made
-        ∙ after_one log (log ++ b ∷ []) s [] b one refl)
+    (ap (log_after []) (front_all 1 more (was.rows ++ s ∷ []) now)
+    ∙ then_log was.rows (s ∷ []) [] log made
+    ∙ after_one log (log ++ b ∷ []) s [] b one refl)
 
 -- the row that was added saves the next batch
 pub kept_more : (old new : State) (last : ℕ) (log : Log) (b : Batch) (s : Saved) → s.moment ≤ last_moment → IsUtf8 s.body → AddsRow old new (last + 1) s

@@ -42,17 +42,18 @@ after_prefix (row ∷ more) old new e = prefix_by old new (batch_in (number old)
 first_by : (log mid : Log) (row : Saved) (rest : List Saved) (k : ℕ) (o : Option Batch) → batch_in (number mid) row ≡ o → IsLegal mid
     → ((b : Batch) → batch_in (number mid) row ≡ Some b → MayFollow mid b → ⊥) → k ≡ length mid + 1
     → log_then mid o (λ l. log_after l rest) ≡ Ok log → IsFirstIllegal log k
-first_by log mid row rest k None is legal no due e = absurd (no_err _ log _ refl e)
-first_by log mid row rest k (Some b) is legal no due e =
+first_by log mid row rest k None is legal refused due e = absurd (no_err _ log _ refl e)
+first_by log mid row rest k (Some b) is legal refused due e =
     let found = after_prefix rest (mid ++ b ∷ []) log e in
-    record { before = mid; batch = b; later = found.0; parts = found.1 ∙ append_assoc mid (b ∷ []) found.0; number = due; legal = legal; refused = no b is }
+    record { before = mid; batch = b; later = found.0; parts = found.1 ∙ append_assoc mid (b ∷ []) found.0; number = due; legal = legal; refused = refused b is }
 
 -- rows that are all batches, of which one may not follow
 pub first_illegal : (shown : List Row) (log : Log) (k : ℕ) → saved_log shown ≡ Ok log → IsFirstBad shown k → IsFirstIllegal log k
 first_illegal shown log k kept bad = by bad.rest refl
-  where by : (rest : List Saved) → bad.rest ≡ rest → IsFirstIllegal log k
-        by [] is = absurd (no_err k _ _ (bad.unread is) (read_of shown log kept).all)
-        by (row ∷ later) is =
-            first_by log bad.before row later k _ refl bad.legal (λ b. bad.refused row later b is) bad.due
-                (sym (then_log bad.given (row ∷ later) [] bad.before bad.read)
-                ∙ ap (λ rest. log_after [] (bad.given ++ rest)) (sym is) ∙ ap (log_after []) (sym bad.parts) ∙ (read_of shown log kept).made)
+  where
+    by : (rest : List Saved) → bad.rest ≡ rest → IsFirstIllegal log k
+    by [] is = absurd (no_err k _ _ (bad.unread is) (read_of shown log kept).all)
+    by (row ∷ later) is =
+        first_by log bad.before row later k _ refl bad.legal (λ b. bad.refused row later b is) bad.due
+        (sym (then_log bad.given (row ∷ later) [] bad.before bad.read)
+        ∙ ap (λ rest. log_after [] (bad.given ++ rest)) (sym is) ∙ ap (log_after []) (sym bad.parts) ∙ (read_of shown log kept).made)

@@ -24,4 +24,4 @@ pub record Works {S : Type 0} (g : Ghosts S) (t : Kept S) : Type 0 where
 abbrev pub LeavesLog : {S : Type 0} → Ghosts S → Kept S → Log → Batch → Kept S → Type 0
 LeavesLog g old log batch new =
     Survives (state g old.connection) (state g new.connection)
-        (λ db. IsTrue (state g old.connection).is_open → saved_log (map shown_row (db 2)) ≡ Ok (log ++ batch ∷ []))
+    (λ db. IsTrue (state g old.connection).is_open → saved_log (map shown_row (db 2)) ≡ Ok (log ++ batch ∷ []))

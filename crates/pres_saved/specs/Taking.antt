@@ -63,4 +63,4 @@ IsUnserved shown e = IsOfStore e
 pub record IsServerIn (shown : List Row) (server : State) : Type 0 where
   pub log : Log
   pub saved : saved_log shown ≡ Ok log
-  pub server : IsServerOf log server
+  pub made : IsServerOf log server

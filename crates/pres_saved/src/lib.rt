@@ -4,12 +4,12 @@
 
 mod keeper;
 mod memory;
-mod settle;
+mod settlement;
 mod sql;
 mod taker;
 
 pub use keeper::Keeper;
 pub use memory::MemKeeper;
 pub use pres_table::SavedFault;
-pub use settle::{Unsettled, settle};
+pub use settlement::{Unsettled, settle};
 pub use sql::SqlKeeper;

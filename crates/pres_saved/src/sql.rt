@@ -111,7 +111,7 @@ impl<S: Alter + Drop> SqlKeeper<S> {
     pub fn load(&mut self) -> Result<Vec<Batch>, SavedFault>
         ensures batches { HasCleanDisk (state S.Store self.new.connection) → Serves S.Store self.old
             → IfOk result (λ batches.
-                saved_log (shown_rows (state S.Store self.old.connection)) ≡ Ok batches.items) }
+            saved_log (shown_rows (state S.Store self.old.connection)) ≡ Ok batches.items) }
         ensures refused { HasCleanDisk (state S.Store self.new.connection) → Serves S.Store self.old
             → IfErr result (IsUnread (shown_rows (state S.Store self.old.connection))) }
         ensures left { HasCleanDisk (state S.Store self.new.connection) → Serves S.Store self.old
@@ -123,7 +123,10 @@ impl<S: Alter + Drop> SqlKeeper<S> {
             alloc: self.alloc,
             log: Log::new(self.alloc),
         };
-        self.table.each(self.alloc, &mut all)?;
+        if let Err(fault) = self.table.each(self.alloc, &mut all) {
+            drop(all);
+            return Err(fault);
+        }
         Ok(all.log.into_batches())
     }
 
@@ -143,7 +146,10 @@ impl<S: Alter + Drop> SqlKeeper<S> {
             alloc: self.alloc,
             replay: Replay::new(self.alloc),
         };
-        self.table.each(self.alloc, &mut made)?;
+        if let Err(fault) = self.table.each(self.alloc, &mut made) {
+            drop(made);
+            return Err(fault);
+        }
         Ok(made.replay.finish())
     }
 
@@ -166,8 +172,11 @@ impl<S: Alter + Drop> Keeper for SqlKeeper<S> {
     ghost leaves = { λ old log batch new. LeavesLog S.Store old log batch new };
 
     fn commit(&mut self, batch: &Batch) -> Result<(), SavedFault> {
+        // they ensure that the number and the moment are in range
+        let moment = batch.moment();
+        let _ = (batch.first().get(), moment.millis());
         let text = print_entries(self.alloc, batch.entries())?;
-        self.table.append(batch.moment(), text.as_str())
+        self.table.append(moment, text.as_str())
     }
 
     fn batches(&mut self) -> Result<Vec<Batch>, SavedFault> {

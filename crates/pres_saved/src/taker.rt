@@ -22,11 +22,7 @@ fn number_after(before: u64) -> Option<Number>
 }
 
 // The batch that the row saves behind so many entries, none where it saves none.
-fn read_batch(
-    alloc: Global,
-    before: u64,
-    row: &SavedRow,
-) -> Result<Option<Batch>, AllocError>
+fn read_batch(alloc: Global, before: u64, row: &SavedRow) -> Result<Option<Batch>, AllocError>
     ensures { IfOk result (λ found. found ≡ batch_in before (saved_of row.now)) }
 {
     let Some(first) = number_after(before) else {
@@ -64,10 +60,10 @@ impl Take for Batches {
 
     fn take(&mut self, row: SavedRow) -> Result<(), SavedFault> {
         match read_batch(self.alloc, self.log.len(), &row)? {
-            Some(batch) => {
-                self.log.push(batch)?;
-                Ok(())
-            }
+            Some(batch) => match self.log.push(batch) {
+                Ok(()) => Ok(()),
+                Err(_) => Err(SavedFault::Memory),
+            },
             None => Err(bad_row(self.log.batches().len())),
         }
     }
@@ -89,7 +85,10 @@ impl Take for Remaking {
 
     fn take(&mut self, row: SavedRow) -> Result<(), SavedFault> {
         match read_batch(self.alloc, self.replay.log().len(), &row)? {
-            Some(batch) => self.replay.add(batch).map_err(bad_batch),
+            Some(batch) => match self.replay.add(batch) {
+                Ok(()) => Ok(()),
+                Err(fault) => Err(bad_batch(fault)),
+            },
             None => Err(bad_row(self.replay.log().batches().len())),
         }
     }

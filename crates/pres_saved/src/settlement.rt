@@ -23,10 +23,7 @@ pub enum Unsettled {
 /// Gives the turn's batch to the keeper, and then does the turn: the server after it, and the
 /// answers, of which none goes out before the batch is kept. So what the keeper holds is the
 /// server's log.
-pub fn settle<K: Keeper>(
-    keeper: &mut K,
-    busy: Busy,
-) -> Result<(Server, Items<Down>), Unsettled>
+pub fn settle<K: Keeper>(keeper: &mut K, busy: Busy) -> Result<(Server, Items<Down>), Unsettled>
     ensures server { IfOk result
         (λ done. done.0 ≡ state_after busy.state busy.moment busy.made) }
     ensures answers { IfOk result
