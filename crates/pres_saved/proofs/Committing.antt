@@ -1,13 +1,14 @@
 -- One batch more, of the log that a keeper holds.
-use Rattle.std.proofs.Common.{refl, sym, ◌∙◌, ap, subst, ◌≡◌, ℕ, ◌+◌, ◌≤◌, nat_le, Bool, true, false, if◌then◌else◌, List, [], ◌∷◌, ◌++◌, map, length, Option, Some, None, Result, Ok, Err, IsTrue, length-append, arith}
+use Rattle.std.proofs.Common.{refl, sym, ◌∙◌, ap, subst, ◌≡◌, ℕ, ◌+◌, ◌≤◌, nat_le, Bool, true, false, if◌then◌else◌, List, [], ◌∷◌, ◌++◌, map, length, Option, Some, None, Result, Ok, Err, IsTrue, arith}
 use Rattle.std.proofs.lemmas.Bool.Decides.{nat_tests}
 use Rattle.std.specs.Option.{option_and_then}
-use Rattle.std.specs.Result.{is_ok, OnOk}
+use Rattle.std.specs.Result.{is_ok, OnOk, OnErr}
 use Rattle.std.specs.Str.{IsUtf8}
 use Rattle.sqlite.specs.Tree.{Trees}
 use Rattle.sqlite.specs.Store.{Ghosts}
 use Rattle.sqlite.specs.Held.{state}
-use Rattle.sqlite.specs.State.{HasCleanDisk, Survives}
+use Rattle.sqlite.specs.Effect.{Database}
+use Rattle.sqlite.specs.State.{State, HasCleanDisk, Survives}
 use Rattle.sqlite.proofs.StateLemmas.{survives_weaker}
 use Rattle.pres_write.specs.Moments.{last_moment}
 use Rattle.pres_ids.specs.Numbers.{IsNumber, greatest_number}
@@ -17,11 +18,14 @@ use Rattle.pres_log.specs.Batches.{may_hold}
 use Rattle.pres_log.specs.Logs.{Log, number}
 use Rattle.pres_body.specs.Reads.{entries_in, with_one_null}
 use Rattle.pres_table.specs.declared.fault.SavedFault.{SavedFault}
-use Rattle.pres_table.specs.Saved.{Saved, stored, rows_in, shown_row}
-use Rattle.pres_table.specs.Kept.{Kept, Serves, AddsRow}
+use Rattle.pres_table.specs.Saved.{Saved, stored, rows_in, shown_row, shown_rows}
+use Rattle.pres_table.specs.Kept.{Kept, Serves, AddsRow, IsLeft}
+use Rattle.pres_table.specs.Opened.{greatest_in}
+use Rattle.pres_table.proofs.Finding.{greatest_push}
+use Rattle.pres_table.proofs.Growing.{map_push}
 use Rattle.pres_saved.specs.Saved.{batch_of, batch_in, saved_log, HasOneNull}
-use Rattle.pres_saved.specs.Keeps.{KeepsLog, LeavesLog}
-use Rattle.pres_saved.proofs.Reading.{kept_next, kept_more}
+use Rattle.pres_saved.specs.Keeps.{Works, IsReady, KeepsLog, LeavesLog}
+use Rattle.pres_saved.proofs.Reading.{kept_next, kept_more, kept_count}
 
 in_range : (n : ℕ) → n ≤ greatest_number → nat_le n greatest_number ≡ true
 in_range n h = grind (arith, nat_tests)
@@ -37,21 +41,84 @@ printed log b s es text moment body same back together nulls first range =
     ∙ ap (λ m. batch_of b.first m b.entries) moment
     ∙ ap (λ fits. if fits then Some b else None) (in_range b.first range.1)
 
-module _ {S : Type 0} (g : Ghosts S) (old new : Kept S) (log : Log) (b : Batch) (s : Saved) (low : s.moment ≤ last_moment) (text : IsUtf8 s.body) (one : batch_in (number log) s ≡ Some b) where
-  pub committed : (r : Result (Unit {0}) SavedFault) → KeepsLog g old log → Serves g new → OnOk r (AddsRow (state g old.connection) (state g new.connection) (old.last + 1) s)
-      → new.last ≡ (if is_ok r then old.last + 1 else old.last) → OnOk r (KeepsLog g new (log ++ b ∷ []))
-  committed (Ok _) keeps serves adds last = record {
-    serves = serves;
-    rows = kept_more (state g old.connection) (state g new.connection) old.last log b s low text adds keeps.rows keeps.last one;
-    last = (let many = length-append log (b ∷ []) in omega (arith, last, keeps.last, many));
-  }
-  committed (Err e) keeps serves adds last = tt
+module _ {S : Type 0} (g : Ghosts S) (old new : Kept S) where
+  abbrev before : State
+  before = state g old.connection
 
-  pub crashed : KeepsLog g old log
-      → Survives (state g old.connection) (state g new.connection) (λ db. IsTrue (state g old.connection).is_open → db 2 ≡ rows_in (state g old.connection) ++ stored (old.last + 1) s ∷ [])
-      → LeavesLog g old log b new
-  crashed keeps survives =
-      survives_weaker (state g old.connection) (state g new.connection) _ _
-      (λ clean db rows live. ap (λ found. saved_log (map shown_row found)) (rows live)
-      ∙ kept_next (rows_in (state g old.connection)) old.last log b s low text keeps.rows keeps.last one)
-      survives
+  abbrev after : State
+  after = state g new.connection
+
+  -- ---- a call that leaves the rows
+
+  module _ {P : Trees → Type 0} (left : HasCleanDisk after → IsLeft before after) (survives : Survives before after P) where
+    pub worked_left : Works g new → Works g old
+    worked_left works = record {
+      clean = omega (arith, survives.clean, works.clean);
+      is_open = ((left works.clean).same works.is_open).was_open;
+    }
+
+    pub same_rows : Works g new → shown_rows after ≡ shown_rows before
+    same_rows works = ap (λ (d : Database). map shown_row (d.trees 2)) ((left works.clean).same works.is_open).now
+
+    pub ready_left : IsReady g old → Serves g new → new.last ≡ old.last → IsReady g new
+    ready_left ready serves last = record {
+      serves = serves;
+      last = λ works. last ∙ ready.last (worked_left works) ∙ ap greatest_in (sym (same_rows works));
+    }
+
+    pub kept_left : (log : Log) → Works g new → KeepsLog g old log → KeepsLog g new log
+    kept_left log works keeps = ap saved_log (same_rows works) ∙ keeps
+
+  -- ---- a row behind the last
+
+  module _ (s : Saved) (r : Result (Unit {0}) SavedFault) (serves : Serves g new) (adds : HasCleanDisk after → OnOk r (AddsRow before after (old.last + 1) s))
+      (leaves : HasCleanDisk after → OnErr r (IsLeft before after)) (last : new.last ≡ (if is_ok r then old.last + 1 else old.last)) where
+    was_open : (told : Result (Unit {0}) SavedFault) → r ≡ told → Works g new → IsTrue before.is_open
+    was_open (Ok _) is works = (subst (λ x. OnOk x (AddsRow before after (old.last + 1) s)) is (adds works.clean)).was_open
+    was_open (Err e) is works = ((subst (λ x. OnErr x (IsLeft before after)) is (leaves works.clean)).same works.is_open).was_open
+
+    pub worked : {P : Trees → Type 0} → Survives before after P → Works g new → Works g old
+    worked survives works = record { clean = omega (arith, survives.clean, works.clean); is_open = was_open r refl works }
+
+    greatest_after : (told : Result (Unit {0}) SavedFault) → r ≡ told → Works g new → old.last ≡ greatest_in (shown_rows before) → new.last ≡ greatest_in (shown_rows after)
+    greatest_after (Ok _) is works count =
+        let more = subst (λ x. OnOk x (AddsRow before after (old.last + 1) s)) is (adds works.clean) in
+        let one : new.last ≡ old.last + 1 = last ∙ ap (λ x. if is_ok x then old.last + 1 else old.last) is in
+        let shown = ap (λ rows. greatest_in (map shown_row rows)) more.rows ∙ ap greatest_in (map_push shown_row (rows_in before) (stored (old.last + 1) s)) in
+        let pushed = greatest_push (shown_rows before) (shown_row (stored (old.last + 1) s)) in
+        omega (arith, one, shown, pushed, count)
+    greatest_after (Err e) is works count =
+        let same = ((subst (λ x. OnErr x (IsLeft before after)) is (leaves works.clean)).same works.is_open).now in
+        last ∙ ap (λ x. if is_ok x then old.last + 1 else old.last) is ∙ count ∙ ap (λ (d : Database). greatest_in (map shown_row (d.trees 2))) (sym same)
+
+    pub still_ready : {P : Trees → Type 0} → Survives before after P → IsReady g old → IsReady g new
+    still_ready survives ready = record {
+      serves = serves;
+      last = λ works. greatest_after r refl works (ready.last (worked survives works));
+    }
+
+    pub refused : (log : Log) → Works g new → KeepsLog g old log → OnErr r (KeepsLog g new log)
+    refused log works keeps = by r (leaves works.clean)
+      where
+        by : (told : Result (Unit {0}) SavedFault) → OnErr told (IsLeft before after) → OnErr told (KeepsLog g new log)
+        by (Ok _) h = tt
+        by (Err e) h = ap (λ (d : Database). saved_log (map shown_row (d.trees 2))) (h.same works.is_open).now ∙ keeps
+
+    module _ (log : Log) (b : Batch) (low : s.moment ≤ last_moment) (text : IsUtf8 s.body) (one : batch_in (number log) s ≡ Some b) where
+      count : IsReady g old → Works g old → KeepsLog g old log → old.last ≡ length log
+      count ready works keeps = ready.last works ∙ kept_count (shown_rows before) log keeps
+
+      pub committed : {P : Trees → Type 0} → Survives before after P → IsReady g old → Works g new → KeepsLog g old log → OnOk r (KeepsLog g new (log ++ b ∷ []))
+      committed survives ready works keeps = by r (adds works.clean)
+        where
+          by : (told : Result (Unit {0}) SavedFault) → OnOk told (AddsRow before after (old.last + 1) s) → OnOk told (KeepsLog g new (log ++ b ∷ []))
+          by (Ok _) h = kept_more before after old.last log b s low text h keeps (count ready (worked survives works) keeps) one
+          by (Err e) h = tt
+
+      pub crashed : IsReady g old → KeepsLog g old log → Survives before after (λ db. IsTrue before.is_open → db 2 ≡ rows_in before ++ stored (old.last + 1) s ∷ [])
+          → LeavesLog g old log b new
+      crashed ready keeps survives =
+          survives_weaker before after _ _
+          (λ clean db rows works. ap (λ found. saved_log (map shown_row found)) (rows works.is_open)
+          ∙ kept_next (rows_in before) old.last log b s low text keeps (count ready works keeps) one)
+          survives

@@ -1,27 +1,31 @@
 -- What a keeper over a database holds.
-use Rattle.std.specs.Prelude.{◌≡◌, ℕ, List, [], ◌∷◌, ◌++◌, map, length, Ok, IsTrue}
+use Rattle.std.specs.Prelude.{◌≡◌, [], ◌∷◌, ◌++◌, map, Ok, IsTrue}
 use Rattle.sqlite.specs.Store.{Ghosts}
 use Rattle.sqlite.specs.State.{HasCleanDisk, Survives}
 use Rattle.sqlite.specs.Held.{state}
 use Rattle.pres_log.specs.declared.entry.Batch.{Batch}
 use Rattle.pres_log.specs.Logs.{Log}
 use Rattle.pres_table.specs.Kept.{Kept, Serves}
+use Rattle.pres_table.specs.Opened.{greatest_in}
 use Rattle.pres_table.specs.Saved.{shown_row, shown_rows}
 use Rattle.pres_saved.specs.Saved.{saved_log}
-
--- its rows are the batches of the log, and the next row comes behind them
-pub record KeepsLog {S : Type 0} (g : Ghosts S) (t : Kept S) (log : Log) : Type 0 where
-  pub serves : Serves g t
-  pub rows : saved_log (shown_rows (state g t.connection)) ≡ Ok log
-  pub last : t.last ≡ length log
 
 -- the disk gave back what was written, and the store is open
 pub record Works {S : Type 0} (g : Ghosts S) (t : Kept S) : Type 0 where
   pub clean : HasCleanDisk (state g t.connection)
   pub is_open : IsTrue (state g t.connection).is_open
 
+-- no transaction is open, and the next row comes behind the last
+pub record IsReady {S : Type 0} (g : Ghosts S) (t : Kept S) : Type 0 where
+  pub serves : Serves g t
+  pub last : Works g t → t.last ≡ greatest_in (shown_rows (state g t.connection))
+
+-- its rows are the batches of the log
+abbrev pub KeepsLog : {S : Type 0} → Ghosts S → Kept S → Log → Type 0
+KeepsLog g t log = saved_log (shown_rows (state g t.connection)) ≡ Ok log
+
 -- what a crash in the middle of a commit may leave: what a crash before it could, or the log with the batch
 abbrev pub LeavesLog : {S : Type 0} → Ghosts S → Kept S → Log → Batch → Kept S → Type 0
 LeavesLog g old log batch new =
     Survives (state g old.connection) (state g new.connection)
-    (λ db. IsTrue (state g old.connection).is_open → saved_log (map shown_row (db 2)) ≡ Ok (log ++ batch ∷ []))
+    (λ db. Works g old → saved_log (map shown_row (db 2)) ≡ Ok (log ++ batch ∷ []))

@@ -11,9 +11,7 @@ use Rattle.pres_table.specs.declared.fault.SavedFault.TheVariants.{Memory, Datab
 use Rattle.pres_table.specs.Saved.{Saved, saved_rows, saved_front}
 use Rattle.pres_server.specs.declared.replay.ReplayFault.{ReplayFault}
 use Rattle.pres_server.specs.declared.replay.ReplayFault.TheVariants.{Memory as OutOfMemory, NotLegal}
-use Rattle.pres_server.specs.LegalLog.{IsLegal}
-use Rattle.pres_server.specs.Heard.{State}
-use Rattle.pres_server.specs.Replays.{IsFirstIllegal, made_from}
+use Rattle.pres_server.specs.Replays.{IsFirstIllegal}
 
 abbrev pub batch_of : ℕ → ℕ → List Entry → Option Batch
 batch_of first moment es = if nat_le first greatest_number then Some (record { first = first; moment = moment; entries = es }) else None
@@ -61,7 +59,3 @@ IsOfStore e = (e ≡ Memory) ⊎ (e ≡ Database)
 abbrev pub IsNoServer : Log → SavedFault → Type 0
 IsNoServer log (BadRow k) = IsFirstIllegal log k
 IsNoServer log e = IsOfStore e
-
--- the server with exactly this log
-abbrev pub IsServerOf : Log → State → Type 0
-IsServerOf log server = IsLegal log × (server ≡ made_from log)

@@ -6,9 +6,8 @@ use Rattle.pres_log.specs.Logs.{Log, number}
 use Rattle.pres_table.specs.declared.fault.SavedFault.{SavedFault}
 use Rattle.pres_table.specs.declared.fault.SavedFault.TheVariants.{BadRow}
 use Rattle.pres_table.specs.Saved.{Saved, saved_rows, saved_front}
-use Rattle.pres_server.specs.Heard.{State}
 use Rattle.pres_server.specs.LegalLog.{IsLegal, MayFollow}
-use Rattle.pres_saved.specs.Saved.{batch_in, log_after, saved_log, IsOfStore, IsServerOf}
+use Rattle.pres_saved.specs.Saved.{batch_in, log_after, saved_log, IsOfStore}
 
 -- the row's batch stands behind the log
 pub record Extends (old : Log) (row : Saved) (new : Log) : Type 0 where
@@ -58,9 +57,3 @@ IsUnread shown e = IsOfStore e
 abbrev pub IsUnserved : List Row → SavedFault → Type 0
 IsUnserved shown (BadRow k) = IsFirstBad shown k
 IsUnserved shown e = IsOfStore e
-
--- the server of the log that the shown rows save
-pub record IsServerIn (shown : List Row) (server : State) : Type 0 where
-  pub log : Log
-  pub saved : saved_log shown ≡ Ok log
-  pub made : IsServerOf log server

@@ -3,7 +3,8 @@
 ghost use Rattle.std.specs.Prelude.{◌≡◌, ◌+◌, ◌++◌, ◌∷◌, [], OnOk, OnErr, IfOk, IfErr};
 ghost use Rattle.pres_log.specs.declared.entry.Batch.{Batch as Logged};
 ghost use Rattle.pres_log.specs.Logs.{Log, number};
-ghost use Rattle.pres_saved.specs.Saved.{HasOneNull, IsServerOf, IsNoServer, bad_batch};
+ghost use Rattle.pres_server.specs.Replays.{made_from};
+ghost use Rattle.pres_saved.specs.Saved.{HasOneNull, IsNoServer, bad_batch};
 
 use pres_log::Batch;
 use pres_server::{ReplayFault, Server};
@@ -21,11 +22,14 @@ pub(crate) fn bad_batch(fault: ReplayFault) -> SavedFault
 
 /// What keeps the batches of a server, in the order in which they were committed.
 pub trait Keeper {
-    // The keeper holds exactly the batches of this log.
-    ghost keeps: { Self → Log → Type 0 };
+    // It was made, or found, as it should be. No call changes that.
+    ghost ready: { Self → Type 0 };
 
     // What its store gave back is what was written, and the store is open.
     ghost works: { Self → Type 0 };
+
+    // It holds exactly the batches of this log.
+    ghost keeps: { Self → Log → Type 0 };
 
     // What a crash may leave in the middle of the commit of a batch behind this log.
     ghost leaves: { Self → Log → Logged → Self → Type 0 };
@@ -33,28 +37,41 @@ pub trait Keeper {
     /// Adds the batch, for good. A refusal leaves the batches as they were, as long as the store
     /// works; after a crash they are found without the batch or with it.
     fn commit(&mut self, batch: &Batch) -> Result<(), SavedFault>
-        ensures ok { (log : Log) → works self.new → keeps self.old log
+        ensures ready { ready self.old → ready self.new }
+        ensures worked { ready self.old → works self.new → works self.old }
+        ensures ok { (log : Log) → ready self.old → works self.new → keeps self.old log
             → batch.now.first ≡ number log + 1 → HasOneNull batch.now.entries
             → OnOk result (keeps self.new (log ++ batch.now ∷ [])) }
-        ensures err { (log : Log) → works self.new → keeps self.old log
+        ensures err { (log : Log) → ready self.old → works self.new → keeps self.old log
             → OnErr result (keeps self.new log) }
-        ensures crash { (log : Log) → keeps self.old log
+        ensures crash { (log : Log) → ready self.old → keeps self.old log
             → batch.now.first ≡ number log + 1 → HasOneNull batch.now.entries
             → leaves self.old log batch.now self.new };
 
     /// The batches in their order.
     fn batches(&mut self) -> Result<Vec<Batch>, SavedFault>
-        ensures batches { (log : Log) → works self.new → keeps self.old log
+        ensures ready { ready self.old → ready self.new }
+        ensures worked { ready self.old → works self.new → works self.old }
+        ensures batches { ready self.old → works self.new
+            → IfOk result (λ batches. keeps self.new batches.items) }
+        ensures exact { (log : Log) → ready self.old → works self.new → keeps self.old log
             → IfOk result (λ batches. batches.items ≡ log) }
-        ensures stays { (log : Log) → works self.new → keeps self.old log → keeps self.new log };
+        ensures stays { (log : Log) → ready self.old → works self.new
+            → keeps self.old log → keeps self.new log };
 
     /// The server that its batches make, where they are a legal log, with each open session heard
     /// of at the log's greatest moment. `BadRow` with the number of the first batch that may not
-    /// follow those before it.
+    /// follow.
     fn server(&mut self) -> Result<Server, SavedFault>
-        ensures made { (log : Log) → works self.new → keeps self.old log
-            → IfOk result (IsServerOf log) }
-        ensures refused { (log : Log) → works self.new → keeps self.old log
+        ensures ready { ready self.old → ready self.new }
+        ensures worked { ready self.old → works self.new → works self.old }
+        ensures made { IfOk result (λ server. server ≡ made_from server.log) }
+        ensures server { ready self.old → works self.new
+            → IfOk result (λ server. keeps self.new server.log) }
+        ensures exact { (log : Log) → ready self.old → works self.new → keeps self.old log
+            → IfOk result (λ server. server.log ≡ log) }
+        ensures refused { (log : Log) → ready self.old → works self.new → keeps self.old log
             → IfErr result (IsNoServer log) }
-        ensures stays { (log : Log) → works self.new → keeps self.old log → keeps self.new log };
+        ensures stays { (log : Log) → ready self.old → works self.new
+            → keeps self.old log → keeps self.new log };
 }

@@ -41,6 +41,8 @@ impl Keeper for MemKeeper {
 
     ghost keeps = { λ kept log. kept ≡ log };
 
+    ghost ready = { λ _. ⊤ };
+
     ghost works = { λ _. ⊤ };
 
     ghost leaves = { λ _ _ _ _. ⊤ };

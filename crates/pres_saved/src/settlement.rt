@@ -2,7 +2,7 @@
 
 ghost use Rattle.std.specs.Prelude.{◌≡◌, IfOk, IfErr};
 ghost use Rattle.pres_log.specs.Logs.{entries};
-ghost use Rattle.pres_server.specs.Turns.{state_after};
+ghost use Rattle.pres_server.specs.Turns.{batch_of, state_after};
 ghost use Rattle.pres_server.specs.Streams.{answers};
 ghost use Rattle.pres_saved.specs.Settled.{IsUndone, KeepsUndone};
 
@@ -28,11 +28,18 @@ pub fn settle<K: Keeper>(keeper: &mut K, busy: Busy) -> Result<(Server, Items<Do
         (λ done. done.0 ≡ state_after busy.state busy.moment busy.made) }
     ensures answers { IfOk result
         (λ done. done.1 ≡ answers (entries busy.state.log) busy.made) }
-    ensures kept { K.works keeper.new → K.keeps keeper.old busy.state.log
+    ensures kept { K.ready keeper.old → K.works keeper.new
+        → K.keeps keeper.old busy.state.log
         → IfOk result (λ done. K.keeps keeper.new done.0.log) }
     ensures undone { IfErr result (IsUndone busy.state) }
-    ensures refused { K.works keeper.new → K.keeps keeper.old busy.state.log
+    ensures refused { K.ready keeper.old → K.works keeper.new
+        → K.keeps keeper.old busy.state.log
         → IfErr result (KeepsUndone (K.keeps keeper.new) busy) }
+    ensures ready { K.ready keeper.old → K.ready keeper.new }
+    ensures worked { K.ready keeper.old → K.works keeper.new → K.works keeper.old }
+    ensures crash { K.ready keeper.old → K.keeps keeper.old busy.state.log
+        → K.leaves keeper.old busy.state.log
+        (batch_of busy.state.log busy.moment busy.made) keeper.new }
 {
     match keeper.commit(busy.batch()) {
         Ok(()) => match busy.done() {

@@ -8,9 +8,10 @@ ghost use Rattle.pres_table.specs.Made.{HoldsFormat, Makes, FailsToMake, making_
 ghost use Rattle.pres_table.specs.Opened.{HasFormat, LacksFormat};
 ghost use Rattle.pres_table.specs.Schemas.{no_schema};
 ghost use Rattle.pres_table.specs.Saved.{shown_rows};
+ghost use Rattle.pres_server.specs.Replays.{made_from};
 ghost use Rattle.pres_saved.specs.Saved.{saved_log};
-ghost use Rattle.pres_saved.specs.Keeps.{KeepsLog};
-ghost use Rattle.pres_saved.specs.Taking.{IsUnread, IsServerIn, IsUnserved};
+ghost use Rattle.pres_saved.specs.Keeps.{IsReady, KeepsLog};
+ghost use Rattle.pres_saved.specs.Taking.{IsUnread, IsUnserved};
 
 use crate::keeper::Keeper;
 use crate::taker::{Batches, Remaking};
@@ -55,6 +56,7 @@ impl<S: Alter + Drop> SqlKeeper<S> {
         connection: Connection<S>,
     ) -> Result<SqlKeeper<S>, (SavedFault, Connection<S>)>
         requires { connection.in_transaction ≡ false }
+        ensures ready { IfOk result (λ k. connection.schema ≡ no_schema → IsReady S.Store k) }
         ensures empty { IfOk result (λ k. HasCleanDisk (state S.Store k.connection)
             → connection.schema ≡ no_schema → KeepsLog S.Store k []) }
         ensures unchanged { IfErr result (λ e. HasCleanDisk (state S.Store e.1)
@@ -89,6 +91,8 @@ impl<S: Alter + Drop> SqlKeeper<S> {
         requires { connection.in_transaction ≡ false }
         ensures format { IfOk result (λ k. HasCleanDisk (state S.Store k.connection)
             → (mid : _) × HasFormat (state S.Store connection) (state S.Store mid)) }
+        ensures ready { IfOk result (λ k. IsOurs (state S.Store connection)
+            → IsReady S.Store k) }
         ensures found { IfOk result (λ k. (log : _) → HasCleanDisk (state S.Store k.connection)
             → IsOurs (state S.Store connection)
             → saved_log (shown_rows (state S.Store connection)) ≡ Ok log
@@ -117,6 +121,9 @@ impl<S: Alter + Drop> SqlKeeper<S> {
         ensures left { HasCleanDisk (state S.Store self.new.connection) → Serves S.Store self.old
             → IsLeft (state S.Store self.old.connection) (state S.Store self.new.connection) }
         ensures last { self.new.last ≡ self.old.last }
+        ensures crash { Serves S.Store self.old
+            → Survives (state S.Store self.old.connection) (state S.Store self.new.connection)
+            (λ _. IsTrue (state S.Store self.old.connection).is_open → ⊥) }
         ensures serves { Serves S.Store self.old → Serves S.Store self.new }
     {
         let mut all = Batches {
@@ -134,12 +141,17 @@ impl<S: Alter + Drop> SqlKeeper<S> {
     /// at the first row that is no batch, or none that may follow those before it.
     pub fn replay(&mut self) -> Result<Server, SavedFault>
         ensures server { HasCleanDisk (state S.Store self.new.connection) → Serves S.Store self.old
-            → IfOk result (IsServerIn (shown_rows (state S.Store self.old.connection))) }
+            → IfOk result (λ server.
+            saved_log (shown_rows (state S.Store self.old.connection)) ≡ Ok server.log) }
+        ensures made { IfOk result (λ server. server ≡ made_from server.log) }
         ensures refused { HasCleanDisk (state S.Store self.new.connection) → Serves S.Store self.old
             → IfErr result (IsUnserved (shown_rows (state S.Store self.old.connection))) }
         ensures left { HasCleanDisk (state S.Store self.new.connection) → Serves S.Store self.old
             → IsLeft (state S.Store self.old.connection) (state S.Store self.new.connection) }
         ensures last { self.new.last ≡ self.old.last }
+        ensures crash { Serves S.Store self.old
+            → Survives (state S.Store self.old.connection) (state S.Store self.new.connection)
+            (λ _. IsTrue (state S.Store self.old.connection).is_open → ⊥) }
         ensures serves { Serves S.Store self.old → Serves S.Store self.new }
     {
         let mut made = Remaking {
@@ -163,11 +175,13 @@ impl<S: Alter + Drop> SqlKeeper<S> {
 }
 
 impl<S: Alter + Drop> Keeper for SqlKeeper<S> {
-    ghost use Rattle.pres_saved.specs.Keeps.{KeepsLog, Works, LeavesLog};
+    ghost use Rattle.pres_saved.specs.Keeps.{IsReady, Works, KeepsLog, LeavesLog};
 
-    ghost keeps = { λ kept log. KeepsLog S.Store kept log };
+    ghost ready = { λ kept. IsReady S.Store kept };
 
     ghost works = { λ kept. Works S.Store kept };
+
+    ghost keeps = { λ kept log. KeepsLog S.Store kept log };
 
     ghost leaves = { λ old log batch new. LeavesLog S.Store old log batch new };
 

@@ -52,10 +52,10 @@ found_unchanged old new row ours (inr h) = shown_unchanged format_text [] old ne
 
 -- ---- the last number
 
-abbrev number_of : Row → ℕ
+abbrev pub number_of : Row → ℕ
 number_of row = unwrap_or (whole_of (column row 0)) 0
 
-greatest_push : (given : List Row) (row : Row) → greatest_in (given ++ row ∷ []) ≡ max (greatest_in given) (number_of row)
+pub greatest_push : (given : List Row) (row : Row) → greatest_in (given ++ row ∷ []) ≡ max (greatest_in given) (number_of row)
 greatest_push [] row = omega arith
 greatest_push (r ∷ given) row = let later = greatest_push given row in omega (arith, later)
 

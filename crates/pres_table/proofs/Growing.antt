@@ -10,7 +10,7 @@ use Rattle.pres_table.specs.Saved.{Saved, stored, rows_in, shown_row, shown_rows
 use Rattle.pres_table.specs.Kept.{AddsRow}
 use Rattle.pres_table.proofs.Loading.{then_ok, saved_push}
 
-map_push : {A B : Type 0} (f : A → B) (xs : List A) (x : A) → map f (xs ++ x ∷ []) ≡ map f xs ++ f x ∷ []
+pub map_push : {A B : Type 0} (f : A → B) (xs : List A) (x : A) → map f (xs ++ x ∷ []) ≡ map f xs ++ f x ∷ []
 map_push f [] x = refl
 map_push f (y ∷ xs) x = ap (λ l. f y ∷ l) (map_push f xs x)
 

@@ -1,5 +1,8 @@
+use Rattle.std.proofs.Common.{Ok, sym, ap, ◌∙◌}
 use Rattle.sqlite.specs.Held.{state}
 use Rattle.pres_table.specs.Saved.{shown_rows}
+use Rattle.pres_server.specs.Heard.{State}
+use Rattle.pres_server.specs.Replays.{made_from}
 use Rattle.pres_saved.specs.declared.taker.Remaking.{Remaking}
 use Rattle.pres_saved.proofs.Refused.{all_served, unserved}
 use Rattle.pres_saved.proofs.sql.SqlKeeper.replay.Goals as goal
@@ -10,5 +13,8 @@ returns-in-Err-clause-refused g c = rw (← c.self.view_is) (λ clean serves.
 
 pub returns-clause-server : goal.returns-clause-server
 returns-clause-server g c = rw (← c.self.view_is) (λ clean serves.
-    let served = all_served (λ (taker : Remaking). taker.replay) (shown_rows (state g.S.Store c.self.inside.table.connection)) _ _ c.new.ensures (c.in_default.ensures.goes clean serves) in
-    record { log = c.each.new.taker.replay; saved = served.0; made = (c.finish.ensures.legal, c.finish.ensures.server) })
+    (all_served (λ (taker : Remaking). taker.replay) (shown_rows (state g.S.Store c.self.inside.table.connection)) _ _ c.new.ensures (c.in_default.ensures.goes clean serves)).0
+    ∙ ap (λ (s : State). Ok s.log) (sym c.finish.ensures.server))
+
+pub returns-clause-made : goal.returns-clause-made
+returns-clause-made g c = c.finish.ensures.server ∙ ap (λ (s : State). made_from s.log) (sym c.finish.ensures.server)

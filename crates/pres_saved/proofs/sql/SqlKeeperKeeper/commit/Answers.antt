@@ -1,25 +1,36 @@
 use Rattle.std.proofs.Common.{◌+◌, subst}
-use Rattle.pres_ids.specs.Numbers.{IsNumber}
 use Rattle.std.specs.String.{string_bytes}
+use Rattle.pres_ids.specs.Numbers.{IsNumber}
 use Rattle.pres_table.specs.Saved.{Saved}
-use Rattle.pres_saved.proofs.Committing.{printed, committed, crashed}
+use Rattle.pres_saved.proofs.Committing.{printed, still_ready, committed, crashed}
 use Rattle.pres_saved.proofs.sql.SqlKeeperKeeper.commit.Goals as goal
+
+pub returns-clause-ready : goal.returns-clause-ready
+returns-clause-ready g c =
+    let s : Saved = record { moment = c.moment-moment.result; body = c.as_str.result.now } in
+    rw (← c.self.view_is) (λ ready.
+    still_ready g.S.Store c.self.inside.table c.append.new.self s c.append.result (c.append.ensures.serves ready.serves)
+    (λ clean. c.append.ensures.ok clean ready.serves) (λ clean. c.append.ensures.err clean ready.serves) c.append.ensures.last
+    (c.append.ensures.crash ready.serves) ready)
 
 pub returns-clause-ok : goal.returns-clause-ok
 returns-clause-ok g c =
     let b = c.args.batch.now in
     let s : Saved = record { moment = c.moment-moment.result; body = c.as_str.result.now } in
-    rw (← c.self.view_is) (λ log works keeps first nulls.
+    rw (← c.self.view_is) (λ log ready works keeps first nulls.
     let one = printed log b s c.entries.result.now (string_bytes c.in_ok-text.text) c.moment-moment.ensures c.as_str.ensures.value c.entries.ensures.entries
     c.in_ok-text.ensures.reads_back c.entries.ensures.together nulls first (subst IsNumber c.first.ensures c.get.ensures.number) in
-    committed g.S.Store c.self.inside.table c.append.new.self log b s c.millis.ensures.bound c.as_str.utf8 one c.append.result keeps
-    (c.append.ensures.serves keeps.serves) (c.append.ensures.ok works.clean keeps.serves) c.append.ensures.last)
+    committed g.S.Store c.self.inside.table c.append.new.self s c.append.result (c.append.ensures.serves ready.serves)
+    (λ clean. c.append.ensures.ok clean ready.serves) (λ clean. c.append.ensures.err clean ready.serves) c.append.ensures.last
+    log b c.millis.ensures.bound c.as_str.utf8 one (c.append.ensures.crash ready.serves) ready works keeps)
 
 pub returns-clause-crash : goal.returns-clause-crash
 returns-clause-crash g c =
     let b = c.args.batch.now in
     let s : Saved = record { moment = c.moment-moment.result; body = c.as_str.result.now } in
-    rw (← c.self.view_is) (λ log keeps first nulls.
+    rw (← c.self.view_is) (λ log ready keeps first nulls.
     let one = printed log b s c.entries.result.now (string_bytes c.in_ok-text.text) c.moment-moment.ensures c.as_str.ensures.value c.entries.ensures.entries
     c.in_ok-text.ensures.reads_back c.entries.ensures.together nulls first (subst IsNumber c.first.ensures c.get.ensures.number) in
-    crashed g.S.Store c.self.inside.table c.append.new.self log b s c.millis.ensures.bound c.as_str.utf8 one keeps (c.append.ensures.crash keeps.serves))
+    crashed g.S.Store c.self.inside.table c.append.new.self s c.append.result (c.append.ensures.serves ready.serves)
+    (λ clean. c.append.ensures.ok clean ready.serves) (λ clean. c.append.ensures.err clean ready.serves) c.append.ensures.last
+    log b c.millis.ensures.bound c.as_str.utf8 one ready keeps (c.append.ensures.crash ready.serves))

@@ -4,5 +4,5 @@ use Rattle.pres_saved.proofs.Refused.{no_server_if}
 use Rattle.pres_saved.proofs.sql.SqlKeeperKeeper.server.Goals as goal
 
 pub returns-clause-refused : goal.returns-clause-refused
-returns-clause-refused g c = λ log works keeps.
-    no_server_if (shown_rows (state g.S.Store c.args.self.now.connection)) log keeps.rows c.replay.result (c.replay.ensures.refused works.clean keeps.serves)
+returns-clause-refused g c = λ log ready works keeps.
+    no_server_if (shown_rows (state g.S.Store c.args.self.now.connection)) log keeps c.replay.result (c.replay.ensures.refused works.clean ready.serves)
