@@ -1,0 +1,2 @@
+pub mod Engines
+pub mod Turned

@@ -1,0 +1,41 @@
+-- What a turn makes of an engine.
+use Rattle.std.specs.Prelude.{◌≡◌, ℕ, true, List, [], Option, Some, None}
+use Rattle.pres_wire.specs.declared.down.Down.{Down}
+use Rattle.pres_log.specs.declared.fault.Fault.TheVariants.{Busy as OutOfMemory}
+use Rattle.pres_log.specs.Logs.{entries}
+use Rattle.pres_server.specs.declared.input.Input.{Input}
+use Rattle.pres_server.specs.Heard.{State}
+use Rattle.pres_server.specs.Streams.{answers}
+use Rattle.pres_server.specs.Turns.{Decision, refused, quiet, makes, turn, moment_of, state_after, state_heard, IsRefusal, is_made}
+use Rattle.pres_engine.specs.declared.fault.EngineFault.{EngineFault}
+use Rattle.pres_engine.specs.declared.fault.EngineFault.TheVariants as why
+use Rattle.pres_engine.specs.Engines.{Run}
+
+-- the decision is carried out: the server after it, and its answers
+abbrev pub IsDone : Decision → State → ℕ → Input → Option State → List Down → Type 0
+IsDone (makes es) s moment input new outs = (new ≡ Some (state_after s moment es)) × (outs ≡ answers (entries s.log) es)
+IsDone quiet s moment input new outs = (new ≡ Some (state_heard s moment input)) × (outs ≡ [])
+IsDone (refused f) s moment input new outs = ⊥
+
+-- the turn that the input asks for is done
+abbrev pub IsTurned : Option State → Input → ℕ → Option State → List Down → Type 0
+IsTurned None input now new outs = ⊥
+IsTurned (Some s) input now new outs = IsDone (turn s input now) s (moment_of s.log now) input new outs
+
+-- the server's own refusal
+abbrev pub IsRefused : Option State → Input → ℕ → (Decision → Type 0) → Type 0
+IsRefused None input now why = ⊥
+IsRefused (Some s) input now why = why (turn s input now)
+
+-- A turn isn't done: a refused one leaves the server as it was, and after want of memory behind the commit there is none.
+abbrev pub IsNotTurned : Option State → Input → ℕ → Option State → EngineFault → Type 0
+IsNotTurned old input now new (why.Refused f) = (new ≡ old) × IsRefused old input now (λ d. d ≡ refused f)
+IsNotTurned old input now new why.Memory = (new ≡ old) × IsRefused old input now (λ d. IsRefusal d OutOfMemory)
+IsNotTurned old input now new (why.Keeper f) = (new ≡ old) × IsRefused old input now (λ d. is_made d ≡ true)
+IsNotTurned old input now new why.Down = new ≡ None
+
+-- a turn that isn't done, of the server that waited
+abbrev pub IsUndone : State → Option State → EngineFault → Type 0
+IsUndone s new (why.Keeper f) = new ≡ Some s
+IsUndone s new why.Down = new ≡ None
+IsUndone s new e = ⊥

@@ -1,0 +1,10 @@
+//! A server with what keeps its batches: each turn is saved before it is answered.
+#![tactic(auto)]
+
+mod engine;
+mod fault;
+
+pub use engine::Engine;
+pub use fault::EngineFault;
+pub use pres_saved::{Keeper, MemKeeper, SavedFault, SqlKeeper};
+pub use pres_server::{Fault, Input};
