@@ -1,36 +1,13 @@
 //! Runs of the table of saved rows, in memory. A run is a text of lines, each a call and what it
 //! must answer; a line `sql STATEMENT` is another program's, which has the database for itself.
 
+use crate::words::{note, refused, run_sql, said, with};
 use pres_ids::Number;
 use pres_table::{SavedFault, SavedRow, Table, Take};
 use pres_write::{MAX_SAFE_INTEGER, Moment};
 use sqlite::{Alter, Connection};
 use std::alloc::Global;
 use std::test::Fail;
-
-fn said(alloc: Global, word: &str) -> Result<String, Fail> {
-    Ok(String::from_str(alloc, word)?)
-}
-
-// The value with a text, where that was made.
-fn with<T: Drop>(value: T, text: Result<String, Fail>) -> Result<(T, String), Fail> {
-    match text {
-        Ok(text) => Ok((value, text)),
-        Err(fail) => {
-            drop(value);
-            Err(fail)
-        }
-    }
-}
-
-// The name of the refusal, with the number of a bad row.
-fn refused(alloc: Global, fault: SavedFault) -> Result<String, Fail> {
-    let mut text = said(alloc, fault.name())?;
-    if let SavedFault::BadRow(number) = fault {
-        text.push_str(format!(in alloc; " {number}")?.as_str())?;
-    }
-    Ok(text)
-}
 
 // The rows, each as its moment and its text.
 fn listed(alloc: Global, rows: &[SavedRow]) -> Result<String, Fail> {
@@ -150,19 +127,6 @@ fn called<S: Alter + Drop>(
     }
 }
 
-// The connection after another program's statement.
-fn run_sql<S: Alter + Drop>(
-    alloc: Global,
-    mut connection: Connection<S>,
-    statement: &str,
-) -> Result<(Connection<S>, String), Fail> {
-    let word = match connection.execute(statement, &[]) {
-        Ok(_) => "run",
-        Err(_) => "not run",
-    };
-    with(connection, said(alloc, word))
-}
-
 fn step<S: Alter + Drop>(
     alloc: Global,
     connection: Connection<S>,
@@ -175,20 +139,6 @@ fn step<S: Alter + Drop>(
         Some(statement) => run_sql(alloc, connection, statement),
         None => called(alloc, connection, call),
     }
-}
-
-// Notes the call where it answers something else.
-fn note(
-    alloc: Global,
-    call: &str,
-    text: &str,
-    wanted: &str,
-    wrong: &mut String,
-) -> Result<(), Fail> {
-    if text != wanted {
-        wrong.push_str(format!(in alloc; "{call} => {text}\n")?.as_str())?;
-    }
-    Ok(())
 }
 
 // The connection after the line's call.

@@ -1,0 +1,202 @@
+//! Runs of keepers, over a database in memory and in memory alone.
+
+use crate::turns::step;
+use crate::words::{note, refused, run_sql, said, with};
+use pres_saved::{Keeper, MemKeeper, SqlKeeper};
+use sqlite::{Alter, Connection, Row, params};
+use std::alloc::Global;
+use std::test::Fail;
+
+// The columns of a row of batches.
+fn columns(alloc: Global, row: &Row) -> Result<String, Fail> {
+    let number: i64 = row.get(0)?;
+    let moment: i64 = row.get(1)?;
+    let body: String = row.get(2)?;
+    Ok(format!(in alloc; "({number}, {moment}, {body})")?)
+}
+
+// The connection, and the row of batches with the number, as another program reads it.
+fn row<S: Alter + Drop>(
+    alloc: Global,
+    mut connection: Connection<S>,
+    number: &str,
+) -> Result<(Connection<S>, String), Fail> {
+    let Ok(number) = number.parse::<i64>() else {
+        drop(connection);
+        return Err("no number")?;
+    };
+    let statement = "SELECT k, moment, body FROM batch WHERE k = ?1";
+    let text = match connection.query_row(statement, params![number]) {
+        Ok(row) => columns(alloc, &row),
+        Err(_) => said(alloc, "no row"),
+    };
+    with(connection, text)
+}
+
+// The connection after the tables were made, and what that answered.
+fn created<S: Alter + Drop>(
+    alloc: Global,
+    connection: Connection<S>,
+) -> Result<(Connection<S>, String), Fail> {
+    if !connection.is_autocommit() {
+        drop(connection);
+        return Err("a transaction is open")?;
+    }
+    match SqlKeeper::create(alloc, connection) {
+        Ok(keeper) => with(keeper.into_connection(), said(alloc, "created")),
+        Err((fault, connection)) => with(connection, refused(alloc, fault)),
+    }
+}
+
+// The connection after a step of the keeper over it, and what that said.
+pub(crate) fn stepped<S: Alter + Drop>(
+    alloc: Global,
+    connection: Connection<S>,
+    call: &str,
+) -> Result<(Connection<S>, String), Fail> {
+    if !connection.is_autocommit() {
+        drop(connection);
+        return Err("a transaction is open")?;
+    }
+    match SqlKeeper::open(alloc, connection) {
+        Ok(keeper) => {
+            let mut keeper = keeper;
+            let text = step(alloc, &mut keeper, call);
+            with(keeper.into_connection(), text)
+        }
+        Err((fault, connection)) => with(connection, refused(alloc, fault)),
+    }
+}
+
+// The connection after a step: `create`, `sql` and another program's statement, `row` and its
+// number, or a step of the keeper over it.
+fn after<S: Alter + Drop>(
+    alloc: Global,
+    connection: Connection<S>,
+    call: &str,
+) -> Result<(Connection<S>, String), Fail> {
+    if call == "create" {
+        return created(alloc, connection);
+    }
+    match call.split_once(' ') {
+        Some(("sql", statement)) => run_sql(alloc, connection, statement),
+        Some(("row", number)) => row(alloc, connection, number),
+        _ => stepped(alloc, connection, call),
+    }
+}
+
+// The connection after the line's step, which is noted where it says something else.
+fn tried<S: Alter + Drop>(
+    alloc: Global,
+    connection: Connection<S>,
+    line: &str,
+    wrong: &mut String,
+) -> Result<Connection<S>, Fail> {
+    let Some((call, wanted)) = line.split_once(" => ") else {
+        drop(connection);
+        return Err("nothing is wanted")?;
+    };
+    let (connection, text) = after(alloc, connection, call)?;
+    let (connection, ()) = with(connection, note(alloc, call, text.as_str(), wanted, wrong))?;
+    Ok(connection)
+}
+
+// The steps over a new database that say something else, each with that.
+fn wrong_in_database(alloc: Global, lines: &str) -> Result<String, Fail> {
+    let mut connection = Connection::open_in_memory(alloc)?;
+    let mut wrong = String::new(alloc);
+    for line in lines.lines() {
+        connection = tried(alloc, connection, line, &mut wrong)?;
+    }
+    drop(connection);
+    Ok(wrong)
+}
+
+// The same over a keeper in memory.
+fn wrong_in_memory(alloc: Global, lines: &str) -> Result<String, Fail> {
+    let mut keeper = MemKeeper::new(alloc);
+    let mut wrong = String::new(alloc);
+    for line in lines.lines() {
+        let (call, wanted) = line.split_once(" => ").ok_or("nothing is wanted")?;
+        let text = step(alloc, &mut keeper, call)?;
+        note(alloc, call, text.as_str(), wanted, &mut wrong)?;
+    }
+    Ok(wrong)
+}
+
+const FAULTS: &str = r#"server => NotOurs
+create => created
+server => 0 entries, null
+1000 {"m":"hello","s":["alice",1,1]} => {"m":"welcome","ops":0,"s":["alice",1,1],"z":1}
+1000 {"m":"op","n":1,"op":{"op":"set","path":"/a","value":1},"q":1,"s":["alice",1,1]} => {"done":2,"m":"reply","n":1,"out":"wrote","q":1,"r":1,"s":["alice",1,1],"z":2}
+row 1 => (1, 1000, [{"e":"open","s":["alice",1,1]}])
+row 2 => (2, 1000, [{"e":"op","n":1,"op":{"op":"set","path":"/a","value":1},"out":{"wrote":[["/a",1]]},"q":1,"s":["alice",1,1]}])
+row 3 => no row
+batches => batches, 1 1000 [{"e":"open","s":["alice",1,1]}], 2 1000 [{"e":"op","n":1,"op":{"op":"set","path":"/a","value":1},"out":{"wrote":[["/a",1]]},"q":1,"s":["alice",1,1]}]
+server => 2 entries, {"a":1}
+create => NotOurs
+sql UPDATE meta SET value = 9 WHERE name = 'format' => run
+server => Version
+sql UPDATE meta SET value = 1 WHERE name = 'format' => run
+sql INSERT INTO batch(k, moment, body) VALUES(3, 1000, '[') => run
+batches => BadRow 3
+server => BadRow 3
+sql UPDATE batch SET body = '[{"e":"open","s":["alice",1,1]}]' WHERE k = 3 => run
+batches => batches, 1 1000 [{"e":"open","s":["alice",1,1]}], 2 1000 [{"e":"op","n":1,"op":{"op":"set","path":"/a","value":1},"out":{"wrote":[["/a",1]]},"q":1,"s":["alice",1,1]}], 3 1000 [{"e":"open","s":["alice",1,1]}]
+replay => NotLegal 3
+sql INSERT INTO batch(k, moment, body) VALUES(4, 1000, '[') => run
+server => BadRow 3
+batches => BadRow 4"#;
+
+const SUPERSEDED: &str = r#"create => created
+1000 {"m":"hello","s":["alice",1,1]} => {"m":"welcome","ops":0,"s":["alice",1,1],"z":1}
+1000 {"m":"hello","s":["alice",1,2]} => {"m":"gone","r":1,"s":["alice",1,1],"why":"superseded","z":2} {"m":"welcome","ops":0,"s":["alice",1,2],"z":3}
+row 2 => (2, 1000, [{"e":"ended","q":null,"rows":[],"s":["alice",1,1],"why":"superseded"},{"e":"open","s":["alice",1,2]}])
+server => 3 entries, null"#;
+
+const TWICE: &str =
+    r#"1000 {"m":"hello","s":["alice",1,1]} => {"m":"welcome","ops":0,"s":["alice",1,1],"z":1}
+replay => replayed
+again => kept
+replay => NotLegal 2
+server => BadRow 2
+1000 {"m":"hello","s":["bob",1,1]} => BadRow 2"#;
+
+const RESTARTED: &str =
+    r#"1000 {"m":"hello","s":["alice",1,1]} => {"m":"welcome","ops":0,"s":["alice",1,1],"z":1}
+1000 {"m":"hello","s":["bob",1,1]} => {"m":"welcome","ops":0,"s":["bob",1,1],"z":2}
+stop 2000 {"m":"op","n":1,"op":{"op":"set","path":"/x","value":7},"q":1,"s":["bob",1,1]} => stopped
+server => 3 entries, {"x":7}
+batches => batches, 1 1000 [{"e":"open","s":["alice",1,1]}], 2 1000 [{"e":"open","s":["bob",1,1]}], 3 2000 [{"e":"op","n":1,"op":{"op":"set","path":"/x","value":7},"out":{"wrote":[["/x",7]]},"q":1,"s":["bob",1,1]}]
+5000 restart alice => {"m":"gone","r":1,"s":["alice",1,1],"why":"restart","z":4}
+5000 restart bob => {"m":"gone","r":2,"s":["bob",1,1],"why":"restart","z":5}
+server => 5 entries, {"x":7}
+5000 restart alice => quiet
+5000 restart bob => quiet
+server => 5 entries, {"x":7}"#;
+
+// The lines behind the making of the tables.
+fn with_tables(alloc: Global, lines: &str) -> Result<String, Fail> {
+    Ok(format!(in alloc; "create => created\n{lines}")?)
+}
+
+#[test]
+fn batches_are_kept_in_a_database(rt: HostRuntime) -> Result<(), Fail> {
+    for lines in [FAULTS, SUPERSEDED] {
+        let wrong = wrong_in_database(rt.alloc(), lines)?;
+        assert_eq!(rt; wrong.as_str(), "");
+    }
+    Ok(())
+}
+
+#[test]
+fn servers_are_made_anew(rt: HostRuntime) -> Result<(), Fail> {
+    for lines in [TWICE, RESTARTED] {
+        let wrong = wrong_in_memory(rt.alloc(), lines)?;
+        assert_eq!(rt; wrong.as_str(), "");
+        let lines = with_tables(rt.alloc(), lines)?;
+        let wrong = wrong_in_database(rt.alloc(), lines.as_str())?;
+        assert_eq!(rt; wrong.as_str(), "");
+    }
+    Ok(())
+}
