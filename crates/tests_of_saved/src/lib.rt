@@ -3,6 +3,8 @@
 #![tactic(auto)]
 
 #[cfg(test)]
+mod engines;
+#[cfg(test)]
 mod keepers;
 #[cfg(test)]
 mod rows;

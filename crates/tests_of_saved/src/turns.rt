@@ -10,7 +10,7 @@ use std::alloc::Global;
 use std::test::Fail;
 
 // What comes, and when: a moment and `restart` with a client, or a message.
-fn given(alloc: Global, text: &str) -> Result<(Input, Moment), Fail> {
+pub(crate) fn given(alloc: Global, text: &str) -> Result<(Input, Moment), Fail> {
     let (millis, line) = text.split_once(' ').ok_or("no moment")?;
     let now = Moment::at(millis.parse()?);
     match line.strip_prefix("restart ") {
@@ -20,7 +20,7 @@ fn given(alloc: Global, text: &str) -> Result<(Input, Moment), Fail> {
 }
 
 // The texts of the answers, with a blank between two.
-fn texts(alloc: Global, answers: &[Down]) -> Result<String, Fail> {
+pub(crate) fn texts(alloc: Global, answers: &[Down]) -> Result<String, Fail> {
     let mut joined = String::new(alloc);
     for answer in answers {
         if !joined.is_empty() {
