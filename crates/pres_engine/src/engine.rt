@@ -1,10 +1,11 @@
 //! A server with its keeper.
 
-ghost use Rattle.std.specs.Prelude.{◌≡◌, ◌⊎◌, ⊤, Some, None, true, IfOk, IfErr, is_some, option_copied, Option};
+ghost use Rattle.std.specs.Prelude.{◌≡◌, ◌⊎◌, ⊤, Some, None, true, IfOk, IfErr, OnErr, is_some, option_copied, Option};
 ghost use Rattle.pres_log.specs.Logs.{Log, number, entries};
 ghost use Rattle.pres_server.specs.Replays.{made_from};
 ghost use Rattle.pres_server.specs.Streams.{answers};
 ghost use Rattle.pres_server.specs.Turns.{state_after};
+ghost use Rattle.pres_saved.specs.Saved.{IsNoServer};
 ghost use Rattle.pres_engine.specs.Engines.{Runs};
 ghost use Rattle.pres_engine.specs.Turned.{IsTurned, IsNotTurned, IsUndone};
 ghost use Rattle.pres_engine.specs.declared.fault.EngineFault.TheVariants.{Keeper as Unkept};
@@ -51,6 +52,10 @@ impl<K: Keeper + Drop> Engine<K> {
         ensures runs { IfOk result (λ e. is_some e.server ≡ true) }
         ensures exact { IfOk result (λ e. (log : Log) → K.works e.keeper → K.keeps keeper log
             → Runs (λ s. s.log ≡ log) e.server) }
+        ensures refused { IfErr result (λ e. (log : Log) → K.works e.1 → K.keeps keeper log
+            → (f : _) × (e.0 ≡ Unkept f) × IsNoServer log f) }
+        ensures left { IfErr result (λ e. (log : Log) → K.works e.1 → K.keeps keeper log
+            → K.keeps e.1 log) }
         ensures ready { IfErr result (λ e. K.ready e.1) }
     {
         match keeper.server() {
@@ -65,6 +70,7 @@ impl<K: Keeper + Drop> Engine<K> {
             Err(fault) => Err((EngineFault::Keeper(fault), keeper)),
         }
     }
+
     // The turn, committed and then done.
     fn carry_out(&mut self, busy: Busy) -> Result<Items<Down>, EngineFault>
         requires kept { K.works self.old.keeper → K.keeps self.old.keeper busy.state.log }
@@ -73,6 +79,8 @@ impl<K: Keeper + Drop> Engine<K> {
             (self.new.server ≡ Some (state_after busy.state busy.moment busy.made))
             × (outs ≡ answers (entries busy.state.log) busy.made)) }
         ensures refused { IfErr result (IsUndone busy.state self.new.server) }
+        ensures stays { OnErr result (self.new.number ≡ self.old.number) }
+        ensures worked { K.works self.new.keeper → K.works self.old.keeper }
     {
         match settle(&mut self.keeper, busy) {
             Ok((server, answers)) => {
@@ -91,13 +99,15 @@ impl<K: Keeper + Drop> Engine<K> {
         }
     }
 
-    /// Does what the input asks for, at the later of the given moment and the log's greatest one: its batch
-    /// is kept first, and then answered. Refused, with the server as it was: Memory; Refused, as the
-    /// server refuses it; Keeper, where its batch isn't kept. Down, from then on, where memory is refused
-    /// after the batch was kept.
+    /// Does what the input asks for, at the later of the given moment and the log's greatest one:
+    /// its batch is kept first, and then answered. With the server as it was: Refused, as the
+    /// server refuses the input; Memory; Keeper, where the batch isn't kept. Down, from then on,
+    /// where memory is refused after the batch was kept.
     pub fn turn(&mut self, input: Input, now: Moment) -> Result<Items<Down>, EngineFault>
         ensures turned { IfOk result (IsTurned self.old.server input now self.new.server) }
         ensures refused { IfErr result (IsNotTurned self.old.server input now self.new.server) }
+        ensures stays { OnErr result (self.new.number ≡ self.old.number) }
+        ensures worked { K.works self.new.keeper → K.works self.old.keeper }
     {
         let Some(server) = self.server.take() else {
             drop(input);
