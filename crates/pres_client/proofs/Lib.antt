@@ -8,5 +8,6 @@ pub mod Found
 pub mod Trails
 pub mod Sent
 pub mod SentSteps
+pub mod Silent
 pub mod SentOut
 pub mod Tried

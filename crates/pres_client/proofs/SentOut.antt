@@ -5,21 +5,14 @@ use Rattle.std.specs.Option.{is_some, is_none}
 use Rattle.std.proofs.lemmas.Bool.{and_parts}
 use Rattle.std.proofs.lemmas.List.{append_cancel_left, take-append-drop}
 use Rattle.std.proofs.lemmas.List.Elements.{All-nil, All-cons, Contains-append_right}
-use Rattle.pres_tree.specs.declared.scalar.Scalar.{Scalar}
-use Rattle.pres_tree.specs.Paths.{Path, same_path}
-use Rattle.pres_tree.specs.Rows.{Rows}
+use Rattle.pres_tree.specs.Paths.{Path}
 use Rattle.pres_write.specs.declared.op.Op.{Op}
 use Rattle.pres_write.specs.declared.op.Op.TheVariants as op
-use Rattle.pres_write.specs.declared.outcome.Kept.{Kept}
-use Rattle.pres_write.specs.declared.outcome.Kept.TheVariants.{Wrote, Stale}
 use Rattle.pres_write.specs.declared.unconditional.Unconditional.TheVariants as unconditional
 use Rattle.pres_write.specs.Transactions.{comparison}
 use Rattle.pres_write.specs.Updates.{update_of}
 use Rattle.pres_ids.specs.declared.id.SessionId.{SessionId}
-use Rattle.pres_wire.specs.declared.down.Code.{Code}
 use Rattle.pres_wire.specs.declared.down.Code.TheVariants as code
-use Rattle.pres_wire.specs.declared.down.Limit.{Limit}
-use Rattle.pres_wire.specs.declared.down.Limit.TheVariants as limit
 use Rattle.pres_wire.specs.declared.down.Down.{Down}
 use Rattle.pres_wire.specs.declared.down.Down.TheVariants as down
 use Rattle.pres_wire.specs.declared.up.Up.{Up}
@@ -31,7 +24,6 @@ use Rattle.pres_client.specs.declared.call.Answer.TheVariants as answer
 use Rattle.pres_client.specs.declared.call.Call.{Call}
 use Rattle.pres_client.specs.declared.call.Call.TheVariants as call
 use Rattle.pres_client.specs.declared.client.Phase.TheVariants as phase
-use Rattle.pres_mail.specs.declared.notice.Notice.{Notice}
 use Rattle.pres_mail.specs.declared.notice.Notice.TheVariants as notice
 use Rattle.pres_mail.specs.declared.queued.Queued.{Queued}
 use Rattle.pres_mail.specs.declared.queued.Queued.TheVariants as queued
@@ -47,6 +39,7 @@ use Rattle.pres_client.specs.Steps.{Step, calls, receives, hands_out_sends, hand
 use Rattle.pres_client.specs.Sends.{Made, none_made, Unnumbered, opening, made_one, wrote_one, answered_one, made_by, made_step, kept_while, made, MayGoOut, StepSends}
 use Rattle.pres_client.proofs.Phases.{opening_off}
 use Rattle.pres_client.proofs.Sent.{Fits, opens}
+use Rattle.pres_client.proofs.Silent.{Silent, silent_if, silent_reply, silent_action, silent_denied, silent_snap, silent_fault}
 use Rattle.pres_client.proofs.SentSteps.{Keeps, kept_same, made_messages, keeps_run, keeps_start}
 
 -- ---- lists
@@ -234,50 +227,7 @@ tells_call c t call.Lost h = choose c t (is_online c.phase) (end_session c None)
 tells_call c t call.Beat h = tells_beat c t
 tells_call c t call.Resend h = tells_again c t h
 
--- ---- messages that come send nothing, but for the Welcome
-
-abbrev Silent : State → State → Type 0
-Silent c d = d.sends ≡ c.sends
-
-silent_if : (c : State) (b : Bool) (x y : State) → Silent c x → Silent c y → Silent c (if b then x else y)
-silent_if c true x y h g = h
-silent_if c false x y h g = g
-
-silent_reply : (c d : State) (ms : List Queued) (q n done : ℕ) (out : Kept) → Silent c d → Silent c (judge_reply d ms q n done out)
-silent_reply c d (queued.Write k o ∷ rest) q n done Wrote h = silent_if c (fits_write d q n) _ _ h h
-silent_reply c d (queued.Write k o ∷ rest) q n done (Stale held) h = silent_if c (fits_write d q n) _ _ h h
-silent_reply c d (queued.Try k attempt x ∷ rest) q n done Wrote h = silent_if c (fits_write d q n) _ _ h h
-silent_reply c d (queued.Try k attempt x ∷ rest) q n done (Stale held) h = silent_if c (fits_write d q n) _ _ (silent_if c _ _ _ h h) h
-silent_reply c d (queued.Left k o ∷ rest) q n done out h = h
-silent_reply c d (queued.Cancel k x ∷ rest) q n done out h = h
-silent_reply c d (queued.On k x ∷ rest) q n done out h = h
-silent_reply c d (queued.Off x ∷ rest) q n done out h = h
-silent_reply c d [] q n done out h = h
-
-silent_action : (c d : State) (rest : List Queued) (q : ℕ) (news : ℕ → Notice) (o : Option ℕ) → Silent c d → Silent c (action_answered d rest q news o)
-silent_action c d rest q news None h = h
-silent_action c d rest q news (Some k) h = silent_if c (fits d q) _ _ h h
-
-silent_listen_denied : (c d : State) (rest : List Queued) (q : ℕ) (o : Option (ℕ × Path)) → Silent c d → Silent c (listen_denied d rest q o)
-silent_listen_denied c d rest q None h = h
-silent_listen_denied c d rest q (Some f) h = silent_if c (fits d q) _ _ h h
-
-silent_denied : (c d : State) (ms : List Queued) (q : ℕ) (why : Limit) → Silent c d → Silent c (judge_denied d ms q why)
-silent_denied c d ms q limit.Plan h = silent_action c d (drop 1 ms) q denied (first_action ms) h
-silent_denied c d ms q limit.Listens h = silent_listen_denied c d (drop 1 ms) q (first_listen ms) h
-
-silent_told : (c d : State) (x : Path) (z : ℕ) (v : Rows Scalar) (o : Option Watch) → Silent c d → Silent c (receiving.told d x z v o)
-silent_told c d x z v None h = h
-silent_told c d x z v (Some w) h = h
-
-silent_snap : (c d : State) (rest : List Queued) (z q : ℕ) (x : Path) (v : Rows Scalar) (o : Option (ℕ × Path)) → Silent c d → Silent c (listen_answered d rest z q x v o)
-silent_snap c d rest z q x v None h = h
-silent_snap c d rest z q x v (Some f) h =
-    let e : State = receiving.answered d rest in silent_if c (fits d q && same_path f.1 x) _ _ (silent_if c (is_last x rest) _ e (silent_told c e x z v (watch_of x d.watches) h) h) h
-
-silent_fault : (c : State) (session : Option SessionId) (reason : Code) → Silent c (after_fault c session reason)
-silent_fault c None reason = refl
-silent_fault c (Some s) reason = silent_if c (same_session s c.session) _ c (silent_if c (is_opening c.phase) _ _ refl (silent_if c (is_online c.phase) _ c (silent_if c (ends_session reason) _ _ refl refl) refl)) refl
+-- ---- messages
 
 tells_welcome : (c : State) (t : Made) (ops : ℕ) → is_opening c.phase ≡ true → Keeps c t → Tells c t (after_welcome c ops)
 tells_welcome c t ops e h = choose c t (is_fit c ops) d refused (λ _. opened (is_online c.phase) (opening_off c e) h) (λ _. quiet c refused _ refl) where

@@ -226,6 +226,18 @@ after_welcome c ops =
 
 -- ---- all messages
 
+-- a message for the client now: the Welcome that it waits for, the next one of its session's stream, or a Fault
+abbrev pub accepts : State → Down → Bool
+accepts c (down.Welcome s z ops) = is_opening c.phase && same_session s c.session
+accepts c (down.Reply s r z q n done out) = is_next c s r
+accepts c (down.Gone s r z why) = is_next c s r
+accepts c (down.Fault session reason) = true
+accepts c (down.Armed s r z q) = is_next c s r
+accepts c (down.Denied s r z q why) = is_next c s r
+accepts c (down.Snap s r z q p v) = is_next c s r
+accepts c (down.Push s r z values) = is_next c s r
+accepts c (down.OffDone s r z q) = is_next c s r
+
 -- the message is taken, and then judged, or it is passed over
 abbrev pub taken : State → SessionId → ℕ → ℕ → (State → State) → State
 taken c s r z judge = if is_next c s r then judge (bring c z) else c

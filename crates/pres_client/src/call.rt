@@ -1,6 +1,6 @@
 //! The calls of a client as values.
 
-ghost use Rattle.std.specs.Prelude.{◌≡◌, IfOk, IfErr, OnOk};
+ghost use Rattle.std.specs.Prelude.{◌≡◌, IfOk, IfErr, OnOk, MatchResult, Ok, Err, None};
 ghost use Rattle.pres_client.specs.Calls.{Does, Refuses, IsFew, request_of};
 
 use crate::client::Client;
@@ -38,6 +38,18 @@ pub enum Call {
     Resend,
 }
 
+// Of a call that answers no request.
+fn without_request(made: Result<(), ClientFault>) -> Result<Option<u64>, ClientFault>
+    ensures { MatchResult result
+        (λ k. (k ≡ None) × (made ≡ Ok tt))
+        (λ e. made ≡ Err e) }
+{
+    match made {
+        Ok(()) => Ok(None),
+        Err(fault) => Err(fault),
+    }
+}
+
 impl Client {
     /// Makes the call: the request that it answers, none where it answers none. Refused as the
     /// call is.
@@ -59,34 +71,13 @@ impl Client {
             Call::OnDisconnectRemove(path) => self.on_disconnect_remove(path).map(Some),
             Call::OnDisconnectCancel(path) => self.on_disconnect_cancel(path).map(Some),
             Call::Listen(path) => self.listen(path).map(Some),
-            Call::Answer(request, answer) => {
-                self.answer(request, answer)?;
-                Ok(None)
-            }
-            Call::Unlisten(path) => {
-                self.unlisten(&path)?;
-                Ok(None)
-            }
-            Call::GoOnline => {
-                self.go_online()?;
-                Ok(None)
-            }
-            Call::GoOffline => {
-                self.go_offline()?;
-                Ok(None)
-            }
-            Call::Lost => {
-                self.lost()?;
-                Ok(None)
-            }
-            Call::Beat => {
-                self.beat()?;
-                Ok(None)
-            }
-            Call::Resend => {
-                self.resend()?;
-                Ok(None)
-            }
+            Call::Answer(request, answer) => without_request(self.answer(request, answer)),
+            Call::Unlisten(path) => without_request(self.unlisten(&path)),
+            Call::GoOnline => without_request(self.go_online()),
+            Call::GoOffline => without_request(self.go_offline()),
+            Call::Lost => without_request(self.lost()),
+            Call::Beat => without_request(self.beat()),
+            Call::Resend => without_request(self.resend()),
         }
     }
 }

@@ -6,7 +6,7 @@ ghost use Rattle.pres_ids.specs.Numbers.{greatest_number};
 ghost use Rattle.pres_mail.specs.Watches.{watch_of};
 ghost use Rattle.pres_client.specs.Clients.{is_opening};
 ghost use Rattle.pres_client.specs.Calls.{note, end_session, IsFew};
-ghost use Rattle.pres_client.specs.Receiving.{is_next, bring, unfit, fits, fits_write, head_is_write, first_action, first_listen, answered, write_answered, ask_again, armed, judge_reply, judge_action, judge_denied, judge_snap, judge_off_done, told, tell_live, news_of, after_push, own_fault, after_fault, is_fit, after_welcome, after_receive};
+ghost use Rattle.pres_client.specs.Receiving.{is_next, bring, unfit, fits, fits_write, head_is_write, first_action, first_listen, answered, write_answered, ask_again, armed, judge_reply, judge_action, judge_denied, judge_snap, judge_off_done, told, tell_live, news_of, after_push, own_fault, after_fault, is_fit, after_welcome, accepts, after_receive};
 ghost use Rattle.pres_client.specs.declared.fault.ClientFault.TheVariants.{Memory};
 
 use crate::client::{Client, Phase};
@@ -544,6 +544,56 @@ impl Client {
         Ok(())
     }
 
+    // Whether the message is for this client now: the Welcome that it waits for, the next one of
+    // its session's stream, or a Fault.
+    fn accepts(&self, message: &Down) -> bool
+        ensures { result ≡ accepts self.now message.now }
+    {
+        match message {
+            Down::Welcome { session, .. } => self.phase.is_opening() && *session == self.session,
+            Down::Fault { .. } => true,
+            Down::Reply { session, r, .. }
+            | Down::Gone { session, r, .. }
+            | Down::Armed { session, r, .. }
+            | Down::Denied { session, r, .. }
+            | Down::Snap { session, r, .. }
+            | Down::Push { session, r, .. }
+            | Down::OffDone { session, r, .. } => self.is_next(session, *r),
+        }
+    }
+
+    // The message does what it says.
+    fn take(&mut self, message: Down) -> Result<(), AllocError>
+        requires { accepts self.old message ≡ true }
+        ensures ok { OnOk result (self.new ≡ after_receive self.old message) }
+        ensures err { OnErr result (self.new ≡ self.old) }
+    {
+        match message {
+            Down::Welcome { ops, .. } => self.receive_welcome(ops),
+            Down::Reply {
+                z,
+                q,
+                n,
+                done,
+                out,
+                ..
+            } => self.receive_reply(z, q, n, done, out),
+            Down::Gone { z, .. } => self.receive_gone(z),
+            Down::Fault { session, code } => self.receive_fault(session, code),
+            Down::Armed { z, q, .. } => self.receive_armed(z, q),
+            Down::Denied { z, q, why, .. } => self.receive_denied(z, q, why),
+            Down::Snap {
+                z,
+                q,
+                path,
+                value,
+                ..
+            } => self.receive_snap(z, q, path, value),
+            Down::Push { z, values, .. } => self.receive_push(z, values),
+            Down::OffDone { z, q, .. } => self.receive_off_done(z, q),
+        }
+    }
+
     /// Receives a message. One that isn't the next of its session is passed over, so that
     /// messages may come twice or late. Memory is the one refusal, and then nothing is changed.
     pub fn receive(&mut self, message: Down) -> Result<(), ClientFault>
@@ -551,95 +601,11 @@ impl Client {
         ensures err { IfErr result (λ e. (e ≡ Memory) × (self.new ≡ self.old)) }
         ensures few { IsFew self.old self.new }
     {
-        self.accept(message)?;
-        Ok(())
-    }
-
-    // The same, with the one refusal.
-    fn accept(&mut self, message: Down) -> Result<(), AllocError>
-        ensures ok { OnOk result (self.new ≡ after_receive self.old message) }
-        ensures err { OnErr result (self.new ≡ self.old) }
-        ensures few { IsFew self.old self.new }
-    {
-        match message {
-            Down::Welcome { session, ops, .. } => {
-                if !self.phase.is_opening() || session != self.session {
-                    return Ok(());
-                }
-                self.receive_welcome(ops)
-            }
-            Down::Reply {
-                session,
-                r,
-                z,
-                q,
-                n,
-                done,
-                out,
-            } => {
-                if !self.is_next(&session, r) {
-                    drop(out);
-                    return Ok(());
-                }
-                self.receive_reply(z, q, n, done, out)
-            }
-            Down::Gone { session, r, z, .. } => {
-                if !self.is_next(&session, r) {
-                    return Ok(());
-                }
-                self.receive_gone(z)
-            }
-            Down::Fault { session, code } => self.receive_fault(session, code),
-            Down::Armed { session, r, z, q } => {
-                if !self.is_next(&session, r) {
-                    return Ok(());
-                }
-                self.receive_armed(z, q)
-            }
-            Down::Denied {
-                session,
-                r,
-                z,
-                q,
-                why,
-            } => {
-                if !self.is_next(&session, r) {
-                    return Ok(());
-                }
-                self.receive_denied(z, q, why)
-            }
-            Down::Snap {
-                session,
-                r,
-                z,
-                q,
-                path,
-                value,
-            } => {
-                if !self.is_next(&session, r) {
-                    drop(value);
-                    return Ok(());
-                }
-                self.receive_snap(z, q, path, value)
-            }
-            Down::Push {
-                session,
-                r,
-                z,
-                values,
-            } => {
-                if !self.is_next(&session, r) {
-                    drop(values);
-                    return Ok(());
-                }
-                self.receive_push(z, values)
-            }
-            Down::OffDone { session, r, z, q } => {
-                if !self.is_next(&session, r) {
-                    return Ok(());
-                }
-                self.receive_off_done(z, q)
-            }
+        if !self.accepts(&message) {
+            drop(message);
+            return Ok(());
         }
+        self.take(message)?;
+        Ok(())
     }
 }

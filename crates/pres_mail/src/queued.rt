@@ -57,15 +57,15 @@ pub fn number(value: u64) -> Number
 }
 
 impl Queued {
-    /// Whether it is a write, or a try of a transaction.
-    pub fn is_write(&self) -> bool
+    // Whether it is a write, or a try of a transaction.
+    pub(crate) fn is_write(&self) -> bool
         ensures { result ≡ is_write self.now }
     {
         matches!(self, Queued::Write { .. } | Queued::Try { .. })
     }
 
-    /// Whether it listens to the path.
-    pub fn is_on(&self, path: &Path) -> bool
+    // Whether it listens to the path.
+    pub(crate) fn is_on(&self, path: &Path) -> bool
         ensures { result ≡ is_on path.now self.now }
     {
         match self {
@@ -84,8 +84,8 @@ impl Queued {
         }
     }
 
-    /// The number of the next write after it, where that of the next one before it is `n`.
-    pub fn next_write(&self, n: u64) -> u64
+    // The number of the next write after it, where that of the next one before it is `n`.
+    pub(crate) fn next_write(&self, n: u64) -> u64
         requires { n ≤ greatest_number + 1 }
         ensures { result ≡ next_write n self.now }
     {

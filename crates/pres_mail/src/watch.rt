@@ -43,8 +43,8 @@ impl Shown {
         matches!(self, Shown::Live { .. })
     }
 
-    /// What stays of it when the session is left at the number.
-    pub fn kept(self, seen: Count) -> Shown
+    // What stays of it when the session is left at the number.
+    pub(crate) fn kept(self, seen: Count) -> Shown
         ensures { result ≡ kept seen self }
     {
         match self {

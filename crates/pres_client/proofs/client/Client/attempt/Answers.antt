@@ -47,8 +47,9 @@ returns-clause-ok c =
     let sends : c.put.new.self.sends ≡ i.mail.sends ++ sent_now before m = c.put.ensures.sends ∙ rw (c.reserve.ensures.sends, out) refl in
     let notices : c.put.new.self.notices ≡ i.mail.notices = c.put.ensures.notices ∙ rw (c.reserve.ensures.notices, c.new.ensures.items) (append-nil i.mail.notices) in
     let sent : c.sent_with_one-sent.result ≡ (if is_online i.phase then i.made + 1 else i.sent) = c.sent_with_one-sent.ensures ∙ ap (λ t. if is_online t.phase then t.made + 1 else t.sent) (sym c.self.view_is) in
+    let after : State → State = λ t. let d = make_write t m in record d { asks = without_ask c.args.request t.asks } in
     let fields = tried_fields before m c.args.request c.sent_with_one-sent.result c.put.new.self.queue c.put.new.self.sends c.put.new.self.notices c.take.new.self queue sends notices c.take.ensures.left sent in (
       accepted,
       rw (tried s c.args.request c.args.draft (ask_of c.args.request s.asks) c.in-Some-take.ask found)
-          (fields ∙ ap (λ t. let d = make_write t m in record d { asks = without_ask c.args.request t.asks }) c.self.view_is),
+          (◌∙◌ {b = after before} fields (ap after c.self.view_is)),
     )

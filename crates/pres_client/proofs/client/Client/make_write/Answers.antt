@@ -37,5 +37,6 @@ returns-clause-ok c =
     let out : c.in-Ok.sends.items ≡ sent_now before m = c.in-Ok.ensures ∙ ap (λ t. sent_now t m) (sym c.self.view_is) in
     let sends : c.push.new.self.sends ≡ i.mail.sends ++ sent_now before m = c.in_ok-push.ensures.sends ∙ ap (λ l. i.mail.sends ++ l) out in
     let sent : c.sent_with_one-sent.result ≡ (if is_online i.phase then i.made + 1 else i.sent) = c.sent_with_one-sent.ensures ∙ ap (λ t. if is_online t.phase then t.made + 1 else t.sent) (sym c.self.view_is) in
-    made_fields before m c.sent_with_one-sent.result c.push.new.self.queue c.push.new.self.sends c.push.new.self.notices c.in_ok-push.ensures.queue sends c.push.ensures.notices sent
-    ∙ ap (λ t. make_write t m) c.self.view_is
+    ◌∙◌ {b = make_write before m}
+    (made_fields before m c.sent_with_one-sent.result c.push.new.self.queue c.push.new.self.sends c.push.new.self.notices c.in_ok-push.ensures.queue sends c.push.ensures.notices sent)
+    (ap (λ t. make_write t m) c.self.view_is)

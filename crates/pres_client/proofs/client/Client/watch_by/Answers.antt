@@ -39,5 +39,7 @@ returns-clause-ok c =
     let sends : c.put.new.self.sends ≡ i.mail.sends ++ sent_now before m = c.put.ensures.sends ∙ rw (c.reserve.ensures.sends, out) refl in
     let notices : c.put.new.self.notices ≡ i.mail.notices = c.put.ensures.notices ∙ rw (c.reserve.ensures.notices, c.new.ensures.items) (append-nil i.mail.notices) in
     let added : c.add.new.self ≡ with_watch c.args.path (fresh c.args.request) i.watches = search rules in
-    watched_fields before m c.args.path c.args.request c.put.new.self.queue c.put.new.self.sends c.put.new.self.notices c.add.new.self queue sends notices added
-    ∙ ap (λ (t : State). record (enqueue t m) { watches = with_watch c.args.path (fresh c.args.request) t.watches }) c.self.view_is
+    let after : State → State = λ t. record (enqueue t m) { watches = with_watch c.args.path (fresh c.args.request) t.watches } in
+    ◌∙◌ {b = after before}
+    (watched_fields before m c.args.path c.args.request c.put.new.self.queue c.put.new.self.sends c.put.new.self.notices c.add.new.self queue sends notices added)
+    (ap after c.self.view_is)
