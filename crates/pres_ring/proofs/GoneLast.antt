@@ -1,7 +1,6 @@
 -- Nothing is told behind Gone.
 use Rattle.std.proofs.Common.{refl, sym, ◌∙◌, ap, subst, ◌≡◌, ℕ, ◌+◌, List, [], ◌∷◌, ◌++◌, length, Bool, true, false, cond, ◌||◌, true≢false, append_assoc, append-nil, Option, Some, None, slice_get, ◌-◌}
 use Rattle.std.specs.List.{list_any, before_first}
-use mathlib.Core.List.{IsPrefix}
 use Rattle.pres_tree.specs.Paths.{Path}
 use Rattle.pres_ids.specs.declared.id.SessionId.{SessionId}
 use Rattle.pres_ids.specs.Ids.{same_session}

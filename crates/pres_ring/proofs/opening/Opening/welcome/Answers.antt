@@ -1,4 +1,4 @@
-use Rattle.std.proofs.Common.{◌≡◌, ◌∷◌, [], ◌++◌, ◌+◌, ap, sym, ◌∙◌, length, arith}
+use Rattle.std.proofs.Common.{◌∷◌, [], sym}
 use Rattle.pres_ring.proofs.Begins.{told_front}
 use Rattle.pres_ring.proofs.opening.Opening.welcome.Goals as goal
 

@@ -1,6 +1,5 @@
-use Rattle.std.proofs.Common.{◌≡◌, List, [], ◌∷◌, ◌++◌, sym}
+use Rattle.std.proofs.Common.{sym}
 use Rattle.rtrb.specs.Ring.{received, known_items}
-use Rattle.pres_ring.specs.Told.{IsToldOf, StartsFor, BeginsFor}
 use Rattle.pres_ring.proofs.Begins.{told_taken, starts_taken, begins_front}
 use Rattle.pres_ring.proofs.outbox.Outbox.take.Goals as goal
 
