@@ -1,0 +1,4 @@
+pub mod Begins
+pub mod GoneLast
+pub mod ForSession
+pub mod Answered

@@ -1,0 +1,18 @@
+use Rattle.std.proofs.Common.{sym}
+use Rattle.rtrb.specs.Ring.{received, known_items}
+use Rattle.pres_ring.proofs.Begins.{told_taken, starts_taken, begins_front}
+use Rattle.pres_ring.proofs.outbox.Outbox.take.Goals as goal
+
+pub invariant_of-self-2 : goal.invariant_of-self-2
+invariant_of-self-2 c =
+    let old = c.self.inside.ring in
+    let ok = c.in-Ok.ensures.ok in
+    let starts = starts_taken c.self.inside.session (received old) (known_items old) (known_items c.pop.new.self) c.in-Ok.message c.self.invariant.1 ok.1 in
+    rw ok.0 (told_taken c.self.inside.session (received old) (known_items c.pop.new.self) c.in-Ok.message starts ok.2, starts)
+
+pub returns-clause-told : goal.returns-clause-told
+returns-clause-told c = rw (sym c.self.view_is) (invariant_of-self-2 c).0
+
+pub returns-clause-begins : goal.returns-clause-begins
+returns-clause-begins c =
+    rw (sym c.self.view_is) (begins_front c.self.inside.session (received c.pop.new.self) (known_items c.pop.new.self) (invariant_of-self-2 c).1)

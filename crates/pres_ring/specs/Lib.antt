@@ -1,0 +1,3 @@
+pub mod Told
+pub mod Ends
+pub mod Laws

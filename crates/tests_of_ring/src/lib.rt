@@ -1,0 +1,8 @@
+//! Tests of the rings of sessions, over the public calls of `pres_ring` and `pres_server`. They
+//! stand in a crate of their own, since a crate with tests is proved twice.
+#![tactic(auto)]
+
+#[cfg(test)]
+mod rings;
+#[cfg(test)]
+mod run;
