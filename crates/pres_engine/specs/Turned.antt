@@ -1,12 +1,12 @@
 -- What a turn makes of an engine.
-use Rattle.std.specs.Prelude.{◌≡◌, ℕ, true, List, [], Option, Some, None}
+use Rattle.std.specs.Prelude.{◌≡◌, ◌⊎◌, ℕ, true, List, [], ◌∷◌, ◌++◌, Option, Some, None}
 use Rattle.pres_wire.specs.declared.down.Down.{Down}
 use Rattle.pres_log.specs.declared.fault.Fault.TheVariants.{Busy as OutOfMemory}
-use Rattle.pres_log.specs.Logs.{entries}
+use Rattle.pres_log.specs.Logs.{Log, entries}
 use Rattle.pres_server.specs.declared.input.Input.{Input}
 use Rattle.pres_server.specs.Heard.{State}
 use Rattle.pres_server.specs.Streams.{answers}
-use Rattle.pres_server.specs.Turns.{Decision, refused, quiet, makes, turn, moment_of, state_after, state_heard, IsRefusal, is_made}
+use Rattle.pres_server.specs.Turns.{Decision, refused, quiet, makes, turn, moment_of, batch_of, state_after, state_heard, IsRefusal, is_made}
 use Rattle.pres_engine.specs.declared.fault.EngineFault.{EngineFault}
 use Rattle.pres_engine.specs.declared.fault.EngineFault.TheVariants as why
 use Rattle.pres_engine.specs.Engines.{Run}
@@ -32,7 +32,17 @@ abbrev pub IsNotTurned : Option State → Input → ℕ → Option State → Eng
 IsNotTurned old input now new (why.Refused f) = (new ≡ old) × IsRefused old input now (λ d. d ≡ refused f)
 IsNotTurned old input now new why.Memory = (new ≡ old) × IsRefused old input now (λ d. IsRefusal d OutOfMemory)
 IsNotTurned old input now new (why.Keeper f) = (new ≡ old) × IsRefused old input now (λ d. is_made d ≡ true)
-IsNotTurned old input now new why.Down = new ≡ None
+IsNotTurned old input now new why.Down = (new ≡ None) × ((old ≡ None) ⊎ IsRefused old input now (λ d. is_made d ≡ true))
+
+-- what the turn makes is kept behind the log
+abbrev pub HoldsMade : (Log → Type 0) → State → ℕ → Decision → Type 0
+HoldsMade keeps s now (makes es) = keeps (s.log ++ batch_of s.log (moment_of s.log now) es ∷ [])
+HoldsMade keeps s now _ = ⊥
+
+-- A server that goes down has its batch kept.
+abbrev pub KeepsGone : (Log → Type 0) → Option State → Input → ℕ → EngineFault → Type 0
+KeepsGone keeps (Some s) input now why.Down = HoldsMade keeps s now (turn s input now)
+KeepsGone keeps _ input now _ = Unit {0}
 
 -- a turn that isn't done, of the server that waited
 abbrev pub IsUndone : State → Option State → EngineFault → Type 0

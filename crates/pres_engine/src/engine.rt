@@ -1,14 +1,15 @@
 //! A server with its keeper.
 
-ghost use Rattle.std.specs.Prelude.{◌≡◌, ◌⊎◌, ⊤, Some, None, true, IfOk, IfErr, OnErr, is_some, option_copied, Option};
+ghost use Rattle.std.specs.Prelude.{◌≡◌, ⊤, Some, true, IfOk, IfErr, OnErr, is_some, option_copied};
 ghost use Rattle.pres_log.specs.Logs.{Log, number, entries};
 ghost use Rattle.pres_server.specs.Replays.{made_from};
 ghost use Rattle.pres_server.specs.Streams.{answers};
 ghost use Rattle.pres_server.specs.Turns.{state_after};
 ghost use Rattle.pres_saved.specs.Saved.{IsNoServer};
+ghost use Rattle.pres_saved.specs.Settled.{log_with};
 ghost use Rattle.pres_engine.specs.Engines.{Runs};
-ghost use Rattle.pres_engine.specs.Turned.{IsTurned, IsNotTurned, IsUndone};
-ghost use Rattle.pres_engine.specs.declared.fault.EngineFault.TheVariants.{Keeper as Unkept};
+ghost use Rattle.pres_engine.specs.Turned.{IsTurned, IsNotTurned, IsUndone, KeepsGone};
+ghost use Rattle.pres_engine.specs.declared.fault.EngineFault.TheVariants.{Keeper as Unkept, Down as Gone};
 
 use crate::fault::EngineFault;
 use pres_saved::{Keeper, Unsettled, settle};
@@ -79,6 +80,8 @@ impl<K: Keeper + Drop> Engine<K> {
             (self.new.server ≡ Some (state_after busy.state busy.moment busy.made))
             × (outs ≡ answers (entries busy.state.log) busy.made)) }
         ensures refused { IfErr result (IsUndone busy.state self.new.server) }
+        ensures gone { K.works self.new.keeper → IfErr result
+            (λ e. (e ≡ Gone) → K.keeps self.new.keeper (log_with busy)) }
         ensures stays { OnErr result (self.new.number ≡ self.old.number) }
         ensures worked { K.works self.new.keeper → K.works self.old.keeper }
     {
@@ -106,6 +109,8 @@ impl<K: Keeper + Drop> Engine<K> {
     pub fn turn(&mut self, input: Input, now: Moment) -> Result<Items<Down>, EngineFault>
         ensures turned { IfOk result (IsTurned self.old.server input now self.new.server) }
         ensures refused { IfErr result (IsNotTurned self.old.server input now self.new.server) }
+        ensures gone { K.works self.new.keeper → IfErr result
+            (KeepsGone (K.keeps self.new.keeper) self.old.server input now) }
         ensures stays { OnErr result (self.new.number ≡ self.old.number) }
         ensures worked { K.works self.new.keeper → K.works self.old.keeper }
     {

@@ -3,8 +3,10 @@
 
 mod engine;
 mod fault;
+mod supposed;
 
 pub use engine::Engine;
 pub use fault::EngineFault;
 pub use pres_saved::{Keeper, MemKeeper, SavedFault, SqlKeeper};
 pub use pres_server::{Fault, Input};
+pub use supposed::{Premise, Supposed};

@@ -15,6 +15,11 @@ pub record Works {S : Type 0} (g : Ghosts S) (t : Kept S) : Type 0 where
   pub clean : HasCleanDisk (state g t.connection)
   pub is_open : IsTrue (state g t.connection).is_open
 
+-- the store was shut already, and the disk gave back what was written
+pub record WasShut {S : Type 0} (g : Ghosts S) (old new : Kept S) : Type 0 where
+  pub clean : HasCleanDisk (state g new.connection)
+  pub was_shut : IsTrue (state g old.connection).is_open → ⊥
+
 -- no transaction is open, and the next row comes behind the last
 pub record IsReady {S : Type 0} (g : Ghosts S) (t : Kept S) : Type 0 where
   pub serves : Serves g t

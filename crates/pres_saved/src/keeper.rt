@@ -1,6 +1,6 @@
 //! What keeps the batches of a server.
 
-ghost use Rattle.std.specs.Prelude.{◌≡◌, ◌+◌, ◌++◌, ◌∷◌, [], OnOk, OnErr, IfOk, IfErr};
+ghost use Rattle.std.specs.Prelude.{◌≡◌, ◌+◌, ◌++◌, ◌∷◌, [], false, is_ok, OnOk, OnErr, IfOk, IfErr};
 ghost use Rattle.pres_log.specs.declared.entry.Batch.{Batch as Logged};
 ghost use Rattle.pres_log.specs.Logs.{Log, number};
 ghost use Rattle.pres_server.specs.Replays.{made_from};
@@ -31,14 +31,19 @@ pub trait Keeper {
     // It holds exactly the batches of this log.
     ghost keeps: { Self → Log → Type 0 };
 
+    // Its store was shut when a call began, and gave back what was written until the call ended.
+    ghost shut: { Self → Self → Type 0 };
+
     // What a crash may leave in the middle of the commit of a batch behind this log.
     ghost leaves: { Self → Log → Logged → Self → Type 0 };
 
     /// Adds the batch, for good. A refusal leaves the batches as they were, as long as the store
-    /// works; after a crash they are found without the batch or with it.
+    /// works; after a crash they are found without the batch or with it. A store that was shut
+    /// refuses everything.
     fn commit(&mut self, batch: &Batch) -> Result<(), SavedFault>
         ensures ready { ready self.old → ready self.new }
         ensures worked { ready self.old → works self.new → works self.old }
+        ensures shut { ready self.old → shut self.old self.new → is_ok result ≡ false }
         ensures ok { (log : Log) → ready self.old → works self.new → keeps self.old log
             → batch.now.first ≡ number log + 1 → HasOneNull batch.now.entries
             → OnOk result (keeps self.new (log ++ batch.now ∷ [])) }
@@ -52,6 +57,7 @@ pub trait Keeper {
     fn batches(&mut self) -> Result<Vec<Batch>, SavedFault>
         ensures ready { ready self.old → ready self.new }
         ensures worked { ready self.old → works self.new → works self.old }
+        ensures shut { ready self.old → shut self.old self.new → is_ok result ≡ false }
         ensures batches { ready self.old → works self.new
             → IfOk result (λ batches. keeps self.new batches.items) }
         ensures exact { (log : Log) → ready self.old → works self.new → keeps self.old log
@@ -65,6 +71,7 @@ pub trait Keeper {
     fn server(&mut self) -> Result<Server, SavedFault>
         ensures ready { ready self.old → ready self.new }
         ensures worked { ready self.old → works self.new → works self.old }
+        ensures shut { ready self.old → shut self.old self.new → is_ok result ≡ false }
         ensures made { IfOk result (λ server. server ≡ made_from server.log) }
         ensures server { ready self.old → works self.new
             → IfOk result (λ server. keeps self.new server.log) }

@@ -45,6 +45,8 @@ impl Keeper for MemKeeper {
 
     ghost works = { λ _. ⊤ };
 
+    ghost shut = { λ _ _. ⊥ };
+
     ghost leaves = { λ _ _ _ _. ⊤ };
 
     fn commit(&mut self, batch: &Batch) -> Result<(), SavedFault> {

@@ -1,6 +1,6 @@
 //! A keeper over a database.
 
-ghost use Rattle.std.specs.Prelude.{◌≡◌, ◌⊎◌, [], false, Ok, IfOk, IfErr, MatchResult, IsTrue};
+ghost use Rattle.std.specs.Prelude.{◌≡◌, ◌⊎◌, [], false, is_ok, Ok, IfOk, IfErr, MatchResult, IsTrue};
 ghost use Rattle.sqlite.specs.Held.{state};
 ghost use Rattle.sqlite.specs.State.{HasCleanDisk, Survives};
 ghost use Rattle.pres_table.specs.Kept.{Serves, IsLeft, IsOurs};
@@ -10,7 +10,7 @@ ghost use Rattle.pres_table.specs.Schemas.{no_schema};
 ghost use Rattle.pres_table.specs.Saved.{shown_rows};
 ghost use Rattle.pres_server.specs.Replays.{made_from};
 ghost use Rattle.pres_saved.specs.Saved.{saved_log};
-ghost use Rattle.pres_saved.specs.Keeps.{IsReady, KeepsLog};
+ghost use Rattle.pres_saved.specs.Keeps.{IsReady, WasShut, KeepsLog};
 ghost use Rattle.pres_saved.specs.Taking.{IsUnread, IsUnserved};
 
 use crate::keeper::Keeper;
@@ -120,6 +120,8 @@ impl<S: Alter + Drop> SqlKeeper<S> {
             → IfErr result (IsUnread (shown_rows (state S.Store self.old.connection))) }
         ensures left { HasCleanDisk (state S.Store self.new.connection) → Serves S.Store self.old
             → IsLeft (state S.Store self.old.connection) (state S.Store self.new.connection) }
+        ensures shut { Serves S.Store self.old → WasShut S.Store self.old self.new
+            → is_ok result ≡ false }
         ensures last { self.new.last ≡ self.old.last }
         ensures crash { Serves S.Store self.old
             → Survives (state S.Store self.old.connection) (state S.Store self.new.connection)
@@ -148,6 +150,8 @@ impl<S: Alter + Drop> SqlKeeper<S> {
             → IfErr result (IsUnserved (shown_rows (state S.Store self.old.connection))) }
         ensures left { HasCleanDisk (state S.Store self.new.connection) → Serves S.Store self.old
             → IsLeft (state S.Store self.old.connection) (state S.Store self.new.connection) }
+        ensures shut { Serves S.Store self.old → WasShut S.Store self.old self.new
+            → is_ok result ≡ false }
         ensures last { self.new.last ≡ self.old.last }
         ensures crash { Serves S.Store self.old
             → Survives (state S.Store self.old.connection) (state S.Store self.new.connection)
@@ -175,13 +179,15 @@ impl<S: Alter + Drop> SqlKeeper<S> {
 }
 
 impl<S: Alter + Drop> Keeper for SqlKeeper<S> {
-    ghost use Rattle.pres_saved.specs.Keeps.{IsReady, Works, KeepsLog, LeavesLog};
+    ghost use Rattle.pres_saved.specs.Keeps.{IsReady, Works, WasShut, KeepsLog, LeavesLog};
 
     ghost ready = { λ kept. IsReady S.Store kept };
 
     ghost works = { λ kept. Works S.Store kept };
 
     ghost keeps = { λ kept log. KeepsLog S.Store kept log };
+
+    ghost shut = { λ old new. WasShut S.Store old new };
 
     ghost leaves = { λ old log batch new. LeavesLog S.Store old log batch new };
 

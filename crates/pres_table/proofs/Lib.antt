@@ -7,3 +7,4 @@ pub mod Making
 pub mod Finding
 pub mod Collecting
 pub mod Growing
+pub mod Shut

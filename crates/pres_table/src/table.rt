@@ -130,6 +130,9 @@ impl<S: Alter + Drop> Table<S> {
             → OnErr result (IsLeft (state S.Store self.old.connection)
             (state S.Store self.new.connection)) }
         ensures named { IfErr result (λ e. (e ≡ SavedFault.Memory) ⊎ (e ≡ SavedFault.Database)) }
+        ensures shut { HasCleanDisk (state S.Store self.new.connection) → Serves S.Store self.old
+            → (IsTrue (state S.Store self.old.connection).is_open → ⊥)
+            → is_ok result ≡ false }
         ensures spent { greatest_number ≤ self.old.last → result ≡ Err SavedFault.Database }
         ensures crash { Serves S.Store self.old
             → Survives (state S.Store self.old.connection) (state S.Store self.new.connection)
@@ -160,6 +163,9 @@ impl<S: Alter + Drop> Table<S> {
         ensures same { HasCleanDisk (state S.Store self.new.connection) → Serves S.Store self.old
             → OnOk result (IsUnchanged (state S.Store self.old.connection)
             (state S.Store self.new.connection)) }
+        ensures shut { HasCleanDisk (state S.Store self.new.connection) → Serves S.Store self.old
+            → (IsTrue (state S.Store self.old.connection).is_open → ⊥)
+            → is_ok result ≡ false }
         ensures last { self.new.last ≡ self.old.last }
         ensures crash { Serves S.Store self.old
             → Survives (state S.Store self.old.connection) (state S.Store self.new.connection)
@@ -184,6 +190,9 @@ impl<S: Alter + Drop> Table<S> {
         ensures same { HasCleanDisk (state S.Store self.new.connection) → Serves S.Store self.old
             → OnOk result (IsUnchanged (state S.Store self.old.connection)
             (state S.Store self.new.connection)) }
+        ensures shut { HasCleanDisk (state S.Store self.new.connection) → Serves S.Store self.old
+            → (IsTrue (state S.Store self.old.connection).is_open → ⊥)
+            → is_ok result ≡ false }
         ensures last { self.new.last ≡ self.old.last }
         ensures crash { Serves S.Store self.old
             → Survives (state S.Store self.old.connection) (state S.Store self.new.connection)

@@ -1,10 +1,17 @@
 //! Runs of an engine: a server with what keeps its batches.
 
+ghost use Rattle.std.specs.Prelude.{false};
+ghost use Rattle.pres_saved.specs.Keeps.{IsReady};
+
 use crate::turns::{given, texts};
 use crate::words::{note, said};
-use pres_engine::{Engine, EngineFault, Keeper, MemKeeper, SavedFault};
+use pres_engine::{
+    Engine, EngineFault, Keeper, MemKeeper, Premise, SavedFault, SqlKeeper, Supposed,
+};
 use pres_server::{Batch, Server};
+use sqlite::{Alter, Connection};
 use std::alloc::Global;
+use std::marker::Brand;
 use std::test::Fail;
 
 // Keeps in memory, but for the one commit behind so many others, which it refuses.
@@ -22,6 +29,8 @@ impl Keeper for Refusing {
     ghost works = { λ _. ⊤ };
 
     ghost keeps = { λ k log. k.kept ≡ log };
+
+    ghost shut = { λ _ _. ⊥ };
 
     ghost leaves = { λ _ _ _ _. ⊤ };
 
@@ -108,6 +117,44 @@ fn run<K: Keeper + Drop>(
     }
 }
 
+// The lines are run over a database, whose keeper is ready where the premise holds.
+fn run_over<P: Premise, S: Alter + Drop>(
+    alloc: Global,
+    keeper: SqlKeeper<S>,
+    lines: &String,
+) -> Result<(String, Connection<S>), Fail>
+    requires { P.holds → IsReady S.Store keeper }
+{
+    let keeper = Supposed::<SqlKeeper<S>, P>::new(keeper);
+    let (wrong, keeper) = run(alloc, Engine::open(keeper), lines.as_str())?;
+    Ok((wrong, keeper.into_inner().into_connection()))
+}
+
+// The same over a database without tables, and over one that has them.
+fn run_in<S: Alter + Drop>(
+    alloc: Global,
+    connection: Connection<S>,
+    makes: bool,
+    lines: String,
+) -> Result<(String, Connection<S>), Fail> {
+    if !connection.is_autocommit() {
+        drop(connection);
+        return Err("a transaction is open")?;
+    }
+    let keeper = if makes {
+        SqlKeeper::create(alloc, connection)
+    } else {
+        SqlKeeper::open(alloc, connection)
+    };
+    match keeper {
+        Ok(keeper) => run_over::<Brand, S>(alloc, keeper, &lines),
+        Err((fault, connection)) => {
+            drop(connection);
+            Err(fault.name())?
+        }
+    }
+}
+
 // A refused batch is given again, and a server that is made again goes on from what is kept.
 #[test]
 fn refused_commits_leave_the_engine(rt: HostRuntime) -> Result<(), Fail> {
@@ -133,5 +180,34 @@ fn refused_commits_leave_the_engine(rt: HostRuntime) -> Result<(), Fail> {
     )?;
     drop(keeper);
     assert_eq!(rt; wrong.as_str(), "number 4");
+    Ok(())
+}
+
+// A server in a database is made again of what was found there.
+#[test]
+fn engines_go_on_from_a_database(rt: HostRuntime) -> Result<(), Fail> {
+    let connection = Connection::open_in_memory(rt.alloc())?;
+    let (wrong, connection) = run_in(
+        rt.alloc(),
+        connection,
+        true,
+        said(
+            rt.alloc(),
+            r#"1000 {"m":"hello","s":["alice",1,1]} => {"m":"welcome","ops":0,"s":["alice",1,1],"z":1}
+1001 {"m":"op","n":1,"op":{"op":"set","path":"/a","value":1},"q":1,"s":["alice",1,1]} => {"done":2,"m":"reply","n":1,"out":"wrote","q":1,"r":1,"s":["alice",1,1],"z":2}"#,
+        )?,
+    )?;
+    assert_eq!(rt; wrong.as_str(), "number 2");
+    let (wrong, connection) = run_in(
+        rt.alloc(),
+        connection,
+        false,
+        said(
+            rt.alloc(),
+            r#"5000 restart alice => {"m":"gone","r":2,"s":["alice",1,1],"why":"restart","z":3}"#,
+        )?,
+    )?;
+    drop(connection);
+    assert_eq!(rt; wrong.as_str(), "number 3");
     Ok(())
 }

@@ -2,6 +2,7 @@ use Rattle.std.proofs.Common.{◌+◌, arith}
 use Rattle.sqlite.specs.State.{HasCleanDisk}
 use Rattle.sqlite.specs.Held.{state}
 use Rattle.pres_table.proofs.Inserting.{awaits_left}
+use Rattle.pres_table.proofs.Shut.{nothing_done}
 use Rattle.pres_table.proofs.table.Table.each.Goals as goal
 
 pub returns-clause-goes : goal.returns-clause-goes
@@ -24,3 +25,8 @@ returns-clause-serves g c =
 
 pub returns-clause-same : goal.returns-clause-same
 returns-clause-same g c = rw (← c.self.view_is) (λ clean serves. c.go_over.ensures.same clean (c.self.inside.last + 1) serves)
+
+pub returns-clause-shut : goal.returns-clause-shut
+returns-clause-shut g c = rw (← c.self.view_is) (λ clean serves shut.
+    nothing_done (state g.S.Store c.self.inside.connection) (state g.S.Store c.go_over.new.connection) c.go_over.result
+    (c.go_over.ensures.same clean (c.self.inside.last + 1) serves) shut)
