@@ -102,7 +102,7 @@ told_more s es e o =
       front = before-append (opens s) es (e ∷ []) ∙ ap (λ b. cond b (before_first (opens s) es) (es ++ before_first (opens s) (e ∷ []))) was
 
 -- its Welcome, where it is opened
-told_new : (es : List Entry) (t : SessionId) → list_any (opens t) es ≡ false → told t (es ++ entry.Open t ∷ []) ≡ told t es ++ welcome t (es ++ entry.Open t ∷ []) ∷ []
+pub told_new : (es : List Entry) (t : SessionId) → list_any (opens t) es ≡ false → told t (es ++ entry.Open t ∷ []) ≡ told t es ++ welcome t (es ++ entry.Open t ∷ []) ∷ []
 told_new es t n =
     told_opened t now is_opened
     ∙ (λ i. welcome t (front i ++ e ∷ []) ∷ numbered_from 1 (sent_from t (before_first (opens t) now ++ e ∷ []) (fresh_count es t n i)))
@@ -204,7 +204,7 @@ told_in_turn s es m (e ∷ xs) kept f =
     ∙ ap (λ l. told s es ++ l) (sym (those-append s (answers_to es e) (answers now xs)))
 
 -- a legal log without its last batch is legal, and that batch may follow it
-split_last : (before log : Log) (b : Batch) → IsLegalAfter before (log ++ b ∷ []) → IsLegalAfter before log × MayFollow (before ++ log) b
+pub split_last : (before log : Log) (b : Batch) → IsLegalAfter before (log ++ b ∷ []) → IsLegalAfter before log × MayFollow (before ++ log) b
 split_last before [] b h = (tt, subst (λ l. MayFollow l b) (sym (append-nil before)) h.0)
 split_last before (a ∷ log) b h =
     let rest = split_last (before ++ a ∷ []) log b h.1 in

@@ -169,7 +169,7 @@ answers_stay now (entry.Off t q path) r = refl
 answers_stay now (entry.Ended t q why rows) r = refl
 
 -- it has the number behind the Push that the session gets of the entry
-own_number : (es : List Entry) (e : Entry) → is_open (session_of e) es ≡ true
+pub own_number : (es : List Entry) (e : Entry) → is_open (session_of e) es ≡ true
     → filter (λ m. not (is_push m)) (added (session_of e) es e) ≡ numbered_from (length (stream (session_of e) es) + push_count (session_of e) es e + 1) (own_answer (es ++ e ∷ []) e)
 own_number es e o =
     ap (filter (λ m. not (is_push m))) (

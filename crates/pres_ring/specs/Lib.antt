@@ -1,3 +1,4 @@
 pub mod Told
+pub mod Accepted
 pub mod Ends
 pub mod Laws

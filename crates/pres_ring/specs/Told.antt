@@ -47,6 +47,11 @@ abbrev pub is_gone : Down → Bool
 is_gone (down.Gone s r z why) = true
 is_gone _ = false
 
+-- the message tells s that it is gone
+abbrev pub is_gone_for : SessionId → Down → Bool
+is_gone_for s (down.Gone t r z why) = same_session s t
+is_gone_for s _ = false
+
 abbrev pub IsWelcome : SessionId → Down → Type 0
 IsWelcome s m = (z : ℕ) × (ops : ℕ) × (m ≡ down.Welcome s z ops)
 
