@@ -1,5 +1,5 @@
 -- What an input makes, whatever the limits: which entries, and that some inputs are not passed over.
-use Rattle.std.proofs.Common.{refl, sym, ◌∙◌, ap, subst, ◌≡◌, ◌≢◌, ℕ, ◌+◌, ◌-◌, ◌^◌, ◌==◌, nat_lt, nat_le, List, [], ◌∷◌, ◌++◌, map, filter, length, Bool, true, false, cond, ◌||◌, true≢false, arith, length-append, Some, None, Option, unwrap_or}
+use Rattle.std.proofs.Common.{refl, ◌∙◌, ap, subst, ◌≡◌, ◌≢◌, ℕ, ◌+◌, ◌-◌, ◌^◌, ◌==◌, nat_lt, nat_le, List, [], ◌∷◌, ◌++◌, map, filter, length, Bool, true, false, cond, ◌||◌, true≢false, arith, length-append, Some, None, Option, unwrap_or}
 use Rattle.std.specs.List.{list_any}
 use Rattle.std.proofs.lemmas.Bool.{eqb-true}
 use Rattle.std.proofs.lemmas.Bool.Decides.{nat_tests}
@@ -8,7 +8,6 @@ use Rattle.pres_tree.specs.declared.scalar.Scalar.{Scalar}
 use Rattle.pres_tree.specs.Paths.{Path}
 use Rattle.pres_tree.specs.Rows.{Rows}
 use Rattle.pres_write.specs.declared.op.Op.{Op}
-use Rattle.pres_write.specs.declared.outcome.Outcome.{Outcome}
 use Rattle.pres_write.specs.Outcomes.{resolved}
 use Rattle.pres_write.specs.Unconditionals.{puts_of}
 use Rattle.pres_plan.specs.Plans.{most_rows}
@@ -21,23 +20,20 @@ use Rattle.pres_ids.specs.Ids.{ClientId, same_session, stamp_of}
 use Rattle.pres_wire.specs.declared.up.Up.{Up}
 use Rattle.pres_wire.specs.declared.up.Up.TheVariants as up
 use Rattle.pres_wire.specs.declared.down.Limit.TheVariants as limit
-use Rattle.pres_wire.specs.Messages.{session_in, q_in}
 use Rattle.pres_log.specs.declared.entry.Entry.{Entry}
 use Rattle.pres_log.specs.declared.entry.Entry.TheVariants as entry
 use Rattle.pres_log.specs.declared.fault.Fault.TheVariants as fault
-use Rattle.pres_log.specs.Logs.{entries, tree}
-use Rattle.pres_server.specs.declared.input.Input.{Input}
+use Rattle.pres_log.specs.Logs.{tree}
 use Rattle.pres_server.specs.declared.input.Input.TheVariants as input
-use Rattle.pres_server.specs.Heard.{State, late_client}
 use Rattle.pres_server.specs.Sessions.{opens, is_open, is_newest, count, last_of, open_sessions, open_sessions_of}
 use Rattle.pres_server.specs.Outcomes.{rows_for}
 use Rattle.pres_server.specs.SessionPlans.{plan}
 use Rattle.pres_server.specs.Listening.{listened}
-use Rattle.pres_server.specs.Turns.{Decision, refused, quiet, makes, end_of, ends_if_open, ends_first, ends_late, within_rows, within_paths, op_by, in_order, if_open, hello, leaves, listens, message, limited, wanted}
+use Rattle.pres_server.specs.Turns.{Decision, refused, quiet, makes, end_of, ends_if_open, ends_first, ends_late, within_rows, within_paths, op_by, in_order, if_open, hello, leaves, listens, message, limited}
 use Rattle.pres_server.proofs.Since.{any-append}
 use Rattle.pres_server.proofs.Steps.{or_false}
 use Rattle.pres_server.proofs.Whole.{filter_small}
-use Rattle.pres_ring.specs.Accepted.{accepts, accepted, messages_in, is_hello, is_hello_of, HasNextNumber, IsNextMessage}
+use Rattle.pres_ring.specs.Accepted.{accepts, accepted, is_hello, is_hello_of, HasNextNumber, IsNextMessage}
 use Rattle.pres_ring.specs.Laws.{AcceptedAdds, AcceptedIsFew}
 
 -- ---- the limits

@@ -1,5 +1,5 @@
 -- What a Hello's batch answers: the Welcome last, and nothing else to its session.
-use Rattle.std.proofs.Common.{refl, sym, ◌∙◌, ap, subst, ◌≡◌, ℕ, ◌+◌, List, [], ◌∷◌, ◌++◌, filter, length, true, false, not, cond, ◌||◌, ◌&&◌, append_assoc, append-nil, arith, length-append, IsTrue}
+use Rattle.std.proofs.Common.{refl, sym, ◌∙◌, ap, subst, ◌≡◌, ℕ, ◌+◌, List, [], ◌∷◌, ◌++◌, filter, length, true, false, not, cond, ◌||◌, ◌&&◌, append_assoc, append-nil, arith, length-append}
 use Rattle.std.specs.List.{list_any, flat_map}
 use Rattle.pres_ids.specs.declared.id.SessionId.{SessionId}
 use Rattle.pres_wire.specs.declared.up.Up.TheVariants as up
@@ -11,11 +11,11 @@ use Rattle.pres_log.specs.Logs.{Log, entries}
 use Rattle.pres_log.proofs.Entries.{entries-push}
 use Rattle.pres_server.specs.declared.input.Input.TheVariants as input
 use Rattle.pres_server.specs.Heard.{State}
-use Rattle.pres_server.specs.Sessions.{opens, ends, is_newest, is_open, open_sessions, open_sessions_of}
+use Rattle.pres_server.specs.Sessions.{opens, ends, is_newest, open_sessions, open_sessions_of}
 use Rattle.pres_server.specs.Outcomes.{ops}
 use Rattle.pres_server.specs.LegalLog.{IsLegal}
 use Rattle.pres_server.specs.Streams.{welcome, added, is_push, answers_to, answers}
-use Rattle.pres_server.specs.Turns.{makes, moment_of, hello, turn, batch_of}
+use Rattle.pres_server.specs.Turns.{makes, moment_of, hello, batch_of}
 use Rattle.pres_server.proofs.Since.{any-append, session_itself}
 use Rattle.pres_server.proofs.Parts.{not_opened}
 use Rattle.pres_server.proofs.Whole.{legal_after, may_follow}
@@ -37,7 +37,7 @@ nothing_before [] w e = refl
 nothing_before (x ∷ xs) w e = let n = length-append (x ∷ xs) (w ∷ []) in let k : length ((x ∷ xs) ++ w ∷ []) ≡ length (w ∷ []) = ap length e in absurd (omega arith)
 
 -- further entries that open no session, and then the opening
-pub welcomed : (s : SessionId) (log : Log) (m first : ℕ) (xs : List Entry) → IsLegal (log ++ record { first = first; moment = m; entries = xs ++ entry.Open s ∷ [] } ∷ []) → list_any (opens s) (entries log) ≡ false → list_any (opens s) xs ≡ false
+welcomed : (s : SessionId) (log : Log) (m first : ℕ) (xs : List Entry) → IsLegal (log ++ record { first = first; moment = m; entries = xs ++ entry.Open s ∷ [] } ∷ []) → list_any (opens s) (entries log) ≡ false → list_any (opens s) xs ≡ false
     → IsWelcomed s (entries log) (xs ++ entry.Open s ∷ [])
 welcomed s log m first xs legal fresh plain =
     record { closed = ap (λ b. b && not (list_any (ends s) bs)) fresh; untold = told_unopened s bs fresh; others = others; last = w; welcome = (length (front ++ e ∷ []), ops s.client (front ++ e ∷ []), refl); answered = split; silent = silent; told_now = all } where
