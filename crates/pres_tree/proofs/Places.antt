@@ -1,10 +1,11 @@
 -- The place of a key among entries in key order.
-use Rattle.std.proofs.Common.{◌≡◌, ℕ, suc, ◌+◌, ◌<◌, ◌≤◌, ◌++◌, zero, List, [], ◌∷◌, drop, length, Option, Some, None, Result, Ok, Err, refl, sym, ap, subst, ◌∙◌, arith}
+use Rattle.std.proofs.Common.{◌≡◌, ℕ, suc, ◌+◌, ◌<◌, ◌≤◌, ◌++◌, zero, List, [], ◌∷◌, drop, length, Option, Some, None, Result, Ok, Err, refl, sym, ap, subst, ◌∙◌, arith, true, false, true≢false, cond, is_some}
 use Rattle.std.specs.declared.cmp.Ordering.{Ordering}
 use Rattle.std.specs.declared.cmp.Ordering.TheVariants.{Less, Equal, Greater}
+use Rattle.std.specs.Option.{IfSome, option_map, unwrap_or}
 use Rattle.std.specs.Ordering.{match_ordering}
 use Rattle.std.specs.Cmp.Lexicographic.{nat_list_cmp_total}
-use Rattle.std.specs.List.{slice_get, slice_index_or, slice_set, insert, remove, AllByRecursion}
+use Rattle.std.specs.List.{IsAmong, slice_get, slice_index_or, slice_set, insert, remove, AllByRecursion}
 use Rattle.std.specs.List.Sorted.{IsStrictlySortedBy}
 use Rattle.std.specs.Map.{keys_of, values_of, lookup, set_value, remove_entry}
 use Rattle.std.specs.BTreeMap.{BTreeMap, is_at, insert_entry, IsOrdered, Updates, UpdatesBy, WritesThrough}
@@ -144,3 +145,17 @@ module _ {V : Type 0} (k : Key) (v : V) where
     -- the same of a map with those entries
     pub joins : (i : ℕ) → seek (key_cmp k) m.entries ≡ Err i → n.entries ≡ insert_entry key_cmp m.entries k v → Updates key_cmp m n k (Some v) × IsOrdered key_cmp n
     joins i p e = puts i p (e ∙ sym (new_insert m.entries i p))
+
+-- ---- what is found stands among the values
+
+pub among_found : {V : Type 0} (k : Key) (es : List (Key × V)) (v : V) → Some v ≡ lookup (is_at (key_cmp k)) es → IsAmong (values_of es) v
+among_found k [] v h = absurd (true≢false (ap is_some h))
+among_found {V} k (e ∷ es) v h =
+    elim (is_at (key_cmp k) e.0) as (λ b. Some v ≡ cond b (Some e.1) (lookup (is_at (key_cmp k)) es) → IsAmong (e.1 ∷ values_of es) v) [
+      | true ↦ λ g. (0, (omega arith, ap (λ o. unwrap_or o v) g))
+      | false ↦ λ g. let r = among_found k es v g in (suc r.0, (omega (arith, r.1.0), r.1.1))
+    ] h
+
+pub among_result : {V B : Type 0} (now : B → V) (k : Key) (es : List (Key × V)) (o : Option B) → option_map now o ≡ lookup (is_at (key_cmp k)) es → IfSome o (λ b. IsAmong (values_of es) (now b))
+among_result now k es None h = tt
+among_result now k es (Some b) h = among_found k es (now b) h

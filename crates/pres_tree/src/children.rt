@@ -1,13 +1,14 @@
 //! Values under keys, in key order: a short list, or an ordered map.
 
-ghost use Rattle.std.specs.Prelude.{◌≡◌, ◌<◌, ◌≤◌, ◌++◌, ◌↔◌, [], IsTrue, Some, None, IfOk, OnOk, OnErr, length, slice_get, insert, vec_capacity};
+ghost use Rattle.std.specs.Prelude.{◌≡◌, ◌<◌, ◌≤◌, ◌++◌, ◌↔◌, [], IsTrue, Some, None, IfSome, IfOk, OnOk, OnErr, length, slice_get, insert, vec_capacity};
 ghost use Rattle.std.specs.Option.{option_copied, option_copied_mut};
 ghost use Rattle.std.specs.Borrow.{sem};
+ghost use Rattle.std.specs.List.{IsAmong};
 ghost use Rattle.std.specs.List.Sorted.{IsStrictlySortedBy};
 ghost use Rattle.std.specs.Map.{keys_of, values_of, lookup, remove_entry};
 ghost use Rattle.std_collections.specs.Layout.Columns.{set_value_at};
 ghost use Rattle.std.specs.Map.Iter.{TakesFirst, deref_pair};
-ghost use Rattle.std.specs.BTreeMap.{IsOrdered, IsEmpty, IsUnchanged, Updates, UpdatesBy, btree_map_len, get, get_by, is_at, insert_entry};
+ghost use Rattle.std.specs.BTreeMap.{IsOrdered, IsEmpty, IsUnchanged, Updates, UpdatesBy, btree_map_len, get, get_by, is_at, insert_entry, values};
 ghost use Rattle.std.specs.Iterator.{at_most};
 ghost use Rattle.pres_tree.specs.Keys.{key_cmp};
 ghost use Rattle.pres_tree.specs.Children.{place_of, few_lends};
@@ -267,6 +268,7 @@ impl<V> Children<V> {
     /// The value under the key.
     pub(crate) fn get(&self, key: &Key) -> Option<&V>
         ensures value { option_copied result ≡ get_by (key_cmp key.now) self.now }
+        ensures member { IfSome result (λ v. IsAmong (values self.now) v.now) }
         ensures ordered { IsOrdered key_cmp self.now }
     {
         match &self.store {
@@ -282,6 +284,7 @@ impl<V> Children<V> {
     pub(crate) fn get_mut(&mut self, key: &Key) -> Option<&mut V>
         ensures* writes_back { sem 𝓛 (children_lend V.row self.entry key.now result) }
         ensures value { option_copied_mut result ≡ get_by (key_cmp key.now) self.old }
+        ensures member { IfSome result (λ v. IsAmong (values self.old) v.now) }
         ensures ordered { IsOrdered key_cmp self.old }
     {
         self.store.get_mut(key)

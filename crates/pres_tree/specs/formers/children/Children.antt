@@ -3,7 +3,7 @@ use Rattle.std.specs.Prelude.{◌≡◌, ℕ, List}
 use mathlib.Core.Path.{refl, sym, ap, subst, ◌∙◌}
 use mathlib.Core.Logic.{◌⊎◌, inl, inr}
 use mathlib.Core.List.{[], ◌∷◌}
-use mathlib.Core.Former.{Former, this, or, list, via, children}
+use mathlib.Core.Former.{Former, this, or, via, children}
 use denote.RattleType.{RattleType}
 use denote.HoleLaws.{Alike}
 use denote.HolePlaces.{Recodes, struct_places, enum_places, eachs, laid, stays}
@@ -17,6 +17,7 @@ use Rattle.std.specs.declared.vec.Vec.{Vec}
 use Rattle.std.specs.declared.alloc.Global.{Global}
 use Rattle.std.specs.contracts.alloc.Global as heap
 use Rattle.std.specs.contracts.impls.GlobalAllocator.TheImpl as global
+use Rattle.std.specs.contracts.vec.Vec as list
 use Rattle.std.specs.formers.vec.Vec as vec
 use Rattle.std.specs.List.Sorted.{IsStrictlySortedBy}
 use Rattle.std.specs.Map.{keys_of}
@@ -105,7 +106,7 @@ module _ (R R' : RattleType) (h : R.Denot → R'.Denot) where
   pair_places : Alike R R' h → Alike (Tuple (key.the_row ∷ R ∷ [])) (Tuple (key.the_row ∷ R' ∷ [])) (on_value h)
   pair_places a = struct_places (tuple_type (key.the_row ∷ R ∷ [])) (tuple_type (key.the_row ∷ R' ∷ [])) ((λ k. k), (h, tt)) (on_value h) (λ d. refl) refl (stays key.the_row, (laid R R' h a, tt))
 
-  few_places : Alike R R' h → Alike (vec.C.the_row (Tuple (key.the_row ∷ R ∷ [])) heap.the_row global.ghosts) (vec.C.the_row (Tuple (key.the_row ∷ R' ∷ [])) heap.the_row global.ghosts) (lists.map R.Denot R'.Denot h)
+  few_places : Alike R R' h → Alike (list.the_row (Tuple (key.the_row ∷ R ∷ [])) heap.the_row global.ghosts) (list.the_row (Tuple (key.the_row ∷ R' ∷ [])) heap.the_row global.ghosts) (lists.map R.Denot R'.Denot h)
   few_places a = vec.the_places heap.the_row global.ghosts (Tuple (key.the_row ∷ R ∷ [])) (Tuple (key.the_row ∷ R' ∷ [])) (on_value h) (pair_places a)
 
   variant : (s : Store R.Denot) → (store.enum R').as_values (stores.map R.Denot R'.Denot h s)

@@ -2,7 +2,7 @@ use Rattle.std.proofs.Common.{refl, ap, sym, subst, ◌∙◌}
 use Rattle.std.specs.BTreeMap.{IsOrdered, WritesThrough, get_by}
 use Rattle.pres_tree.specs.Keys.{key_cmp}
 use Rattle.pres_tree.specs.Stores.{seen, IsSound}
-use Rattle.pres_tree.proofs.Places.{writes}
+use Rattle.pres_tree.proofs.Places.{writes, among_result}
 use Rattle.pres_tree.proofs.children.Children.get_mut.Goals as goal
 
 pub invariant_of-self-lent : goal.invariant_of-self-lent
@@ -20,6 +20,7 @@ returns g c =
       record {
         writes_back = tt;
         value = c.get_mut.ensures.value ∙ ap (get_by (key_cmp k)) c.self.view_is;
+        member = among_result (λ v. v.now) k c.args.self.now.entries c.get_mut.result (c.get_mut.ensures.value ∙ ap (get_by (key_cmp k)) c.self.view_is);
         ordered = subst (IsOrdered key_cmp) c.self.view_is c.self.invariant;
       },
     )
