@@ -96,12 +96,7 @@ fn set_at<V>(few: &mut Vec<(Key, V)>, at: usize, value: V) -> V
 }
 
 // Puts an entry at its place in a list, which has room for it alone afterwards.
-fn put_at<V: Drop>(
-    few: &mut Vec<(Key, V)>,
-    at: usize,
-    key: Key,
-    value: V,
-) -> Result<(), AllocError>
+fn put_at<V: Drop>(few: &mut Vec<(Key, V)>, at: usize, key: Key, value: V) -> Result<(), AllocError>
     requires { at ≤ length few.old.items }
     ensures ok { OnOk result (few.new.items ≡ insert few.old.items at (key, value)) }
     ensures err { OnErr result (few.new.items ≡ few.old.items) }
@@ -113,10 +108,7 @@ fn put_at<V: Drop>(
 
 // Moves the entries of a list into a map, the last one first: the entries of both together stay
 // what they are, also where memory is refused.
-fn spill<V: Drop>(
-    few: &mut Vec<(Key, V)>,
-    many: &mut BTreeMap<Key, V>,
-) -> Result<(), AllocError>
+fn spill<V: Drop>(few: &mut Vec<(Key, V)>, many: &mut BTreeMap<Key, V>) -> Result<(), AllocError>
     requires { IsStrictlySortedBy key_cmp (keys_of (few.old.items ++ many.old.entries)) }
     ensures entries { few.new.items ++ many.new.entries ≡ few.old.items ++ many.old.entries }
     ensures room { vec_capacity few.new ≡ vec_capacity few.old }
@@ -377,5 +369,55 @@ impl<'a, V> Iterator for Iter<'a, V> {
             }
             Rest::Many(many) => many.next(),
         }
+    }
+}
+
+#[cfg(test)]
+mod tests {
+    use super::Children;
+    use crate::key::Key;
+    use std::alloc::Global;
+    use std::test::Fail;
+
+    // The numbers from 0 on, so many, each under itself.
+    fn numbered(alloc: Global, count: usize) -> Result<Children<usize>, Fail> {
+        let mut children = Children::new(alloc);
+        for number in 0..count {
+            drop(children.insert(alloc, Key::of_index(alloc, number)?, number)?);
+        }
+        Ok(children)
+    }
+
+    // The keys, a space before each.
+    fn keys_of(alloc: Global, children: &Children<usize>) -> Result<String, Fail> {
+        let mut keys = String::new(alloc);
+        for (key, _) in children.iter() {
+            keys.push_str(" ")?;
+            keys.push_str(key.text())?;
+        }
+        Ok(keys)
+    }
+
+    #[test]
+    fn a_list_becomes_a_map(rt: HostRuntime) -> Result<(), Fail> {
+        let alloc = rt.alloc();
+        for (count, keys) in [
+            (12, " 0 1 10 11 2 3 4 5 6 7 8 9"),
+            (
+                33,
+                " 0 1 10 11 12 13 14 15 16 17 18 19 2 20 21 22 23 24 25 26 27 28 29 3 30 31 32 4 5 6 7 8 9",
+            ),
+        ] {
+            let mut children = numbered(alloc, count)?;
+            assert_eq!(rt; keys_of(alloc, &children)?.as_str(), keys);
+            let key = Key::of_index(alloc, 10)?;
+            if let Some(number) = children.get_mut(&key) {
+                *number = 100;
+            }
+            assert_eq!(rt; children.get(&key).copied(), Some(100));
+            assert_eq!(rt; children.remove(&key), Some(100));
+            assert!(rt; children.get(&key).is_none());
+        }
+        Ok(())
     }
 }

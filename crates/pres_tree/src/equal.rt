@@ -26,10 +26,7 @@ impl<L: Leaf> Nested<L> {
 }
 
 #[cycle(equal)]
-fn equal_children<L: Leaf>(
-    children: &Children<Nested<L>>,
-    others: &Children<Nested<L>>,
-) -> bool
+fn equal_children<L: Leaf>(children: &Children<Nested<L>>, others: &Children<Nested<L>>) -> bool
     ensures { IsTrue result ↔ (children.now.entries ≡ others.now.entries) }
 {
     let mut rest = others.iter();
