@@ -17,3 +17,4 @@ pub mod SameRows
 pub mod Swapped
 pub mod PathOrder
 pub mod Standing
+pub mod Places

@@ -1,10 +1,16 @@
+pub mod Children
 pub mod Falls
 pub mod Faults
 pub mod Keys
 pub mod Layer
+pub mod Lends
 pub mod Paths
 pub mod Printing
 pub mod Reading
+pub mod Rest
 pub mod Rows
 pub mod Scalars
+pub mod StoreLends
+pub mod Stores
 pub mod Writes
+pub mod formers

@@ -2,9 +2,8 @@
 
 ghost use Rattle.std.specs.Prelude.{◌≡◌, ◌↔◌, IsTrue};
 
-use crate::key::Key;
+use crate::children::Children;
 use crate::nested::{Leaf, Nested, Node};
-use std::collections::BTreeMap;
 
 impl<L: Leaf> Nested<L> {
     /// Whether both hold the same leaves at the same places. It takes no memory.
@@ -27,10 +26,7 @@ impl<L: Leaf> Nested<L> {
 }
 
 #[cycle(equal)]
-fn equal_children<L: Leaf>(
-    children: &BTreeMap<Key, Nested<L>>,
-    others: &BTreeMap<Key, Nested<L>>,
-) -> bool
+fn equal_children<L: Leaf>(children: &Children<Nested<L>>, others: &Children<Nested<L>>) -> bool
     ensures { IsTrue result ↔ (children.now.entries ≡ others.now.entries) }
 {
     let mut rest = others.iter();

@@ -4,6 +4,7 @@
 //! holds one, in path order. Null is the empty list.
 #![tactic(auto)]
 
+mod children;
 mod equal;
 mod fault;
 mod key;

@@ -5,17 +5,17 @@ ghost use Rattle.std.specs.BTreeMap.{IsOrdered};
 ghost use Rattle.pres_tree.specs.declared.fault.TreeFault.TheVariants.{Memory};
 ghost use Rattle.pres_tree.specs.Keys.{key_cmp};
 ghost use Rattle.pres_tree.specs.Paths.{path_cmp, sorted_by};
-ghost use Rattle.pres_tree.specs.Layer.{Children, child_rows, deepest_of};
+ghost use Rattle.pres_tree.specs.Layer.{Children as AreChildren, child_rows, deepest_of};
 ghost use Rattle.pres_tree.specs.Rows.{IsValue, Fits, is_null, leaf_at, value_at, depth_of, with_leaves, children_with, rows_in};
 ghost use Rattle.pres_tree.specs.Writes.{Undoes, write, after};
 
+use crate::children::Children;
 use crate::fault::TreeFault;
 use crate::key::Key;
 use crate::path::Path;
 use crate::read::Form;
 use serde_json::Value;
 use std::alloc::{AllocError, Global};
-use std::collections::BTreeMap;
 use std::marker::Model;
 use std::mem::replace;
 
@@ -61,7 +61,7 @@ pub struct Nested<L> {
 pub(crate) enum Node<L> {
     Empty,
     Leaf(L),
-    Object(BTreeMap<Key, Nested<L>>),
+    Object(Children<Nested<L>>),
 }
 
 impl<L> Model for Nested<L> {
@@ -159,7 +159,7 @@ impl<L> Nested<L> {
 
 // The most keys to a leaf, from the root above these children.
 #[cycle(depth)]
-fn deepest<L>(children: &BTreeMap<Key, Nested<L>>) -> usize
+fn deepest<L>(children: &Children<Nested<L>>) -> usize
     ensures { result ≡ deepest_of children.now.entries }
 {
     let mut deepest = 0;
@@ -181,8 +181,8 @@ fn first(keys: &[Key], count: usize) -> &[Key]
 
 impl<L: Drop> Nested<L> {
     // The value with these children.
-    pub(crate) fn of_children(children: BTreeMap<Key, Nested<L>>) -> Nested<L>
-        requires some { Children children.entries }
+    pub(crate) fn of_children(children: Children<Nested<L>>) -> Nested<L>
+        requires some { AreChildren children.entries }
         requires order { IsOrdered key_cmp children }
         requires value { IsValue (sorted_by path_cmp (child_rows children.entries)) }
         ensures { result ≡ sorted_by path_cmp (child_rows children.entries) }
@@ -298,8 +298,8 @@ impl<L: Drop> Nested<L> {
             None => Ok(value),
             Some((key, rest)) => {
                 let child = Nested::branch(alloc, rest, value)?;
-                let mut children = BTreeMap::new(alloc);
-                drop(children.insert(key.copy(alloc)?, child)?);
+                let mut children = Children::new(alloc);
+                drop(children.insert(alloc, key.copy(alloc)?, child)?);
                 Ok(Nested {
                     node: Node::Object(children),
                 })
@@ -336,7 +336,7 @@ impl<L: Drop> Nested<L> {
                 return Ok((depth + 1, old));
             }
             let child = Nested::branch(alloc, rest, value)?;
-            drop(children.insert(key.copy(alloc)?, child)?);
+            drop(children.insert(alloc, key.copy(alloc)?, child)?);
             return Ok((1, Nested::empty()));
         }
         let branch = Nested::branch(alloc, keys, value)?;
@@ -436,17 +436,17 @@ impl<L> Nested<L> {
 #[cycle(changed)]
 fn changed_children<L, M: Drop, C: Change<L, M>>(
     alloc: Global,
-    children: &BTreeMap<Key, Nested<L>>,
+    children: &Children<Nested<L>>,
     how: &C,
-) -> Result<BTreeMap<Key, Nested<M>>, AllocError>
+) -> Result<Children<Nested<M>>, AllocError>
     ensures entries { IfOk result (λ m.
         m.entries ≡ children_with (C.makes how.now) children.now.entries) }
     ensures ordered { IfOk result (λ m. IsOrdered key_cmp m) }
 {
-    let mut changed = BTreeMap::new(alloc);
+    let mut changed = Children::new(alloc);
     for (key, child) in children.iter() {
         let name = key.copy(alloc)?;
-        drop(changed.insert(name, child.changed(alloc, how)?)?);
+        drop(changed.insert(alloc, name, child.changed(alloc, how)?)?);
     }
     Ok(changed)
 }

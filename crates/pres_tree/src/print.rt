@@ -4,11 +4,10 @@ ghost use Rattle.std.specs.Prelude.{◌≡◌, IfOk};
 ghost use Rattle.serde_json.specs.View.{view, members_view};
 ghost use Rattle.pres_tree.specs.Printing.{json_of, members_of, ReadsBack, MembersReadBack};
 
-use crate::key::Key;
+use crate::children::Children;
 use crate::nested::{Leaf, Nested, Node};
 use serde_json::{Map, Value};
 use std::alloc::{AllocError, Global};
-use std::collections::BTreeMap;
 
 impl<L: Leaf> Nested<L> {
     /// The JSON value: null, the leaf, or the object of the children. Read again, it is the
@@ -29,7 +28,7 @@ impl<L: Leaf> Nested<L> {
 #[cycle(print)]
 fn printed<L: Leaf>(
     alloc: Global,
-    children: &BTreeMap<Key, Nested<L>>,
+    children: &Children<Nested<L>>,
 ) -> Result<Map<String, Value>, AllocError>
     ensures json { IfOk result (λ made.
         members_view made.entries ≡ members_of L.printing children.now.entries) }

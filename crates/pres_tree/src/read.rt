@@ -7,13 +7,13 @@ ghost use Rattle.pres_tree.specs.Paths.{max_depth, path_cmp, sorted_by};
 ghost use Rattle.pres_tree.specs.Rows.{Fits};
 ghost use Rattle.pres_tree.specs.Reading.{levels_below, rows_of, fault_of, items_rows, items_fault, members_rows, members_fault, first_of, fault_in, Shallow};
 
+use crate::children::Children;
 use crate::fault::TreeFault;
 use crate::key::Key;
 use crate::nested::{Leaf, Nested};
 use crate::path::{MAX_DEPTH, Path};
 use serde_json::{Map, Value};
 use std::alloc::Global;
-use std::collections::BTreeMap;
 
 // The places on the way from the root to the deepest leaf.
 const LEVELS: usize = MAX_DEPTH + 1;
@@ -132,14 +132,14 @@ fn read_items<L: Drop, F: Form<L>>(
         ⊎ (fault_in (items_fault F.reading left 0 (items_view items.now.items)) ≡ Some e)) }
     ensures shallow { IfOk result (λ t. Shallow (left + 1) t) }
 {
-    let mut children = BTreeMap::new(alloc);
+    let mut children = Children::new(alloc);
     let mut first = None;
     let mut index: usize = 0;
     for item in items {
         let key = Key::of_index(alloc, index)?;
         match read_at::<L, F>(alloc, item, left) {
             Ok(child) => if !child.is_empty() {
-                drop(children.insert(key, child)?);
+                drop(children.insert(alloc, key, child)?);
             },
             Err(fault) => match fault {
                 TreeFault::Memory => return Err(fault),
@@ -178,12 +178,12 @@ fn read_members<L: Drop, F: Form<L>>(
         ⊎ (members_fault F.reading left (members_view members.now.entries) ≡ Some e)) }
     ensures shallow { IfOk result (λ t. Shallow (left + 1) t) }
 {
-    let mut children = BTreeMap::new(alloc);
+    let mut children = Children::new(alloc);
     for (name, member) in members.iter() {
         let key = Key::parse(alloc, name.as_str())?;
         let child = read_at::<L, F>(alloc, member, left)?;
         if !child.is_empty() {
-            drop(children.insert(key, child)?);
+            drop(children.insert(alloc, key, child)?);
         }
     }
     Ok(Nested::of_children(children))
