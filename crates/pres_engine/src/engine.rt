@@ -2,6 +2,7 @@
 
 ghost use Rattle.std.specs.Prelude.{◌≡◌, ⊤, Some, true, IfOk, IfErr, OnErr, is_some, option_copied};
 ghost use Rattle.pres_log.specs.Logs.{Log, number, entries};
+ghost use Rattle.pres_server.specs.LegalLog.{IsLegal};
 ghost use Rattle.pres_server.specs.Replays.{made_from};
 ghost use Rattle.pres_server.specs.Streams.{answers};
 ghost use Rattle.pres_server.specs.Turns.{state_after};
@@ -76,6 +77,7 @@ impl<K: Keeper + Drop> Engine<K> {
     fn carry_out(&mut self, busy: Busy) -> Result<Items<Down>, EngineFault>
         requires kept { K.works self.old.keeper → K.keeps self.old.keeper busy.state.log }
         requires counted { self.old.number ≡ number busy.state.log }
+        requires legal { IsLegal busy.state.log }
         ensures done { IfOk result (λ outs.
             (self.new.server ≡ Some (state_after busy.state busy.moment busy.made))
             × (outs ≡ answers (entries busy.state.log) busy.made)) }
@@ -139,6 +141,7 @@ impl<K: Keeper + Drop> Engine<K> {
     /// before.
     pub fn number(&self) -> u64
         ensures number { result ≡ self.now.number }
+        ensures legal { Runs (λ s. IsLegal s.log) self.now.server }
         ensures counted { Runs (λ s. self.now.number ≡ number s.log) self.now.server }
     {
         self.number

@@ -2,6 +2,7 @@
 
 use pres_saved::SavedFault;
 use pres_server::Fault;
+use std::alloc::AllocError;
 use thiserror::Error;
 
 /// Why an engine refuses.
@@ -21,4 +22,15 @@ pub enum EngineFault {
     /// be made again from the keeper.
     #[error("down")]
     Down,
+}
+
+impl From<AllocError> for EngineFault {
+    ghost use Rattle.std.specs.Prelude.{◌≡◌};
+    ghost use Rattle.pres_engine.specs.declared.fault.EngineFault.TheVariants.{Memory};
+
+    ghost from_gives = { λ _ e. e ≡ Memory };
+
+    fn from(_refused: AllocError) -> EngineFault {
+        EngineFault::Memory
+    }
 }

@@ -1,5 +1,5 @@
 -- What a session is told of a log.
-use Rattle.std.specs.Prelude.{◌≡◌, Bool, true, false, IsTrue, List, [], ◌∷◌, ◌++◌, filter, if◌then◌else◌, Option, Some, None, ℕ}
+use Rattle.std.specs.Prelude.{◌≡◌, ◌&&◌, Bool, true, false, IsTrue, List, [], ◌∷◌, ◌++◌, filter, if◌then◌else◌, Option, Some, None, ℕ}
 use Rattle.std.specs.List.{list_any, before_first}
 use mathlib.Core.List.{IsPrefix}
 use Rattle.pres_ids.specs.declared.id.SessionId.{SessionId}
@@ -49,8 +49,7 @@ is_gone _ = false
 
 -- the message tells s that it is gone
 abbrev pub is_gone_for : SessionId → Down → Bool
-is_gone_for s (down.Gone t r z why) = same_session s t
-is_gone_for s _ = false
+is_gone_for s m = is_gone m && names s (session_for m)
 
 abbrev pub IsWelcome : SessionId → Down → Type 0
 IsWelcome s m = (z : ℕ) × (ops : ℕ) × (m ≡ down.Welcome s z ops)

@@ -1,7 +1,8 @@
 -- When clients were heard of last: the list that is defined is the one that the places of the clients give.
-use Rattle.std.proofs.Common.{refl, sym, ◌∙◌, ap, subst, ◌≡◌, ℕ, max, List, [], ◌∷◌, map, Bool, true, false, not, cond, ◌&&◌, Option, Some, None, T, IsSome, is_some}
+use Rattle.std.proofs.Common.{refl, sym, ◌∙◌, ap, subst, ◌≡◌, ℕ, max, List, [], ◌∷◌, map, Bool, true, false, not, cond, ◌&&◌, Option, Some, None, T, IsSome, is_some, unwrap_or, IfSome, IfNone}
 use Rattle.std.specs.List.{AllByRecursion}
-use Rattle.std.specs.Option.{option_map}
+use Rattle.std.specs.Borrow.{Bor}
+use Rattle.std.specs.Option.{option_map, option_copied}
 use Rattle.std.specs.Map.{lookup, keys_of}
 use Rattle.std.specs.BTreeMap.{get, is_at, IsOrdered, Updates}
 use Rattle.std.specs.List.Sorted.{IsStrictlySortedBy}
@@ -16,14 +17,15 @@ use Rattle.pres_retry.specs.Tables.{rows_of}
 use Rattle.pres_log.specs.declared.entry.Entry.{Entry}
 use Rattle.pres_log.specs.declared.entry.Entry.TheVariants as entry
 use Rattle.pres_server.specs.declared.index.Index.{Index}
-use Rattle.pres_server.specs.Sessions.{session_of}
-use Rattle.pres_server.specs.Heard.{Heard, heard_last, heard_since, heard_again, heard_after, heard_after_all}
+use Rattle.pres_server.specs.Sessions.{session_of, has_open}
+use Rattle.pres_server.specs.Heard.{Heard, heard_last, heard_since, heard_again, heard_after, heard_after_all, first_client}
 use Rattle.pres_server.specs.Parts.{plan_after}
 use Rattle.pres_write.specs.Basics.{BasicWrite}
 use Rattle.pres_fan.specs.Listeners.{IsListeners, paths_of, touched}
 use Rattle.pres_server.specs.Places.{Session, moment_at, live_after, answered, heard_at, sent_to, sent_one}
 use Rattle.pres_server.specs.Pushes.{Reached, Standing, after_push, after_pushes}
 use Rattle.pres_server.specs.Index.{session_at, gone_at, part_at, sent_at, heard_in, Carries, Steps, Tells, Hears, Indexed}
+use Rattle.pres_server.proofs.Readers.{has_open_is}
 use Rattle.pres_server.proofs.Since.{client_same, client_itself, client_sym}
 use Rattle.pres_server.proofs.AfterEntry.{clients_total, clients_apart, same_by_cmp}
 use Rattle.pres_server.proofs.Taken.{live_new, part_in}
@@ -230,3 +232,26 @@ indexed_still es k m old new h ix = record {
   held = subst IsListeners (sym h.listeners) ix.held;
   tree = h.tree ∙ ix.tree;
 }
+
+-- ---- the first client that has a session open
+
+first_heard : (heard : Heard) (c : ClientId) → first_client heard ≡ Some c → is_some (heard_last heard c) ≡ true
+first_heard [] c h = absurd (cc h)
+first_heard (e ∷ heard) c h =
+    let is : e.0 ≡ c = ap (λ o. unwrap_or o c) h in
+    ap (λ b. is_some (cond b (Some e.1) (find client_cmp c heard))) (same_by_cmp c e.0 ∙ ap (same_client c) is ∙ client_itself c)
+
+none_heard : (heard : Heard) (c : ClientId) → first_client heard ≡ None → is_some (heard_last heard c) ≡ false
+none_heard [] c h = refl
+none_heard (e ∷ heard) c h = absurd (cc h)
+
+has_heard : (es : List Entry) (index : Index) (c : ClientId) → Indexed es index → is_some (heard_last (heard_in index) c) ≡ has_open c es
+has_heard es index c ix = ap is_some (heard_tells index c) ∙ has_open_is es index c ix
+
+pub first_tells : (es : List Entry) (index : Index) (r : Option (Bor ClientId)) → Indexed es index → option_copied r ≡ first_client (heard_in index) → IfSome r (λ c. has_open c.now es ≡ true)
+first_tells es index None ix h = tt
+first_tells es index (Some c) ix h = sym (has_heard es index c.now ix) ∙ first_heard (heard_in index) c.now (sym h)
+
+pub first_none : (es : List Entry) (index : Index) (r : Option (Bor ClientId)) → Indexed es index → option_copied r ≡ first_client (heard_in index) → IfNone r ((c : ClientId) → has_open c es ≡ false)
+first_none es index None ix h = λ c. sym (has_heard es index c ix) ∙ none_heard (heard_in index) c (sym h)
+first_none es index (Some c) ix h = tt

@@ -58,6 +58,11 @@ heard_of moment (Some s) heard = heard_again s.client moment heard
 abbrev pub lease : ℕ
 lease = 60000
 
+-- the first client, in byte order, that has a session open
+abbrev pub first_client : Heard → Option ClientId
+first_client [] = None
+first_client (h ∷ more) = Some h.0
+
 -- the first client, in byte order, that was last heard of more than that before the moment
 abbrev pub late_client : ℕ → Heard → Option ClientId
 late_client moment [] = None

@@ -4,7 +4,7 @@ ghost use Rattle.std.specs.Prelude.{◌≡◌, ◌+◌, nat_lt, [], map, IfSome,
 ghost use Rattle.std.specs.BTreeMap.{get, Updates, IsOrdered};
 ghost use Rattle.pres_ids.specs.Ids.{client_cmp, stamp_of};
 ghost use Rattle.pres_server.specs.Places.{began, next_number, last_stamp, open_count, MayOpen, MayLeave, MayLeaveAt, AreDueAt, HasRoom, MaySend, sent_one, answered, answered_at, live_after, heard_at, heard_only, heard_of_all};
-ghost use Rattle.pres_server.specs.Heard.{lease, late_client};
+ghost use Rattle.pres_server.specs.Heard.{lease, first_client, late_client};
 ghost use Rattle.pres_log.specs.declared.entry.Entry.TheVariants as entry;
 
 use crate::reopen::Reopen;
@@ -310,6 +310,14 @@ impl Places {
             }
         }
         None
+    }
+
+    /// The first client, in byte order, that has a session open.
+    pub(crate) fn first(&self) -> Option<&ClientId>
+        ensures { option_copied result ≡ first_client (heard_of_all self.now) }
+    {
+        let (client, _) = self.live.iter().next()?;
+        Some(client)
     }
 
     /// The client's open session.

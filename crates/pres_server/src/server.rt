@@ -1,9 +1,10 @@
 //! The server.
 
-ghost use Rattle.std.specs.Prelude.{◌≡◌, ◌↔◌, ◌++◌, ◌∷◌, [], IsTrue, IfOk, IfErr, MatchOption, Some, None, false, is_some, if◌then◌else◌};
+ghost use Rattle.std.specs.Prelude.{◌≡◌, ◌↔◌, ◌++◌, ◌∷◌, [], IsTrue, IfOk, IfErr, IfSome, IfNone, MatchOption, Some, None, true, false, is_some, if◌then◌else◌};
 ghost use Rattle.pres_tree.specs.Rows.{is_null, value_at};
 ghost use Rattle.pres_log.specs.Logs.{number, entries, tree};
 ghost use Rattle.pres_log.specs.declared.fault.Fault.TheVariants.{Busy as OutOfMemory};
+ghost use Rattle.pres_ids.specs.Ids.{ClientId};
 ghost use Rattle.pres_server.specs.Sessions.{is_open, count, has_open};
 ghost use Rattle.pres_server.specs.Heard.{heard_last, heard_again, blank};
 ghost use Rattle.pres_server.specs.Outcomes.{rows_for};
@@ -150,6 +151,15 @@ impl Server {
         ensures open { is_some result ≡ has_open client.now (entries self.now.log) }
     {
         self.index.heard(client)
+    }
+
+    /// The first client, in byte order, that has a session open.
+    pub fn first_open(&self) -> Option<&ClientId>
+        ensures open { IfSome result (λ c. has_open c.now (entries self.now.log) ≡ true) }
+        ensures none { IfNone result
+            ((c : ClientId) → has_open c (entries self.now.log) ≡ false) }
+    {
+        self.index.places.first()
     }
 
     // The client was heard of at the moment, where a session of it is open.
