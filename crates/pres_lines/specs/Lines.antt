@@ -1,6 +1,6 @@
 -- What is known of each session's ring, by session.
 use Rattle.std.specs.Prelude.{◌≡◌, ◌&&◌, ℕ, Bool, true, not, if◌then◌else◌, List, [], ◌∷◌, filter, length, Option, Some, None, is_some, unwrap_or}
-use Rattle.std.specs.Option.{option_map}
+use Rattle.std.specs.Option.{option_map, option_or}
 use Rattle.std.specs.FinMap.Entries.{find}
 use Rattle.pres_ids.specs.declared.id.SessionId.{SessionId}
 use Rattle.pres_ids.specs.declared.id.Why.{Why}
@@ -55,10 +55,7 @@ first_slow (e ∷ lines) = if is_slow e.1 then Some e.0 else first_slow lines
 -- the first session in order whose line is marked, and why it is to end
 abbrev pub first_marked : Lines → Option (SessionId × Why)
 first_marked [] = None
-first_marked (e ∷ lines) = by_mark e.1.mark where
-  by_mark : Option Why → Option (SessionId × Why)
-  by_mark None = first_marked lines
-  by_mark (Some w) = Some (e.0, w)
+first_marked (e ∷ lines) = option_or (option_map (λ w. (e.0, w)) e.1.mark) (first_marked lines)
 
 -- how many lines have no mark
 abbrev pub unmarked : Lines → ℕ

@@ -1,5 +1,5 @@
 -- What lines are put of the answers of batches.
-use Rattle.std.specs.Prelude.{◌≡◌, ◌⊎◌, ◌≤◌, ◌+◌, ◌&&◌, Bool, List, ◌++◌, length, if◌then◌else◌, Option, Some, None, IfSome}
+use Rattle.std.specs.Prelude.{◌≡◌, ◌⊎◌, ◌≤◌, ◌+◌, ◌&&◌, Bool, true, false, List, ◌++◌, length, Option, Some, None, IfSome}
 use Rattle.std.specs.List.{list_any}
 use Rattle.pres_ids.specs.declared.id.SessionId.{SessionId}
 use Rattle.pres_wire.specs.declared.down.Down.{Down}
@@ -24,10 +24,15 @@ SentAfter (Some sent) ms after = (after ≡ Some (sent ++ ms)) ⊎ (after ≡ No
 abbrev pub IsPut : Line → List Down → Option Line → Type 0
 IsPut l ms after = (new : Line) × (after ≡ Some new) × (new.mark ≡ l.mark) × SentAfter l.sent ms new.sent
 
--- a line that is told it is gone leaves, and each other one is put what is for it
+-- a line that is told it is gone leaves, and each other one is put these messages
+abbrev pub LeavesOrIsPut : Bool → Line → List Down → Option Line → Type 0
+LeavesOrIsPut true l ms after = after ≡ None
+LeavesOrIsPut false l ms after = IsPut l ms after
+
+-- what becomes of the line of s, none where there is none, once these messages were put on their lines
 abbrev pub LineAfter : SessionId → List Down → Option Line → Option Line → Type 0
 LineAfter s ms None after = after ≡ None
-LineAfter s ms (Some l) after = if list_any (is_gone_for s) ms then after ≡ None else IsPut l (those_for s ms) after
+LineAfter s ms (Some l) after = LeavesOrIsPut (list_any (is_gone_for s) ms) l (those_for s ms) after
 
 -- a line gives up nothing where so many were put at most
 abbrev pub LineFits : SessionId → List Down → Option Line → Option Line → Type 0

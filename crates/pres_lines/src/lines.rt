@@ -1,6 +1,6 @@
 //! The feeds of the sessions' rings, by session.
 
-ghost use Rattle.std.specs.Prelude.{◌≡◌, ◌≤◌, ◌<◌, [], true, not, is_some, IfSome, IfNone, IfOk, OnOk, OnErr, IsSomeAnd, Some, None, option_map};
+ghost use Rattle.std.specs.Prelude.{◌≡◌, ◌≤◌, ◌<◌, ◌∷◌, [], true, false, not, is_some, IfSome, IfNone, IfOk, OnOk, OnErr, IsSomeAnd, Some, None, option_map};
 ghost use Rattle.pres_ids.specs.declared.id.SessionId.{SessionId};
 ghost use Rattle.pres_ids.specs.declared.id.Why.TheVariants.{Slow};
 ghost use Rattle.pres_lines.specs.Lines.{line_at, has_line, fed, is_slow, struck, marked, first_slow, first_marked, unmarked, kept_or_blank, ChangesAt};
