@@ -52,6 +52,11 @@ abbrev pub first_slow : Lines → Option SessionId
 first_slow [] = None
 first_slow (e ∷ lines) = if is_slow e.1 then Some e.0 else first_slow lines
 
+-- the first line that is slow is marked as slow
+abbrev pub mark_first_slow : Lines → Lines
+mark_first_slow [] = []
+mark_first_slow (e ∷ lines) = if is_slow e.1 then (e.0, marked why.Slow e.1) ∷ lines else e ∷ mark_first_slow lines
+
 -- the first session in order whose line is marked, and why it is to end
 abbrev pub first_marked : Lines → Option (SessionId × Why)
 first_marked [] = None

@@ -1,8 +1,9 @@
 -- How a line is kept: at a place, which has the session's feed.
 use Rattle.std.specs.Prelude.{◌≡◌, Option, Some, None, IfSome, List, map}
-use Rattle.std.specs.BTreeMap.{BTreeMap}
+use Rattle.std.specs.BTreeMap.{BTreeMap, get}
 use Rattle.pres_ids.specs.declared.id.SessionId.{SessionId}
 use Rattle.pres_wire.specs.declared.down.Down.{Down}
+use Rattle.pres_fan.specs.Listeners.{session_cmp}
 use Rattle.pres_ring.specs.Ends.{Fed}
 use Rattle.pres_lines.specs.declared.place.Place.{Place}
 use Rattle.pres_lines.specs.Lines.{Line, Lines}
@@ -22,3 +23,7 @@ lines_of places = map (λ e. (e.0, line_of e.1)) places
 -- the feed is the session's
 abbrev pub IsOwn : SessionId → Place → Type 0
 IsOwn s p = IfSome p.feed (λ feed. feed.session ≡ s)
+
+-- each feed is that of the session at whose place it stands
+abbrev pub AreOwn : BTreeMap SessionId Place → Type 0
+AreOwn places = (s : SessionId) → IfSome (get session_cmp places s) (IsOwn s)

@@ -1,9 +1,13 @@
 //! The feeds of the sessions' rings, by session.
 
 ghost use Rattle.std.specs.Prelude.{◌≡◌, ◌≤◌, ◌<◌, ◌∷◌, [], true, false, not, is_some, IfSome, IfNone, IfOk, OnOk, OnErr, IsSomeAnd, Some, None, option_map};
+ghost use Rattle.std.specs.List.Sorted.{IsStrictlySortedBy};
+ghost use Rattle.std.specs.Map.{keys_of};
 ghost use Rattle.pres_ids.specs.declared.id.SessionId.{SessionId};
 ghost use Rattle.pres_ids.specs.declared.id.Why.TheVariants.{Slow};
-ghost use Rattle.pres_lines.specs.Lines.{line_at, has_line, fed, is_slow, struck, marked, first_slow, first_marked, unmarked, kept_or_blank, ChangesAt};
+ghost use Rattle.pres_fan.specs.Listeners.{session_cmp};
+ghost use Rattle.pres_ring.specs.Told.{is_gone};
+ghost use Rattle.pres_lines.specs.Lines.{line_at, has_line, fed, is_slow, struck, marked, first_slow, first_marked, mark_first_slow, unmarked, kept_or_blank, ChangesAt};
 ghost use Rattle.pres_lines.specs.Steps.{IsToldWith, LineAfter, LineFits};
 
 use crate::place::Place;
@@ -23,19 +27,14 @@ pub struct Lines {
 }
 
 impl Model for Lines {
-    ghost use Rattle.std.specs.Prelude.{All};
-    ghost use Rattle.std.specs.List.Sorted.{IsStrictlySortedBy};
-    ghost use Rattle.std.specs.Map.{keys_of};
-    ghost use Rattle.pres_fan.specs.Listeners.{session_cmp};
     ghost use Rattle.pres_lines.specs.Lines.{Lines};
-    ghost use Rattle.pres_lines.specs.Places.{lines_of, IsOwn};
+    ghost use Rattle.pres_lines.specs.Places.{lines_of, AreOwn};
 
     ghost Value = { Lines };
 
     ghost view = { λ l. lines_of l.by_session.entries };
 
-    ghost invariant = { λ l. IsStrictlySortedBy session_cmp (keys_of l.by_session.entries)
-        × All (λ e. IsOwn e.0 e.1) l.by_session.entries };
+    ghost invariant = { λ l. AreOwn l.by_session };
 }
 
 impl Lines {
@@ -91,8 +90,9 @@ impl Lines {
         place.attach(feed);
     }
 
-    // Puts one message on the line of its session, which leaves where it is told that it is gone.
-    fn send(&mut self, message: Down)
+    // Puts the message, which tells the session that it is gone, on its line, which leaves.
+    fn part(&mut self, message: Down)
+        requires gone { is_gone message ≡ true }
         requires told { (s : SessionId) → IsToldWith s (message ∷ []) (line_at s self.old) }
         ensures sent { (s : SessionId)
             → LineAfter s (message ∷ []) (line_at s self.old) (line_at s self.new) }
@@ -104,15 +104,48 @@ impl Lines {
             drop(message);
             return;
         };
-        if matches!(message, Down::Gone { .. }) {
-            if let Some(mut place) = self.by_session.remove(session) {
-                place.put(message);
-                drop(place);
-            }
+        let Some(mut place) = self.by_session.remove(session) else {
+            drop(message);
             return;
-        }
-        if let Some(place) = self.by_session.get_mut(session) {
-            place.put(message);
+        };
+        place.put(message);
+        drop(place);
+    }
+
+    // Puts the message, which tells no session that it is gone, on the line of its session.
+    fn put(&mut self, message: Down)
+        requires stays { is_gone message ≡ false }
+        requires told { (s : SessionId) → IsToldWith s (message ∷ []) (line_at s self.old) }
+        ensures sent { (s : SessionId)
+            → LineAfter s (message ∷ []) (line_at s self.old) (line_at s self.new) }
+        ensures fits { (s : SessionId)
+            → LineFits s (message ∷ []) (line_at s self.old) (line_at s self.new) }
+        ensures fewer { unmarked self.new ≤ unmarked self.old }
+    {
+        let Some(session) = message.session() else {
+            drop(message);
+            return;
+        };
+        let Some(place) = self.by_session.get_mut(session) else {
+            drop(message);
+            return;
+        };
+        place.put(message);
+    }
+
+    // Puts one message on the line of its session, which leaves where it is told that it is gone.
+    fn send(&mut self, message: Down)
+        requires told { (s : SessionId) → IsToldWith s (message ∷ []) (line_at s self.old) }
+        ensures sent { (s : SessionId)
+            → LineAfter s (message ∷ []) (line_at s self.old) (line_at s self.new) }
+        ensures fits { (s : SessionId)
+            → LineFits s (message ∷ []) (line_at s self.old) (line_at s self.new) }
+        ensures fewer { unmarked self.new ≤ unmarked self.old }
+    {
+        if is_gone(&message) {
+            self.part(message);
+        } else {
+            self.put(message);
         }
     }
 
@@ -147,13 +180,39 @@ impl Lines {
         ensures none_slow { IfNone result
             ((s : SessionId) → IfSome (line_at s self.old) (λ l. is_slow l ≡ false)) }
     {
-        for (session, place) in self.by_session.iter_mut() {
+        let found = self.first_slow(alloc);
+        if found.is_some() {
+            self.mark_first_slow();
+        }
+        found
+    }
+
+    // The first session in order whose line is slow.
+    fn first_slow(&self, alloc: Global) -> Option<Result<SessionId, AllocError>>
+        ensures found { is_some result ≡ is_some (first_slow self.now) }
+        ensures session { IfSome result (λ r. IfOk r (λ s. first_slow self.now ≡ Some s)) }
+    {
+        for (session, place) in self.by_session.iter() {
             if place.is_slow() {
-                place.mark = Some(Why::Slow);
                 return Some(session.copy(alloc));
             }
         }
         None
+    }
+
+    // Marks the first line that is slow, where there is one.
+    fn mark_first_slow(&mut self)
+        ensures marked { self.new ≡ mark_first_slow self.old }
+        ensures ordered { IsStrictlySortedBy session_cmp (keys_of self.old) }
+    {
+        let mut is_due = true;
+        self.by_session.retain(|_session, place| {
+            if is_due && place.is_slow() {
+                place.mark = Some(Why::Slow);
+                is_due = false;
+            }
+            true
+        });
     }
 
     /// The first session in order that is marked, and why it is to end.
@@ -179,10 +238,18 @@ impl Lines {
         ensures line { ChangesAt session.now (option_map (struck why)) self.old self.new }
         ensures fewer { unmarked self.new ≤ unmarked self.old }
     {
-        if let Some(place) = self.by_session.get_mut(session) {
-            place.strike(why);
-        }
+        let Some(place) = self.by_session.get_mut(session) else {
+            return;
+        };
+        place.strike(why);
     }
+}
+
+// Whether the message tells its session that it is gone.
+fn is_gone(message: &Down) -> bool
+    ensures { result ≡ is_gone message.now }
+{
+    matches!(message, Down::Gone { .. })
 }
 
 // Copies the session of a marked line.
