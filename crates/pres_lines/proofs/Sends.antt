@@ -41,7 +41,7 @@ passed_fits s m None n = tt
 passed_fits s m (Some l) n = by l.sent refl where
   by : (o : Option (List Down)) → l.sent ≡ o → IfSome o (λ sent. length sent + length (those_for s (m ∷ [])) ≤ 256 → l.sent ≡ Some (sent ++ those_for s (m ∷ [])))
   by None e = tt
-  by (Some xs) e h = e ∙ ap Some (sym (append-nil xs) ∙ ap (λ ys. xs ++ ys) (sym (none_for s m n)))
+  by (Some xs) e = λ h. e ∙ ap Some (sym (append-nil xs) ∙ ap (λ ys. xs ++ ys) (sym (none_for s m n)))
 
 -- the last message for it
 left : (s : SessionId) (m : Down) (line : Option Line) → is_gone m ≡ true → names s (session_for m) ≡ true → LineAfter s (m ∷ []) line None
@@ -53,7 +53,7 @@ left_fits s ms None = tt
 left_fits s ms (Some l) = by l.sent where
   by : (o : Option (List Down)) → IfSome o (λ sent. length sent + length (those_for s ms) ≤ 256 → IfSome None (λ (new : Line). new.sent ≡ Some (sent ++ those_for s ms)))
   by None = tt
-  by (Some xs) h = tt
+  by (Some xs) = λ h. tt
 
 -- a message for it
 put_on : (s : SessionId) (m : Down) (l new : Line) → is_gone m ≡ false → names s (session_for m) ≡ true → new.mark ≡ l.mark → Puts l.sent m new.sent → LineAfter s (m ∷ []) (Some l) (Some new)
@@ -71,7 +71,7 @@ put_fits : (s : SessionId) (m : Down) (l new : Line) → names s (session_for m)
 put_fits s m l new n f = by l.sent f where
   by : (o : Option (List Down)) → Fits 256 o m new.sent → IfSome o (λ sent. length sent + length (those_for s (m ∷ [])) ≤ 256 → new.sent ≡ Some (sent ++ those_for s (m ∷ [])))
   by None q = tt
-  by (Some xs) q h = q (one_below (length xs) (subst (λ ms. length xs + length ms ≤ 256) (one_for s m n) h)) ∙ ap (λ ms. Some (xs ++ ms)) (sym (one_for s m n))
+  by (Some xs) q = λ h. q (one_below (length xs) (subst (λ ms. length xs + length ms ≤ 256) (one_for s m n) h)) ∙ ap (λ ms. Some (xs ++ ms)) (sym (one_for s m n))
 
 -- ---- one message, over all lines
 
@@ -89,6 +89,11 @@ unsent_fits s m (Some t) lines e h = by (same_session s t) refl where
   by : (b : Bool) → same_session s t ≡ b → LineFits s (m ∷ []) (line_at s lines) (line_at s lines)
   by true k = subst (λ line. LineFits s (m ∷ []) line line) (sym (ap (λ u. line_at u lines) (session_same s t k) ∙ h t refl)) tt
   by false k = passed_fits s m (line_at s lines) (ap (names s) e ∙ k)
+
+pub none_at : (t : SessionId) (lines : Lines) → line_at t lines ≡ None → (u : SessionId) → Some t ≡ Some u → line_at u lines ≡ None
+none_at t lines none u e = ap (λ v. line_at v lines) (sym (same t u e)) ∙ none where
+  same : (a b : SessionId) → Some a ≡ Some b → a ≡ b
+  same a b k = cc k
 
 module _ (t : SessionId) (m : Down) (old new : Lines) (is : session_for m ≡ Some t) where
   -- the line of its session leaves
@@ -199,7 +204,7 @@ fits_none s None = tt
 fits_none s (Some l) = by l.sent refl where
   by : (o : Option (List Down)) → l.sent ≡ o → IfSome o (λ sent. length sent + 0 ≤ 256 → l.sent ≡ Some (sent ++ []))
   by None e = tt
-  by (Some xs) e h = e ∙ ap Some (sym (append-nil xs))
+  by (Some xs) e = λ h. e ∙ ap Some (sym (append-nil xs))
 
 first_part : (x a b n : ℕ) → n ≡ a + b → x + n ≤ 256 → x + a ≤ 256
 first_part x a b n e h = omega (arith, e, h)
@@ -229,4 +234,4 @@ fits_more s m ms (Some l) mid after p f g = by l.sent f where
   by : (o : Option (List Down)) → IfSome o (λ sent. length sent + length one ≤ 256 → IfSome mid (λ k. k.sent ≡ Some (sent ++ one)))
       → IfSome o (λ sent. length sent + length (those_for s (m ∷ ms)) ≤ 256 → IfSome after (λ k. k.sent ≡ Some (sent ++ those_for s (m ∷ ms))))
   by None k = tt
-  by (Some xs) k h = end xs mid h (k (first_part (length xs) (length one) (length rest) (length (those_for s (m ∷ ms))) counted h)) p g
+  by (Some xs) k = λ h. end xs mid h (k (first_part (length xs) (length one) (length rest) (length (those_for s (m ∷ ms))) counted h)) p g
