@@ -1,6 +1,6 @@
 -- The first line that is slow, and the first that is marked.
 use Rattle.std.proofs.Common.{refl, sym, ◌∙◌, ap, subst, ◌≡◌, ◌≤◌, ◌<◌, ℕ, suc, Bool, true, false, not, cond, ◌&&◌, true≢false, Option, Some, None, is_some, is_eq, option_map, IfSome, List, [], ◌∷◌, filter, length, arith}
-use Rattle.std.specs.Prelude.{IsSomeAnd}
+use Rattle.std.specs.Prelude.{IsSomeAnd, IfNone}
 use Rattle.std.specs.Option.{option_or}
 use Rattle.std.specs.Map.{keys_of, lookup}
 use Rattle.std.specs.Map.Calls.{RetainsPairs}
@@ -221,3 +221,13 @@ from_retain T due says f (e ∷ es) kept h =
   by : (m : Bool) → (e.0, cond m (record e.1 { mark = Some Slow }) e.1) ∷ marked_places (cond m false (due f)) es ≡ cond m ((e.0, record e.1 { mark = Some Slow }) ∷ marked_places false es) (e ∷ marked_places (due f) es)
   by true = refl
   by false = refl
+
+-- ---- what holds in any case
+
+pub if_some : {X : Type 0} (o : Option X) (P : Type 0) → P → IfSome o (λ x. P)
+if_some None P p = tt
+if_some (Some x) P p = p
+
+pub if_none : {X : Type 0} (o : Option X) (P : Type 0) → P → IfNone o P
+if_none None P p = p
+if_none (Some x) P p = tt

@@ -206,7 +206,7 @@ impl Lines {
         ensures ordered { IsStrictlySortedBy session_cmp (keys_of self.old) }
     {
         let mut is_due = true;
-        self.by_session.retain(|_session, place| {
+        self.by_session.retain(move |_session, place| {
             if is_due && place.is_slow() {
                 place.mark = Some(Why::Slow);
                 is_due = false;

@@ -7,7 +7,7 @@ use Rattle.pres_lines.proofs.lines.Lines.deliver.Given as goal
 
 abbrev pub invariant-loop-message : goal.invariant-loop-message
 invariant-loop-message l =
-    ((s : SessionId) → IsToldWith s l.message-iterator (line_at s l.self))
-    × ((s : SessionId) (after : Option Line) → LineAfter s l.message-iterator (line_at s l.self) after → LineAfter s l.answers (line_at s l.initial.self) after)
-    × ((s : SessionId) (after : Option Line) → LineAfter s l.message-iterator (line_at s l.self) after → LineFits s l.message-iterator (line_at s l.self) after → LineFits s l.answers (line_at s l.initial.self) after)
-    × (unmarked l.self ≤ unmarked l.initial.self)
+    ((s : SessionId) → IsToldWith s l.message-iterator.rest.items (line_at s l.self))
+    × ((s : SessionId) (after : Option Line) → LineAfter s l.message-iterator.rest.items (line_at s l.self) after → LineAfter s l.fn.answers (line_at s l.fn.self) after)
+    × ((s : SessionId) (after : Option Line) → LineAfter s l.message-iterator.rest.items (line_at s l.self) after → LineFits s l.message-iterator.rest.items (line_at s l.self) after → LineFits s l.fn.answers (line_at s l.fn.self) after)
+    × (unmarked l.self ≤ unmarked l.fn.self)
