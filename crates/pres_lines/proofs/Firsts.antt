@@ -1,5 +1,5 @@
 -- The first line that is slow, and the first that is marked.
-use Rattle.std.proofs.Common.{refl, sym, ◌∙◌, ap, subst, ◌≡◌, ◌≤◌, ◌<◌, ℕ, suc, Bool, true, false, not, cond, ◌&&◌, true≢false, Option, Some, None, is_some, is_eq, option_map, IfSome, List, [], ◌∷◌, filter, length, arith}
+use Rattle.std.proofs.Common.{refl, sym, ◌∙◌, ap, subst, ◌≡◌, ◌<◌, ℕ, suc, Bool, true, false, not, cond, ◌&&◌, true≢false, Option, Some, None, is_some, is_eq, option_map, IfSome, List, [], ◌∷◌, filter, length, arith}
 use Rattle.std.specs.Prelude.{IsSomeAnd, IfNone}
 use Rattle.std.specs.Option.{option_or}
 use Rattle.std.specs.Map.{keys_of, lookup}
@@ -7,7 +7,6 @@ use Rattle.std.specs.Map.Calls.{RetainsPairs}
 use Rattle.std.specs.BTreeMap.{is_at}
 use Rattle.std.specs.Cmp.{eq_by_cmp_equiv}
 use Rattle.std.specs.List.Sorted.{IsStrictlySortedBy}
-use Rattle.std.specs.Ordering.{eq_by_cmp}
 use Rattle.std.proofs.lemmas.Map.{lookup-none}
 use Rattle.std.proofs.lemmas.Map.Entries.{none_past_head}
 use Rattle.std.proofs.lemmas.Map.Keys.{sorted_tail, IsDistinct-from_sorted}
@@ -205,7 +204,7 @@ places_own b (e ∷ es) s h = by (b && is_slow (line_of e.1)) (places_own false 
 
 pub from_retain : {F : Type 0} (T : F → SessionId → Place → Bool → Place → F → Type 0) (due : F → Bool)
     → ((f : F) (k : SessionId) (v : Place) (b : Bool) (w : Place) (g : F) → T f k v b w g
-        → (b ≡ true) × (w ≡ cond (due f && is_slow (line_of v)) (record v { mark = Some Slow }) v) × (due g ≡ cond (due f && is_slow (line_of v)) false (due f)))
+    → (b ≡ true) × (w ≡ cond (due f && is_slow (line_of v)) (record v { mark = Some Slow }) v) × (due g ≡ cond (due f && is_slow (line_of v)) false (due f)))
     → (f : F) (es kept : List (SessionId × Place)) → RetainsPairs T f es kept → kept ≡ marked_places (due f) es
 from_retain T due says f [] kept h = h
 from_retain T due says f (e ∷ es) kept h =
@@ -218,9 +217,9 @@ from_retain T due says f (e ∷ es) kept h =
     ∙ ap (λ l. (e.0, w) ∷ l) (from_retain T due says g es rest h.5 ∙ ap (λ d. marked_places d es) told.2)
     ∙ ap (λ p. (e.0, p) ∷ marked_places (cond (due f && is_slow (line_of e.1)) false (due f)) es) told.1
     ∙ by (due f && is_slow (line_of e.1)) where
-  by : (m : Bool) → (e.0, cond m (record e.1 { mark = Some Slow }) e.1) ∷ marked_places (cond m false (due f)) es ≡ cond m ((e.0, record e.1 { mark = Some Slow }) ∷ marked_places false es) (e ∷ marked_places (due f) es)
-  by true = refl
-  by false = refl
+      by : (m : Bool) → (e.0, cond m (record e.1 { mark = Some Slow }) e.1) ∷ marked_places (cond m false (due f)) es ≡ cond m ((e.0, record e.1 { mark = Some Slow }) ∷ marked_places false es) (e ∷ marked_places (due f) es)
+      by true = refl
+      by false = refl
 
 -- ---- what holds in any case
 

@@ -1,5 +1,5 @@
 -- How many lines have no mark.
-use Rattle.std.proofs.Common.{refl, sym, ◌∙◌, ap, subst, ◌≡◌, ◌≤◌, ◌<◌, ℕ, suc, Bool, true, false, not, cond, true≢false, Option, Some, None, is_some, List, [], ◌∷◌, filter, length, arith}
+use Rattle.std.proofs.Common.{refl, sym, ◌∙◌, ap, ◌≡◌, ◌≤◌, ℕ, suc, Bool, true, false, not, cond, true≢false, Some, is_some, List, [], ◌∷◌, filter, length, arith}
 use Rattle.std.specs.Map.{lookup, remove_entry, set_value}
 use Rattle.pres_ids.specs.declared.id.SessionId.{SessionId}
 use Rattle.pres_lines.specs.declared.place.Place.{Place}

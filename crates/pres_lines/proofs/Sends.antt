@@ -1,7 +1,6 @@
 -- What becomes of a line when messages are put on their lines.
-use Rattle.std.proofs.Common.{refl, sym, ◌∙◌, ap, subst, ◌≡◌, ◌≤◌, ◌<◌, ◌+◌, ℕ, Bool, true, false, cond, ◌||◌, ◌&&◌, true≢false, inl, inr, ◌⊎◌, Option, Some, None, is_some, IfSome, List, [], ◌∷◌, ◌++◌, append-nil, append_assoc, length-append, length, filter, arith}
+use Rattle.std.proofs.Common.{refl, sym, ◌∙◌, ap, subst, ◌≡◌, ◌≤◌, ◌<◌, ◌+◌, ℕ, Bool, true, false, cond, ◌||◌, ◌&&◌, inl, inr, ◌⊎◌, Option, Some, None, IfSome, List, [], ◌∷◌, ◌++◌, append-nil, append_assoc, length-append, length, arith}
 use Rattle.std.specs.List.{list_any}
-use mathlib.Core.List.{IsPrefix}
 use Rattle.pres_ids.specs.declared.id.SessionId.{SessionId}
 use Rattle.pres_ids.specs.Ids.{same_session}
 use Rattle.pres_fan.proofs.Orders.{session_same, session_itself}
@@ -60,9 +59,9 @@ put_on : (s : SessionId) (m : Down) (l new : Line) → is_gone m ≡ false → n
 put_on s m l new g n k p =
     subst (λ b. LeavesOrIsPut b l (those_for s (m ∷ [])) (Some new)) (sym (ap (λ b. (b && names s (session_for m)) || false) g))
     (subst (λ ms. IsPut l ms (Some new)) (sym (one_for s m n)) (new, refl, k, by l.sent p)) where
-  by : (o : Option (List Down)) → Puts o m new.sent → SentAfter o (m ∷ []) new.sent
-  by None q = q
-  by (Some xs) q = q
+      by : (o : Option (List Down)) → Puts o m new.sent → SentAfter o (m ∷ []) new.sent
+      by None q = q
+      by (Some xs) q = q
 
 one_below : (a : ℕ) → a + 1 ≤ 256 → a < 256
 one_below a h = omega (arith, h)
@@ -187,13 +186,13 @@ line_more s m ms None mid after p q = subst (λ o. LineAfter s ms o after) p q
 line_more s m ms (Some l) mid after p q =
     subst (λ b. LeavesOrIsPut b l (those_for s (m ∷ ms)) after) (sym (or_or (is_gone_for s m) (list_any (is_gone_for s) ms)))
     (by (list_any (is_gone_for s) (m ∷ [])) p) where
-  then : (k : Line) → k.mark ≡ l.mark → SentAfter l.sent (those_for s (m ∷ [])) k.sent → (b : Bool) → LeavesOrIsPut b k (those_for s ms) after → LeavesOrIsPut b l (those_for s (m ∷ ms)) after
-  then k e f true r = r
-  then k e f false r = (r.0, r.1, r.2 ∙ e, subst (λ zs. SentAfter l.sent zs r.0.sent) (sym (those_more s m ms)) (sent_more l.sent k.sent r.0.sent (those_for s (m ∷ [])) (those_for s ms) f r.3))
+      then : (k : Line) → k.mark ≡ l.mark → SentAfter l.sent (those_for s (m ∷ [])) k.sent → (b : Bool) → LeavesOrIsPut b k (those_for s ms) after → LeavesOrIsPut b l (those_for s (m ∷ ms)) after
+      then k e f true r = r
+      then k e f false r = (r.0, r.1, r.2 ∙ e, subst (λ zs. SentAfter l.sent zs r.0.sent) (sym (those_more s m ms)) (sent_more l.sent k.sent r.0.sent (those_for s (m ∷ [])) (those_for s ms) f r.3))
 
-  by : (a : Bool) → LeavesOrIsPut a l (those_for s (m ∷ [])) mid → LeavesOrIsPut (a || list_any (is_gone_for s) ms) l (those_for s (m ∷ ms)) after
-  by true r = subst (λ o. LineAfter s ms o after) r q
-  by false r = then r.0 r.2 r.3 (list_any (is_gone_for s) ms) (subst (λ o. LineAfter s ms o after) r.1 q)
+      by : (a : Bool) → LeavesOrIsPut a l (those_for s (m ∷ [])) mid → LeavesOrIsPut (a || list_any (is_gone_for s) ms) l (those_for s (m ∷ ms)) after
+      by true r = subst (λ o. LineAfter s ms o after) r q
+      by false r = then r.0 r.2 r.3 (list_any (is_gone_for s) ms) (subst (λ o. LineAfter s ms o after) r.1 q)
 
 pub line_none : (s : SessionId) (line : Option Line) → LineAfter s [] line line
 line_none s None = refl
@@ -229,7 +228,7 @@ fits_more s m ms (Some l) mid after p f g = by l.sent f where
   end xs (Some k) h e q r =
       subst (λ zs. IfSome after (λ j. j.sent ≡ Some zs)) (append_assoc xs one rest ∙ ap (λ zs. xs ++ zs) (sym (those_more s m ms)))
       (subst (λ o. IfSome o (λ sent. length sent + length rest ≤ 256 → IfSome after (λ j. j.sent ≡ Some (sent ++ rest)))) e r
-        (other_part (length xs) (length one) (length rest) (length (those_for s (m ∷ ms))) (length (xs ++ one)) counted (length-append xs one) h))
+      (other_part (length xs) (length one) (length rest) (length (those_for s (m ∷ ms))) (length (xs ++ one)) counted (length-append xs one) h))
 
   by : (o : Option (List Down)) → IfSome o (λ sent. length sent + length one ≤ 256 → IfSome mid (λ k. k.sent ≡ Some (sent ++ one)))
       → IfSome o (λ sent. length sent + length (those_for s (m ∷ ms)) ≤ 256 → IfSome after (λ k. k.sent ≡ Some (sent ++ those_for s (m ∷ ms))))

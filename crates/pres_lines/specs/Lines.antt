@@ -1,5 +1,5 @@
 -- What is known of each session's ring, by session.
-use Rattle.std.specs.Prelude.{◌≡◌, ◌&&◌, ℕ, Bool, true, not, if◌then◌else◌, List, [], ◌∷◌, filter, length, Option, Some, None, is_some, unwrap_or}
+use Rattle.std.specs.Prelude.{◌≡◌, ◌&&◌, ℕ, Bool, not, if◌then◌else◌, List, [], ◌∷◌, filter, length, Option, Some, None, is_some, unwrap_or}
 use Rattle.std.specs.Option.{option_map, option_or}
 use Rattle.std.specs.FinMap.Entries.{find}
 use Rattle.pres_ids.specs.declared.id.SessionId.{SessionId}

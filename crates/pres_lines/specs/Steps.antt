@@ -5,7 +5,7 @@ use Rattle.pres_ids.specs.declared.id.SessionId.{SessionId}
 use Rattle.pres_wire.specs.declared.down.Down.{Down}
 use Rattle.pres_wire.specs.Messages.{session_for}
 use Rattle.pres_ring.specs.Told.{IsToldOf, names, those_for, is_gone}
-use Rattle.pres_lines.specs.Lines.{Line, Lines, line_at}
+use Rattle.pres_lines.specs.Lines.{Line}
 
 -- the message tells s that it is gone
 abbrev pub is_gone_for : SessionId → Down → Bool

@@ -253,11 +253,7 @@ fn is_gone(message: &Down) -> bool
 }
 
 // Copies the session of a marked line.
-fn copied(
-    alloc: Global,
-    session: &SessionId,
-    why: Why,
-) -> Result<(SessionId, Why), AllocError>
+fn copied(alloc: Global, session: &SessionId, why: Why) -> Result<(SessionId, Why), AllocError>
     ensures { IfOk result (λ e. e ≡ (session.now, why)) }
 {
     Ok((session.copy(alloc)?, why))

@@ -23,14 +23,15 @@ pub loop-message-preserved : goal.loop-message-preserved
 loop-message-preserved c =
     let m = c.in-Some.message in
     let ms = c.next.new.self.rest.items in
-    let e : c.loop-message.message-iterator.rest.items ≡ m ∷ ms = search rules in
-    (λ s. rest_told s m ms (line_at s c.loop-message.self) (line_at s c.send.new.self) (c.send.ensures.sent s) (subst (λ xs. IsToldWith s xs (line_at s c.loop-message.self)) e (c.loop-message.invariant.0 s)),
-    λ s after p. c.loop-message.invariant.1 s after
-      (subst (λ xs. LineAfter s xs (line_at s c.loop-message.self) after) (sym e) (line_more s m ms (line_at s c.loop-message.self) (line_at s c.send.new.self) after (c.send.ensures.sent s) p)),
-    λ s after p f. c.loop-message.invariant.2 s after
-      (subst (λ xs. LineAfter s xs (line_at s c.loop-message.self) after) (sym e) (line_more s m ms (line_at s c.loop-message.self) (line_at s c.send.new.self) after (c.send.ensures.sent s) p))
-      (subst (λ xs. LineFits s xs (line_at s c.loop-message.self) after) (sym e) (fits_more s m ms (line_at s c.loop-message.self) (line_at s c.send.new.self) after p (c.send.ensures.fits s) f)),
-    at_most (unmarked c.send.new.self) (unmarked c.loop-message.self) (unmarked c.args.self.now) c.send.ensures.fewer c.loop-message.invariant.3)
+    let e : c.loop-message.message-iterator.rest.items ≡ m ∷ ms = search rules in (
+      λ s. rest_told s m ms (line_at s c.loop-message.self) (line_at s c.send.new.self) (c.send.ensures.sent s) (subst (λ xs. IsToldWith s xs (line_at s c.loop-message.self)) e (c.loop-message.invariant.0 s)),
+      λ s after p. c.loop-message.invariant.1 s after
+          (subst (λ xs. LineAfter s xs (line_at s c.loop-message.self) after) (sym e) (line_more s m ms (line_at s c.loop-message.self) (line_at s c.send.new.self) after (c.send.ensures.sent s) p)),
+      λ s after p f. c.loop-message.invariant.2 s after
+          (subst (λ xs. LineAfter s xs (line_at s c.loop-message.self) after) (sym e) (line_more s m ms (line_at s c.loop-message.self) (line_at s c.send.new.self) after (c.send.ensures.sent s) p))
+          (subst (λ xs. LineFits s xs (line_at s c.loop-message.self) after) (sym e) (fits_more s m ms (line_at s c.loop-message.self) (line_at s c.send.new.self) after p (c.send.ensures.fits s) f)),
+      at_most (unmarked c.send.new.self) (unmarked c.loop-message.self) (unmarked c.args.self.now) c.send.ensures.fewer c.loop-message.invariant.3,
+    )
 
 pub returns-clause-delivered : goal.returns-clause-delivered
 returns-clause-delivered c s =

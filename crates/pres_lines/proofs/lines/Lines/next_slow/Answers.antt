@@ -1,4 +1,4 @@
-use Rattle.std.proofs.Common.{◌≡◌, ◌<◌, ◌∙◌, subst, sym, IfSome, option_map}
+use Rattle.std.proofs.Common.{◌<◌, ◌∙◌, subst, sym, IfSome, option_map}
 use Rattle.pres_ids.specs.declared.id.Why.TheVariants.{Slow}
 use Rattle.pres_lines.specs.Lines.{Lines, marked, first_slow, unmarked, ChangesAt}
 use Rattle.pres_lines.proofs.Firsts.{slow_line, slow_marked, slow_fewer, none_slow, if_some, if_none}

@@ -1,4 +1,4 @@
-use Rattle.std.proofs.Common.{◌≡◌, ◌≤◌, ◌∷◌, [], ◌∙◌, ap, subst, sym, refl, Some, None, IfSome, option_map}
+use Rattle.std.proofs.Common.{◌≤◌, ◌∷◌, [], ◌∙◌, ap, subst, sym, refl, None, IfSome, option_map}
 use Rattle.std.specs.BTreeMap.{is_at}
 use Rattle.pres_fan.specs.Listeners.{session_cmp}
 use Rattle.pres_lines.specs.Lines.{line_at, unmarked, ChangesAt}
@@ -30,7 +30,7 @@ put-requires c =
     let at = sym (ap (line_at t) c.self.view_is) ∙ line_at_place t es ∙ ap (option_map line_of) (sym c.in-Some-remove.ensures.value) in
     record {
       told = put_told t c.args.message c.in-Some-remove.place.feed (sym c.in-Some.ensures) (subst (IsToldWith t (c.args.message ∷ [])) at (c.requires.told t))
-        (subst (λ o. IfSome o (IsOwn t)) (sym c.in-Some-remove.ensures.value) (c.self.invariant t));
+          (subst (λ o. IfSome o (IsOwn t)) (sym c.in-Some-remove.ensures.value) (c.self.invariant t));
     }
 
 pub invariant_of-self-2 : goal.invariant_of-self-2

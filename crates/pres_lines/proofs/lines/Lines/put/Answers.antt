@@ -1,4 +1,4 @@
-use Rattle.std.proofs.Common.{◌≡◌, ◌≤◌, ◌∷◌, [], ◌∙◌, ap, subst, sym, refl, not, is_some, Some, None, IfSome, option_map}
+use Rattle.std.proofs.Common.{◌≤◌, ◌∷◌, [], ◌∙◌, ap, subst, sym, refl, not, is_some, Some, IfSome, option_map}
 use Rattle.std.specs.Prelude.{IsSome}
 use Rattle.std.specs.BTreeMap.{BTreeMap, is_at}
 use Rattle.pres_ids.specs.declared.id.SessionId.{SessionId}
@@ -37,7 +37,7 @@ put-requires c =
     let at = sym (ap (line_at t) c.self.view_is) ∙ line_at_place t es ∙ ap (option_map line_of) (sym c.in-Some-get_mut.ensures.value) in
     record {
       told = put_told t c.args.message c.in-Some-get_mut.place.now.feed (sym c.in-Some.ensures) (subst (IsToldWith t (c.args.message ∷ [])) at (c.requires.told t))
-        (subst (λ o. IfSome o (IsOwn t)) (sym c.in-Some-get_mut.ensures.value) (c.self.invariant t));
+          (subst (λ o. IfSome o (IsOwn t)) (sym c.in-Some-get_mut.ensures.value) (c.self.invariant t));
     }
 
 pub invariant_of-self-2 : goal.invariant_of-self-2

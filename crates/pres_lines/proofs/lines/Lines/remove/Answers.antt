@@ -1,4 +1,4 @@
-use Rattle.std.proofs.Common.{ap, subst, sym, ◌≤◌, refl, None}
+use Rattle.std.proofs.Common.{subst, sym, ◌≤◌, refl, None}
 use Rattle.std.specs.BTreeMap.{is_at}
 use Rattle.pres_fan.specs.Listeners.{session_cmp}
 use Rattle.pres_lines.specs.Lines.{unmarked, ChangesAt}

@@ -1,5 +1,5 @@
 use Rattle.std.proofs.Common.{◌≡◌, ◌∙◌, ap, subst, sym, not, false, is_some, Some, IfSome}
-use Rattle.pres_lines.specs.Lines.{Line, line_at, has_line, kept_or_blank, ChangesAt}
+use Rattle.pres_lines.specs.Lines.{line_at, has_line, kept_or_blank, ChangesAt}
 use Rattle.pres_lines.specs.Places.{line_of, lines_of}
 use Rattle.pres_lines.proofs.Changes.{some_line, stays, kept_line, new_line, changes, own_after}
 use Rattle.pres_lines.proofs.lines.Lines.reserve.Goals as goal

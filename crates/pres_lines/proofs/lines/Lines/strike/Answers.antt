@@ -2,7 +2,7 @@ use Rattle.std.proofs.Common.{refl, ◌≡◌, ◌≤◌, ◌∙◌, ap, subst, 
 use Rattle.std.specs.Prelude.{IsSome}
 use Rattle.std.specs.BTreeMap.{is_at}
 use Rattle.pres_fan.specs.Listeners.{session_cmp}
-use Rattle.pres_lines.specs.Lines.{Line, line_at, struck, unmarked, ChangesAt}
+use Rattle.pres_lines.specs.Lines.{Line, struck, unmarked, ChangesAt}
 use Rattle.pres_lines.specs.Places.{line_of, lines_of}
 use Rattle.pres_lines.proofs.Changes.{line_at_place, stays, changes, own_after}
 use Rattle.pres_lines.proofs.Marks.{changed_fewer}
