@@ -223,6 +223,7 @@ impl Lines {
             (λ e. IsSomeAnd (line_at e.0 self.now) (λ l. l.mark ≡ Some e.1)) }
         ensures none { IfNone result
             ((s : SessionId) → IfSome (line_at s self.now) (λ l. l.mark ≡ None)) }
+        ensures ordered { IsStrictlySortedBy session_cmp (keys_of self.now) }
     {
         for (session, place) in self.by_session.iter() {
             if let Some(why) = place.mark {

@@ -12,3 +12,11 @@ returns-in-Some-mark-clause-line c =
 
 pub returns-clause-none : goal.returns-clause-none
 returns-clause-none c = none_marked c.args.self.now (search rules)
+
+pub returns-in-Some-mark-clause-ordered : goal.returns-in-Some-mark-clause-ordered
+returns-in-Some-mark-clause-ordered c =
+    subst (λ lines. IsStrictlySortedBy session_cmp (keys_of lines)) c.self.view_is (lines_in_order c.self.inside.by_session.entries c.iter-session-items.ensures.ordered)
+
+pub returns-clause-ordered : goal.returns-clause-ordered
+returns-clause-ordered c =
+    subst (λ lines. IsStrictlySortedBy session_cmp (keys_of lines)) c.self.view_is (lines_in_order c.self.inside.by_session.entries c.iter-session-items.ensures.ordered)
