@@ -42,7 +42,9 @@ fn slow_lines_are_marked_in_order(rt: HostRuntime) -> Result<(), Fail> {
     assert!(rt; matches!(lines.next_slow(alloc), Some(Ok(found)) if found == alice));
     assert!(rt; lines.next_slow(alloc).is_none());
     lines.strike(&alice, Why::Lost);
-    assert!(rt; matches!(lines.first_marked(alloc), Some(Ok((found, Why::Slow))) if found == alice));
+    assert!(rt;
+        matches!(lines.first_marked(alloc), Some(Ok((found, Why::Slow))) if found == alice)
+    );
     lines.remove(&alice);
     assert!(rt; matches!(lines.first_marked(alloc), Some(Ok((found, Why::Lost))) if found == bob));
     Ok(())
