@@ -7,7 +7,7 @@ use std::alloc::{AllocError, Global};
 use std::test::Fail;
 
 // The session of `["alice",1,1]`.
-fn session(alloc: Global, text: &str) -> Result<SessionId, Fail> {
+pub(crate) fn session(alloc: Global, text: &str) -> Result<SessionId, Fail> {
     let up = Up::decode(
         alloc,
         format!(in alloc; r#"{{"m":"hello","s":{text}}}"#)?.as_str(),
@@ -17,9 +17,9 @@ fn session(alloc: Global, text: &str) -> Result<SessionId, Fail> {
     Ok(session?)
 }
 
-const ALICE: &str = r#"["alice",1,1]"#;
+pub(crate) const ALICE: &str = r#"["alice",1,1]"#;
 
-const BOB: &str = r#"["bob",1,1]"#;
+pub(crate) const BOB: &str = r#"["bob",1,1]"#;
 
 // Alice listens, and Bob writes so often where she listens.
 fn listened(alloc: Global, writes: u32) -> Result<Run, Fail> {

@@ -1,0 +1,4 @@
+pub mod Changes
+pub mod Marks
+pub mod Sends
+pub mod Firsts
