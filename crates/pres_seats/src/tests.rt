@@ -1,0 +1,145 @@
+//! Two seats of one tally, and what a hub's faults are told as.
+
+ghost use Rattle.std.specs.Prelude.{◌≡◌, ◌^◌, IfSome};
+
+use crate::{HubFault, Seat, Tally};
+use pres_engine::EngineFault;
+use pres_server::{ClientId, Count, Number, SessionId, Stamp};
+use std::alloc::Global;
+use std::marker::Brand;
+use std::sync::ledger::{Blank, Ledger};
+use std::test::Fail;
+
+// What a run of two seats came to.
+#[derive(Drop)]
+struct Ended {
+    stamp: Stamp,
+    q: Count,
+    seen: u64,
+    out: u64,
+    made: (u64, u64),
+    refused: (bool, bool),
+    number: u64,
+    accepted: u64,
+    seats_out: u64,
+    total_of_one: Option<u64>,
+    total: Option<u64>,
+    keeper: u64,
+}
+
+// So many more messages of the seat are accepted, and it is told of each.
+fn say<L: Ledger>(tally: &mut Tally<L>, seat: &mut Seat<L>, times: u64) {
+    for _ in 0..times {
+        let accepted = tally.counts().accepted;
+        let Some(q) = seat.q().next() else {
+            return;
+        };
+        if accepted < 1 << 53 {
+            tally.add(seat, Count::up_to(q));
+            seat.see(seat.seen().max(accepted + 1));
+        }
+    }
+}
+
+// Two seats say 3 and 2 messages and leave, the second one with a fault. The one that is told is
+// gathered first.
+fn run<L: Ledger>(blank: Blank, first: SessionId, second: SessionId, is_turned: bool) -> Ended
+    requires name { blank.name ≡ L.name }
+    requires parts { blank.parts ≡ L.parts }
+    requires whole { blank.parts ≡ 2 ^ 53 }
+    ensures { IfSome result.total (λ n. n ≡ result.accepted) }
+{
+    let mut tally = Tally::<L>::open(blank);
+    let mut first = tally.seat(first, 1);
+    let mut second = tally.seat(second, 2);
+    say(&mut tally, &mut first, 3);
+    say(&mut tally, &mut second, 2);
+    let (stamp, q, seen) = (first.session().stamp(), first.q(), first.seen());
+    let first = tally.take(first, None);
+    let out = tally.counts().out;
+    let second = tally.take(second, Some(HubFault::Down));
+    let made = (first.made(), second.made());
+    let refused = (first.fault().is_some(), second.fault().is_some());
+    let mut report = tally.close(7, 100);
+    let (one, other) = if is_turned {
+        (second, first)
+    } else {
+        (first, second)
+    };
+    report.gather(one);
+    let total_of_one = report.total();
+    report.gather(other);
+    Ended {
+        stamp,
+        q,
+        seen,
+        out,
+        made,
+        refused,
+        number: report.number(),
+        accepted: report.accepted(),
+        seats_out: report.seats_out(),
+        total_of_one,
+        total: report.total(),
+        keeper: report.into_keeper(),
+    }
+}
+
+fn session(alloc: Global, client: &str) -> Result<SessionId, Fail> {
+    let stamp = Stamp {
+        incarnation: Number::first(),
+        attempt: Number::first(),
+    };
+    Ok(SessionId::of(ClientId::parse(alloc, client)?, stamp))
+}
+
+// A run of alice and bob.
+fn run_two(alloc: Global, is_turned: bool) -> Result<Ended, Fail> {
+    let first = session(alloc, "alice")?;
+    let second = session(alloc, "bob")?;
+    Ok(run::<Brand>(Blank::new(1 << 53), first, second, is_turned))
+}
+
+#[test]
+fn what_was_accepted_is_what_the_seats_made(rt: HostRuntime) -> Result<(), Fail> {
+    for is_turned in [false, true] {
+        let ended = run_two(rt.alloc(), is_turned)?;
+        assert_eq!(rt; ended.made, (4, 3));
+        assert_eq!(rt; ended.accepted, 7);
+        assert_eq!(rt; ended.total_of_one, None);
+        assert_eq!(rt; ended.total, Some(7));
+    }
+    Ok(())
+}
+
+#[test]
+fn a_seat_is_out_until_it_is_taken(rt: HostRuntime) -> Result<(), Fail> {
+    let ended = run_two(rt.alloc(), false)?;
+    assert_eq!(rt; ended.out, 1);
+    assert_eq!(rt; ended.seats_out, 0);
+    assert_eq!(rt; ended.refused, (false, true));
+    assert_eq!(rt; (ended.number, ended.keeper), (7, 100));
+    Ok(())
+}
+
+#[test]
+fn a_seat_knows_how_far_it_is(rt: HostRuntime) -> Result<(), Fail> {
+    let ended = run_two(rt.alloc(), false)?;
+    assert_eq!(rt; ended.stamp.attempt, Number::first());
+    assert_eq!(rt; ended.q.get(), 3);
+    assert_eq!(rt; ended.seen, 5);
+    Ok(())
+}
+
+#[test]
+fn an_engine_that_is_down_is_a_hub_that_is_down(rt: HostRuntime) -> Result<(), Fail> {
+    let text = format!(in rt.alloc(); "{}", HubFault::from(EngineFault::Down))?;
+    assert_eq!(rt; text.as_str(), "down");
+    let behind = HubFault::Behind { have: 1, seen: 2 };
+    let text = format!(in rt.alloc(); "{behind}")?;
+    assert_eq!(rt;
+        text.as_str(),
+        "the server has 1 entries, and the seat was told of 2"
+    );
+    Ok(())
+}
