@@ -1,6 +1,6 @@
 -- Where a key stands in a list of entries, and what becomes of the list once a value of it was lent.
 use Rattle.std.specs.Prelude.{◌≡◌, ℕ, List, Result, Option}
-use Rattle.std.specs.Borrow.{LendsSo, follows_so, Fml, RattleType, MutBor}
+use Rattle.std.specs.Borrow.{follows_so, Fml, RattleType, MutBor}
 use Rattle.std.specs.Option.{ghost_name_of}
 use Rattle.std.specs.Map.{set_value}
 use Rattle.std.specs.BTreeMap.{is_at}

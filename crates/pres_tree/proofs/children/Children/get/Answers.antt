@@ -1,5 +1,5 @@
 use Rattle.std.proofs.Common.{arith, ap, sym, subst, ◌∙◌}
-use Rattle.std.specs.BTreeMap.{get_by, IsOrdered}
+use Rattle.std.specs.BTreeMap.{get_by}
 use Rattle.pres_tree.specs.Children.{place_of}
 use Rattle.pres_tree.specs.Keys.{key_cmp}
 use Rattle.pres_tree.specs.Stores.{seen, IsSound}

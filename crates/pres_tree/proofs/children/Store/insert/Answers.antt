@@ -1,5 +1,5 @@
-use Rattle.std.proofs.Common.{Some, arith, ap, sym, subst, ◌∙◌}
-use Rattle.std.specs.BTreeMap.{get, insert_entry, Updates, IsOrdered}
+use Rattle.std.proofs.Common.{Some, ap, sym, subst, ◌∙◌}
+use Rattle.std.specs.BTreeMap.{get, insert_entry, Updates}
 use Rattle.pres_tree.specs.Children.{place_of}
 use Rattle.pres_tree.specs.Keys.{key_cmp}
 use Rattle.pres_tree.specs.Stores.{seen, IsSound}
