@@ -7,9 +7,9 @@ use Rattle.pres_fan.proofs.Orders.{session_same, session_itself}
 use Rattle.pres_wire.specs.declared.down.Down.{Down}
 use Rattle.pres_wire.specs.Messages.{session_for}
 use Rattle.pres_ring.specs.Ends.{Fed, Puts, Fits}
-use Rattle.pres_ring.specs.Told.{IsToldOf, names, those_for, is_gone}
+use Rattle.pres_ring.specs.Told.{IsToldOf, names, those_for, is_gone, is_gone_for}
 use Rattle.pres_lines.specs.Lines.{Line, Lines, line_at, ChangesAt}
-use Rattle.pres_lines.specs.Steps.{is_gone_for, IsToldWith, SentAfter, IsPut, LeavesOrIsPut, LineAfter, LineFits}
+use Rattle.pres_lines.specs.Steps.{IsToldWith, SentAfter, IsPut, LeavesOrIsPut, LineAfter, LineFits}
 use Rattle.pres_lines.specs.Places.{sent_on}
 
 -- ---- one message

@@ -1,15 +1,10 @@
 -- What lines are put of the answers of batches.
-use Rattle.std.specs.Prelude.{◌≡◌, ◌⊎◌, ◌≤◌, ◌+◌, ◌&&◌, Bool, true, false, List, ◌++◌, length, Option, Some, None, IfSome}
+use Rattle.std.specs.Prelude.{◌≡◌, ◌⊎◌, ◌≤◌, ◌+◌, Bool, true, false, List, ◌++◌, length, Option, Some, None, IfSome}
 use Rattle.std.specs.List.{list_any}
 use Rattle.pres_ids.specs.declared.id.SessionId.{SessionId}
 use Rattle.pres_wire.specs.declared.down.Down.{Down}
-use Rattle.pres_wire.specs.Messages.{session_for}
-use Rattle.pres_ring.specs.Told.{IsToldOf, names, those_for, is_gone}
+use Rattle.pres_ring.specs.Told.{IsToldOf, those_for, is_gone_for}
 use Rattle.pres_lines.specs.Lines.{Line}
-
--- the message tells s that it is gone
-abbrev pub is_gone_for : SessionId → Down → Bool
-is_gone_for s m = is_gone m && names s (session_for m)
 
 -- with those of the messages that are for s, what was put on its line is told to it
 abbrev pub IsToldWith : SessionId → List Down → Option Line → Type 0
