@@ -1,6 +1,6 @@
 //! A server with its keeper.
 
-ghost use Rattle.std.specs.Prelude.{◌≡◌, ⊤, Some, true, IfOk, IfErr, OnErr, is_some, option_copied};
+ghost use Rattle.std.specs.Prelude.{◌≡◌, ◌≤◌, ⊤, Some, true, IfOk, IfErr, OnErr, is_some, option_copied};
 ghost use Rattle.pres_log.specs.Logs.{Log, number, entries};
 ghost use Rattle.pres_server.specs.LegalLog.{IsLegal};
 ghost use Rattle.pres_server.specs.Replays.{made_from};
@@ -85,6 +85,7 @@ impl<K: Keeper + Drop> Engine<K> {
         ensures gone { K.works self.new.keeper → IfErr result
             (λ e. (e ≡ Gone) → K.keeps self.new.keeper (log_with busy)) }
         ensures stays { OnErr result (self.new.number ≡ self.old.number) }
+        ensures rises { self.old.number ≤ self.new.number }
         ensures worked { K.works self.new.keeper → K.works self.old.keeper }
     {
         match settle(&mut self.keeper, busy) {
@@ -114,6 +115,7 @@ impl<K: Keeper + Drop> Engine<K> {
         ensures gone { K.works self.new.keeper → IfErr result
             (KeepsGone (K.keeps self.new.keeper) self.old.server input now) }
         ensures stays { OnErr result (self.new.number ≡ self.old.number) }
+        ensures rises { self.old.number ≤ self.new.number }
         ensures worked { K.works self.new.keeper → K.works self.old.keeper }
     {
         let Some(server) = self.server.take() else {
@@ -142,6 +144,8 @@ impl<K: Keeper + Drop> Engine<K> {
     pub fn number(&self) -> u64
         ensures number { result ≡ self.now.number }
         ensures legal { Runs (λ s. IsLegal s.log) self.now.server }
+        ensures kept { K.works self.now.keeper
+            → Runs (λ s. K.keeps self.now.keeper s.log) self.now.server }
         ensures counted { Runs (λ s. self.now.number ≡ number s.log) self.now.server }
     {
         self.number

@@ -1,7 +1,7 @@
 //! Why a hub refuses.
 
 use pres_engine::{EngineFault, SavedFault};
-use pres_server::{Fault, Number};
+use pres_server::Fault;
 use std::alloc::AllocError;
 use thiserror::Error;
 
@@ -26,7 +26,7 @@ pub enum HubFault {
     Behind { have: u64, seen: u64 },
     /// The session is open, and its next message isn't the seat's, whose number this is.
     #[error("the seat's next message is {q}")]
-    Apart { q: Number },
+    Apart { q: u64 },
 }
 
 impl From<EngineFault> for HubFault {

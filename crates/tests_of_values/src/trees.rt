@@ -21,6 +21,7 @@ enum Table {
     Values,
     Nested,
     Writes,
+    Numbers,
     Texts,
 }
 
@@ -295,6 +296,24 @@ fn left_answer(alloc: Global, writes: &str) -> Result<String, Fail> {
     said
 }
 
+// The numbers from 0 on, so many, each at itself, but 100 at 10 and nothing at 11.
+fn numbers(alloc: Global, count: usize) -> Result<Tree, Fail> {
+    let mut tree = Tree::empty();
+    for number in 0..count {
+        let text = number.to_string(alloc)?;
+        put(alloc, &mut tree, text.as_str(), text.as_str())?;
+    }
+    put(alloc, &mut tree, "/10", "100")?;
+    put(alloc, &mut tree, "/11", "null")?;
+    Ok(tree)
+}
+
+// Their JSON, a copy's.
+fn numbers_answer(alloc: Global, case: &str) -> Result<String, Fail> {
+    let tree = numbers(alloc, case.parse()?)?;
+    copied_value(alloc, tree)
+}
+
 fn answer(alloc: Global, table: Table, case: &str) -> Result<String, Fail> {
     match table {
         Table::Keys => key_answer(alloc, case),
@@ -305,6 +324,7 @@ fn answer(alloc: Global, table: Table, case: &str) -> Result<String, Fail> {
         Table::Values => value_answer(alloc, case),
         Table::Nested => nested_answer(alloc, case),
         Table::Writes => left_answer(alloc, case),
+        Table::Numbers => numbers_answer(alloc, case),
         Table::Texts => texts_answer(alloc, case),
     }
 }
@@ -379,6 +399,17 @@ const VALUES: &str = r#"[1,null,2] => {"0":1,"2":2}
 const WRITES: &str = r#"/a 1;/a/b null => {"a":1} 1 object 1 1
 /a 1;/a/b null;/a/b true => {"a":{"b":true}} 2 object object {"b":true}
 /a 1;/a/b null;/a/b true;/a/b {} => null 0 nothing nothing null"#;
+
+const NUMBERS: &str =
+    r#"12 => {"0":0,"1":1,"10":100,"2":2,"3":3,"4":4,"5":5,"6":6,"7":7,"8":8,"9":9}
+33 => {"0":0,"1":1,"10":100,"12":12,"13":13,"14":14,"15":15,"16":16,"17":17,"18":18,"19":19,"2":2,"20":20,"21":21,"22":22,"23":23,"24":24,"25":25,"26":26,"27":27,"28":28,"29":29,"3":3,"30":30,"31":31,"32":32,"4":4,"5":5,"6":6,"7":7,"8":8,"9":9}"#;
+
+#[test]
+fn small_and_large_objects(rt: HostRuntime) -> Result<(), Fail> {
+    let wrong = wrong_in(rt.alloc(), Table::Numbers, NUMBERS)?;
+    assert_eq!(rt; wrong.as_str(), "");
+    Ok(())
+}
 
 #[test]
 fn texts_are_compared_by_their_bytes(rt: HostRuntime) -> Result<(), Fail> {

@@ -1,0 +1,4 @@
+pub mod Answered
+pub mod Joined
+pub mod Ended
+pub mod Closed

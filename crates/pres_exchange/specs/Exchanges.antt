@@ -1,0 +1,109 @@
+-- A server's engine with the lines of its sessions.
+use Rattle.std.specs.Prelude.{◌≡◌, ◌⊎◌, ℕ, Bool, true, false, List, [], ◌∷◌, ◌++◌, Option, Some, None, IfSome}
+use Rattle.pres_ids.specs.declared.id.SessionId.{SessionId}
+use Rattle.pres_wire.specs.declared.up.Up.TheVariants as up
+use Rattle.pres_wire.specs.declared.down.Down.{Down}
+use Rattle.pres_log.specs.declared.entry.Entry.{Entry}
+use Rattle.pres_log.specs.Logs.{entries}
+use Rattle.pres_server.specs.declared.input.Input.{Input}
+use Rattle.pres_server.specs.declared.input.Input.TheVariants as input
+use Rattle.pres_server.specs.Heard.{State}
+use Rattle.pres_server.specs.Sessions.{is_open}
+use Rattle.pres_server.specs.Streams.{answers}
+use Rattle.pres_server.specs.Turns.{turn, makes, moment_of, state_after}
+use Rattle.pres_ids.specs.Ids.{ClientId, same_session}
+use Rattle.pres_ring.specs.Ends.{Taking}
+use Rattle.pres_ring.specs.Told.{told, those_for, IsToldOf, IsWelcome}
+use Rattle.pres_lines.specs.Lines.{Line, Lines, line_at, is_slow}
+use Rattle.pres_lines.specs.Steps.{LineAfter}
+use Rattle.pres_engine.specs.Engines.{Run}
+use Rattle.pres_engine.specs.Turned.{IsTurned, IsNotTurned}
+use Rattle.pres_engine.specs.declared.fault.EngineFault.{EngineFault}
+use Rattle.pres_engine.specs.declared.fault.EngineFault.TheVariants as refusal
+
+-- the engine, and what was put for each session
+pub record Exchanged (A : Type 0) : Type 0 where
+  pub run : Run A
+  pub lines : Lines
+
+-- a line is an open session's, and what was put on it is what the session was told
+abbrev pub Tells : List Entry → SessionId → Option Line → Type 0
+Tells es s None = is_open s es ≡ false
+Tells es s (Some l) = (is_open s es ≡ true) × IfSome l.sent (λ sent. sent ≡ told s es)
+
+-- the lines are those of the open sessions
+abbrev pub AreTold : List Entry → Lines → Type 0
+AreTold es lines = (s : SessionId) → Tells es s (line_at s lines)
+
+-- each line whose messages were given up is marked
+abbrev pub NoneSlow : Lines → Type 0
+NoneSlow lines = (s : SessionId) → IfSome (line_at s lines) (λ l. is_slow l ≡ false)
+
+-- it opens no session
+abbrev pub is_hello : Input → Bool
+is_hello (input.Up (up.Hello s)) = true
+is_hello _ = false
+
+-- the turn is done, and its answers are put on the lines
+abbrev pub IsAnswered : Option State → Input → ℕ → Option State → Lines → Lines → Type 0
+IsAnswered old input now new before after = (outs : List Down) × IsTurned old input now new outs × ((s : SessionId) → LineAfter s outs (line_at s before) (line_at s after))
+
+-- ---- a session that is opened
+
+-- of the answers the last alone is for s, and that is all that it is told
+pub record LastIsFor (s : SessionId) (ms : List Down) : Type 0 where
+  pub others : List Down
+  pub last : Down
+  pub parted : ms ≡ others ++ last ∷ []
+  pub welcome : IsWelcome s last
+  pub silent : those_for s others ≡ []
+  pub told : IsToldOf s (last ∷ [])
+
+-- the line of s has the last of these messages, which the outbox gives first, and the other lines were put theirs
+pub record LinesJoined (s : SessionId) (ms : List Down) (before after : Lines) (end : Taking) : Type 0 where
+  pub earlier : List Down
+  pub last : Down
+  pub parted : ms ≡ earlier ++ last ∷ []
+  pub own : line_at s after ≡ Some (record { sent = Some (last ∷ []); mark = None })
+  pub others : (t : SessionId) → same_session t s ≡ false → LineAfter t ms (line_at t before) (line_at t after)
+  pub outbox : end ≡ record { session = s; taken = []; ahead = last ∷ [] }
+
+-- the Hello of s is done, and its answers are put on the lines, behind which s has its own
+pub record IsJoined (s : SessionId) (now : ℕ) (old new : Option State) (before after : Lines) (end : Taking) : Type 0 where
+  pub state : State
+  pub made : List Entry
+  pub ran : old ≡ Some state
+  pub turned : turn state (input.Up (up.Hello s)) now ≡ makes made
+  pub runs : new ≡ Some (state_after state (moment_of state.log now) made)
+  pub lines : LinesJoined s (answers (entries state.log) made) before after end
+
+-- A session isn't opened: memory is refused with the server as it was, or the turn of its Hello isn't done.
+abbrev pub IsNotJoined : SessionId → ℕ → Option State → Option State → EngineFault → Type 0
+IsNotJoined s now old new refusal.Memory = new ≡ old
+IsNotJoined s now old new (refusal.Refused f) = IsNotTurned old (input.Up (up.Hello s)) now new (refusal.Refused f)
+IsNotJoined s now old new (refusal.Keeper f) = IsNotTurned old (input.Up (up.Hello s)) now new (refusal.Keeper f)
+IsNotJoined s now old new refusal.Down = IsNotTurned old (input.Up (up.Hello s)) now new refusal.Down
+
+-- ---- sessions that are slow
+
+-- these sessions are ended as slow, one after the other, and at last the server may have gone down
+abbrev pub EndsSlow : ℕ → List SessionId → Option State → Option State → Type 0
+EndsSlow now [] old new = (new ≡ old) ⊎ (new ≡ None)
+EndsSlow now (t ∷ ts) None new = ⊥
+EndsSlow now (t ∷ ts) (Some s) new = (es : List Entry) × (turn s (input.Slow t) now ≡ makes es) × EndsSlow now ts (Some (state_after s (moment_of s.log now) es)) new
+
+-- so are some
+abbrev pub AreEnded : ℕ → Option State → Option State → Type 0
+AreEnded now old new = (ts : List SessionId) × EndsSlow now ts old new
+
+-- ---- the start
+
+-- an open session of each of these clients is ended at the restart, one after the other
+abbrev pub EndsAtStart : ℕ → List ClientId → Option State → Option State → Type 0
+EndsAtStart now [] old new = new ≡ old
+EndsAtStart now (c ∷ cs) None new = ⊥
+EndsAtStart now (c ∷ cs) (Some s) new = (es : List Entry) × (turn s (input.Restart c) now ≡ makes es) × EndsAtStart now cs (Some (state_after s (moment_of s.log now) es)) new
+
+-- so are those of some
+abbrev pub AreRestarted : ℕ → Option State → Option State → Type 0
+AreRestarted now old new = (cs : List ClientId) × EndsAtStart now cs old new

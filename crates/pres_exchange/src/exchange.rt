@@ -1,0 +1,262 @@
+//! An engine with the lines of its sessions.
+
+ghost use Rattle.std.specs.Prelude.{◌≡◌, ◌≤◌, ◌<◌, ◌++◌, ◌∷◌, [], true, false, not, is_some, Some, None, IfOk, IfErr, IfSome, IfNone, OnOk, OnErr, MatchOption, option_copied, option_map};
+ghost use Rattle.pres_ids.specs.declared.id.SessionId.{SessionId};
+ghost use Rattle.pres_ids.specs.Ids.{same_session};
+ghost use Rattle.pres_log.specs.Logs.{Log, entries, number};
+ghost use Rattle.pres_server.specs.Replays.{made_from};
+ghost use Rattle.pres_server.specs.LegalLog.{IsLegal};
+ghost use Rattle.pres_server.specs.Sessions.{is_open, has_open};
+ghost use Rattle.pres_ring.specs.Told.{IsToldOf};
+ghost use Rattle.pres_lines.specs.Lines.{line_at, has_line, unmarked, first_slow, first_marked, fed, struck, ChangesAt};
+ghost use Rattle.pres_lines.specs.Steps.{IsToldWith, LineAfter};
+ghost use Rattle.pres_engine.specs.Engines.{Runs};
+ghost use Rattle.pres_engine.specs.Turned.{IsNotTurned};
+ghost use Rattle.pres_exchange.specs.Exchanges.{AreTold, is_hello, IsAnswered, IsJoined, IsNotJoined, LastIsFor, LinesJoined, NoneSlow, AreEnded, AreRestarted};
+
+use pres_engine::{Engine, EngineFault, Input, Keeper};
+use pres_lines::Lines;
+use pres_ring::{Opening, Outbox};
+use pres_server::{ClientId, Down, Items, Moment, Server, SessionId, Up, Why};
+use std::alloc::{AllocError, Global};
+use std::marker::Model;
+
+/// An engine, and a line for each open session, on which its answers are put. Contracts see both.
+pub struct Exchange<K: Keeper> {
+    engine: Engine<K>,
+    lines: Lines,
+}
+
+impl<K: Keeper> Model for Exchange<K> {
+    ghost use Rattle.pres_log.specs.Logs.{entries};
+    ghost use Rattle.pres_engine.specs.Engines.{Runs};
+    ghost use Rattle.pres_exchange.specs.Exchanges.{Exchanged, AreTold};
+
+    ghost Value = { Exchanged K };
+
+    ghost view = { λ e. record { run = e.engine; lines = e.lines } };
+
+    ghost invariant = { λ e. Runs (λ s. AreTold (entries s.log) e.lines) e.engine.server };
+}
+
+// Puts the answers of a Hello on the lines: the last one is the Welcome of the session, which is
+// put on its new ring, whose other end this is.
+fn welcome(lines: &mut Lines, opening: Opening, answers: Items<Down>) -> Outbox
+    requires last { LastIsFor opening answers }
+    requires place { has_line opening lines.old ≡ true }
+    requires told { (s : SessionId) → IsToldWith s answers (line_at s lines.old) }
+    ensures lines { LinesJoined opening answers lines.old lines.new result }
+{
+    let mut answers = answers.into_vec();
+    let Some(message) = answers.pop() else {
+        unreachable!()
+    };
+    lines.deliver(Items::of(answers));
+    let (feed, outbox) = opening.welcome(message);
+    lines.attach(feed);
+    outbox
+}
+
+// The first client, in byte order, that has a session open.
+fn first_open<K: Keeper + Drop>(
+    alloc: Global,
+    engine: &Engine<K>,
+) -> Result<Option<ClientId>, EngineFault>
+    ensures runs { IfOk result (λ found. is_some engine.now.server ≡ true) }
+    ensures open { IfOk result (λ found. IfSome found (λ client.
+        Runs (λ s. has_open client (entries s.log) ≡ true) engine.now.server)) }
+    ensures none { IfOk result (λ found. IfNone found
+        (Runs (λ s. (t : SessionId) → is_open t (entries s.log) ≡ false) engine.now.server)) }
+    ensures counted { Runs (λ s. engine.now.number ≡ number s.log) engine.now.server }
+{
+    // it ensures what the number counts
+    let _ = engine.number();
+    let Some(server) = engine.server() else {
+        return Err(EngineFault::Down);
+    };
+    let Some(client) = server.first_open() else {
+        return Ok(None);
+    };
+    Ok(Some(client.copy(alloc)?))
+}
+
+// Ends each session that is open.
+fn end_all<K: Keeper + Drop>(
+    engine: &mut Engine<K>,
+    alloc: Global,
+    now: Moment,
+) -> Result<(), EngineFault>
+    ensures runs { OnOk result (is_some engine.new.server ≡ true) }
+    ensures closed { OnOk result
+        (Runs (λ s. (t : SessionId) → is_open t (entries s.log) ≡ false) engine.new.server) }
+    ensures ended { OnOk result (AreRestarted now engine.old.server engine.new.server) }
+    ensures worked { K.works engine.new.keeper → K.works engine.old.keeper }
+{
+    while let Some(client) = first_open(alloc, engine)? {
+        drop(engine.turn(Input::Restart(client), now)?);
+        // it ensures that the log is legal
+        let _ = engine.number();
+    }
+    Ok(())
+}
+
+impl<K: Keeper + Drop> Exchange<K> {
+    // An engine none of whose sessions is open.
+    fn of(alloc: Global, engine: Engine<K>) -> Exchange<K>
+        requires { Runs (λ s. (t : SessionId) → is_open t (entries s.log) ≡ false) engine.server }
+        ensures { result ≡ record { run = engine; lines = [] } }
+    {
+        Exchange {
+            engine,
+            lines: Lines::new(alloc),
+        }
+    }
+
+    /// Starts over what the keeper holds, whose open sessions are ended first, in byte order of
+    /// their clients. Refused as the keeper refuses its server; or where an end is refused: then
+    /// some may have been ended.
+    pub fn start(alloc: Global, keeper: K, now: Moment) -> Result<Exchange<K>, (EngineFault, K)>
+        requires ready { K.ready keeper }
+        ensures runs { IfOk result (λ e. is_some e.run.server ≡ true) }
+        ensures closed { IfOk result (λ e.
+            Runs (λ s. (t : SessionId) → is_open t (entries s.log) ≡ false) e.run.server) }
+        ensures ended { IfOk result (λ e. (log : Log) → K.works e.run.keeper → K.keeps keeper log
+            → AreRestarted now (Some (made_from log)) e.run.server) }
+        ensures lines { IfOk result (λ e. e.lines ≡ []) }
+        ensures ready { IfErr result (λ e. K.ready e.1) }
+    {
+        let mut engine = Engine::open(keeper)?;
+        if let Err(fault) = end_all(&mut engine, alloc, now) {
+            return Err((fault, engine.into_keeper()));
+        }
+        Ok(Exchange::of(alloc, engine))
+    }
+
+    /// The server, where the engine isn't down.
+    pub fn server(&self) -> Option<&Server>
+        ensures { option_copied result ≡ self.now.run.server }
+    {
+        self.engine.server()
+    }
+
+    /// The number of the last entry that was answered.
+    pub fn number(&self) -> u64
+        ensures number { result ≡ self.now.run.number }
+        ensures legal { Runs (λ s. IsLegal s.log) self.now.run.server }
+        ensures kept { K.works self.now.run.keeper
+            → Runs (λ s. K.keeps self.now.run.keeper s.log) self.now.run.server }
+        ensures told { Runs (λ s. AreTold (entries s.log) self.now.lines) self.now.run.server }
+        ensures counted { Runs (λ s. self.now.run.number ≡ number s.log) self.now.run.server }
+    {
+        self.engine.number()
+    }
+
+    /// Does what the input asks for, and puts its answers on the lines.
+    pub fn turn(&mut self, input: Input, now: Moment) -> Result<(), EngineFault>
+        requires { is_hello input ≡ false }
+        ensures answered { IfOk result (λ _. IsAnswered self.old.run.server input now
+            self.new.run.server self.old.lines self.new.lines) }
+        ensures refused { IfErr result
+            (IsNotTurned self.old.run.server input now self.new.run.server) }
+        ensures lines { OnErr result (self.new.lines ≡ self.old.lines) }
+        ensures stays { OnErr result (self.new.run.number ≡ self.old.run.number) }
+        ensures rises { self.old.run.number ≤ self.new.run.number }
+        ensures fewer { unmarked self.new.lines ≤ unmarked self.old.lines }
+        ensures worked { K.works self.new.run.keeper → K.works self.old.run.keeper }
+    {
+        let answers = self.engine.turn(input, now)?;
+        // it ensures that the log is legal
+        let _ = self.engine.number();
+        self.lines.deliver(answers);
+        Ok(())
+    }
+
+    /// Opens the session: the end from which its messages are taken.
+    pub fn join(
+        &mut self,
+        alloc: Global,
+        session: &SessionId,
+        now: Moment,
+    ) -> Result<Outbox, EngineFault>
+        ensures joined { IfOk result (λ outbox. IsJoined session.now now self.old.run.server
+            self.new.run.server self.old.lines self.new.lines outbox) }
+        ensures refused { IfErr result
+            (IsNotJoined session.now now self.old.run.server self.new.run.server) }
+        ensures lines { OnErr result
+            ((t : SessionId) → line_at t self.new.lines ≡ line_at t self.old.lines) }
+        ensures stays { OnErr result (self.new.run.number ≡ self.old.run.number) }
+        ensures rises { self.old.run.number ≤ self.new.run.number }
+        ensures worked { K.works self.new.run.keeper → K.works self.old.run.keeper }
+    {
+        let opening = pres_ring::open(alloc, session)?;
+        let hello = Up::Hello {
+            session: session.copy(alloc)?,
+        };
+        let is_new = self.lines.reserve(alloc, session)?;
+        let turned = self.engine.turn(Input::Up(hello), now);
+        // it ensures that the log is legal
+        let _ = self.engine.number();
+        match turned {
+            Ok(answers) => Ok(welcome(&mut self.lines, opening, answers)),
+            Err(fault) => {
+                if is_new {
+                    self.lines.remove(session);
+                }
+                Err(fault)
+            }
+        }
+    }
+
+    // The first session in order that didn't take its messages in time, which is marked.
+    fn next_slow(&mut self, alloc: Global) -> Option<Result<SessionId, AllocError>>
+        ensures run { self.new.run ≡ self.old.run }
+        ensures fewer { IfSome result (λ r. unmarked self.new.lines < unmarked self.old.lines) }
+        ensures none { IfNone result (self.new ≡ self.old) }
+        ensures none_slow { IfNone result (NoneSlow self.new.lines) }
+    {
+        self.lines.next_slow(alloc)
+    }
+
+    /// Ends each session that didn't take its messages in time, or, where that is refused, leaves
+    /// it marked.
+    pub fn end_slow(&mut self, alloc: Global, now: Moment)
+        ensures ended { AreEnded now self.old.run.server self.new.run.server }
+        ensures rises { self.old.run.number ≤ self.new.run.number }
+        ensures none_slow { NoneSlow self.new.lines }
+    {
+        while let Some(next) = self.next_slow(alloc) {
+            if let Ok(session) = next {
+                let _ = self.turn(Input::Slow(session), now);
+            }
+        }
+    }
+
+    /// The first session in order that is marked, and why it is to end.
+    pub fn first_marked(&self, alloc: Global) -> Option<Result<(SessionId, Why), AllocError>>
+        ensures found { is_some result ≡ is_some (first_marked self.now.lines) }
+        ensures session { IfSome result (λ r.
+            IfOk r (λ e. first_marked self.now.lines ≡ Some e)) }
+        ensures open { IfSome (first_marked self.now.lines) (λ e.
+            Runs (λ s. is_open e.0 (entries s.log) ≡ true) self.now.run.server) }
+    {
+        self.lines.first_marked(alloc)
+    }
+
+    /// Nothing more is put for the session, which is marked, unless it is already.
+    pub fn strike(&mut self, session: &SessionId, why: Why)
+        ensures run { self.new.run ≡ self.old.run }
+        ensures line { ChangesAt session.now (option_map (struck why)) self.old.lines self.new.lines }
+    {
+        self.lines.strike(session, why);
+    }
+
+    /// The keeper.
+    pub fn into_keeper(self) -> K
+        ensures keeper { result ≡ self.run.keeper }
+        ensures ready { K.ready result }
+        ensures kept { K.works result → Runs (λ s. K.keeps result s.log) self.run.server }
+    {
+        let Exchange { engine, lines: _ } = self;
+        engine.into_keeper()
+    }
+}

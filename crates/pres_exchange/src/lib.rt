@@ -1,0 +1,10 @@
+//! An engine with the lines of its sessions: what a turn answers is put on the rings of the sessions
+//! that it is for, and a session that doesn't take its messages in time is ended.
+#![tactic(auto)]
+
+mod exchange;
+
+pub use exchange::Exchange;
+pub use pres_engine::{EngineFault, Input, Keeper, MemKeeper, SqlKeeper};
+pub use pres_ring::Outbox;
+pub use pres_server::{Count, Fault, Moment, Server, SessionId, Up, Why};

@@ -1,0 +1,118 @@
+//! Tests of an engine with the lines of its sessions.
+
+ghost use Rattle.std.specs.Prelude.{◌≡◌, false};
+ghost use Rattle.pres_exchange.specs.Exchanges.{is_hello};
+ghost use Rattle.pres_server.specs.declared.input.Input.TheVariants.{Up as Message};
+
+use crate::rings::{ALICE, BOB, session, set};
+use pres_exchange::{Exchange, Input, MemKeeper, Moment, Outbox, Up, Why};
+use std::alloc::{AllocError, Global};
+use std::test::Fail;
+
+// The moment of all turns.
+fn now() -> Moment {
+    Moment::at(1000)
+}
+
+// An exchange over nothing, kept in memory.
+fn started(alloc: Global) -> Result<Exchange<MemKeeper>, Fail> {
+    match Exchange::start(alloc, MemKeeper::new(alloc), now()) {
+        Ok(exchange) => Ok(exchange),
+        Err((fault, keeper)) => {
+            drop(keeper);
+            Err(fault.into())
+        }
+    }
+}
+
+fn join(alloc: Global, exchange: &mut Exchange<MemKeeper>, text: &str) -> Result<Outbox, Fail> {
+    let session = session(alloc, text)?;
+    Ok(exchange.join(alloc, &session, now())?)
+}
+
+// The message of a text that is no Hello's.
+fn message(alloc: Global, text: Result<String, AllocError>) -> Result<Up, Fail> {
+    Ok(Up::decode(alloc, text?.as_str())?)
+}
+
+fn say(
+    alloc: Global,
+    exchange: &mut Exchange<MemKeeper>,
+    text: Result<String, AllocError>,
+) -> Result<(), Fail> {
+    let up = message(alloc, text)?;
+    if matches!(up, Up::Hello { .. }) {
+        drop(up);
+        return Err("a Hello")?;
+    }
+    exchange.turn(Input::Up(up), now())?;
+    exchange.end_slow(alloc, now());
+    Ok(())
+}
+
+// Alice listens and takes nothing, and Bob writes so often where she listens: the number behind it.
+fn listened(alloc: Global, exchange: &mut Exchange<MemKeeper>, writes: u32) -> Result<u64, Fail> {
+    drop(join(alloc, exchange, ALICE)?);
+    drop(join(alloc, exchange, BOB)?);
+    say(
+        alloc,
+        exchange,
+        format!(in alloc; r#"{{"m":"on","path":"/a","q":1,"s":{ALICE}}}"#),
+    )?;
+    for write in 0..writes {
+        say(alloc, exchange, set(alloc, write + 1))?;
+    }
+    Ok(exchange.number())
+}
+
+// The number behind so many writes, over nothing.
+fn number_after(alloc: Global, writes: u32) -> Result<u64, Fail> {
+    let mut exchange = started(alloc)?;
+    let number = listened(alloc, &mut exchange, writes);
+    drop(exchange.into_keeper());
+    number
+}
+
+// her Welcome, the answer to her listen and 254 values are the 256 messages that her ring has room for
+#[test]
+fn a_session_that_is_slow_is_ended(rt: HostRuntime) -> Result<(), Fail> {
+    let alloc = rt.alloc();
+    assert_eq!(rt; number_after(alloc, 254)?, 3 + 254);
+    assert_eq!(rt; number_after(alloc, 255)?, 3 + 255 + 1);
+    Ok(())
+}
+
+// What Alice takes after a write of her own.
+fn taken(alloc: Global, exchange: &mut Exchange<MemKeeper>) -> Result<Vec<String>, Fail> {
+    let mut outbox = join(alloc, exchange, ALICE)?;
+    let op = format!(in alloc;
+        r#"{{"m":"op","n":1,"op":{{"op":"set","path":"/a","value":1}},"q":1,"s":{ALICE}}}"#
+    );
+    say(alloc, exchange, op)?;
+    let mut texts = Vec::new(alloc);
+    while let Some(message) = outbox.take() {
+        texts.push(message.encode(alloc)?)?;
+    }
+    Ok(texts)
+}
+
+// How many messages Alice took, and whether she is marked as lost when that is noted.
+fn lost(alloc: Global, exchange: &mut Exchange<MemKeeper>) -> Result<(usize, bool), Fail> {
+    let count = taken(alloc, exchange)?.len();
+    let alice = session(alloc, ALICE)?;
+    exchange.strike(&alice, Why::Lost);
+    let is_marked =
+        matches!(exchange.first_marked(alloc), Some(Ok((found, Why::Lost))) if found == alice);
+    Ok((count, is_marked))
+}
+
+#[test]
+fn answers_are_put_on_lines(rt: HostRuntime) -> Result<(), Fail> {
+    let alloc = rt.alloc();
+    let mut exchange = started(alloc)?;
+    assert!(rt; exchange.server().is_some());
+    let said = lost(alloc, &mut exchange);
+    drop(exchange.into_keeper());
+    assert_eq!(rt; said?, (2, true));
+    Ok(())
+}
