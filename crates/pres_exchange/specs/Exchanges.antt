@@ -1,5 +1,5 @@
 -- A server's engine with the lines of its sessions.
-use Rattle.std.specs.Prelude.{◌≡◌, ◌⊎◌, ℕ, Bool, true, false, List, [], ◌∷◌, ◌++◌, Option, Some, None, IfSome}
+use Rattle.std.specs.Prelude.{◌≡◌, ◌⊎◌, ℕ, Bool, true, false, List, [], ◌∷◌, ◌++◌, Option, Some, None, is_some, IfSome}
 use Rattle.pres_ids.specs.declared.id.SessionId.{SessionId}
 use Rattle.pres_wire.specs.declared.up.Up.TheVariants as up
 use Rattle.pres_wire.specs.declared.down.Down.{Down}
@@ -38,6 +38,15 @@ AreTold es lines = (s : SessionId) → Tells es s (line_at s lines)
 -- each line whose messages were given up is marked
 abbrev pub NoneSlow : Lines → Type 0
 NoneSlow lines = (s : SessionId) → IfSome (line_at s lines) (λ l. is_slow l ≡ false)
+
+-- a line that is marked stays so while it is there, and none comes where there is none
+abbrev pub StaysMarked : Option Line → Option Line → Type 0
+StaysMarked None after = after ≡ None
+StaysMarked (Some l) after = is_some l.mark ≡ true → IfSome after (λ new. is_some new.mark ≡ true)
+
+-- so it is with each line
+abbrev pub StayMarked : Lines → Lines → Type 0
+StayMarked before after = (s : SessionId) → StaysMarked (line_at s before) (line_at s after)
 
 -- it opens no session
 abbrev pub is_hello : Input → Bool

@@ -12,8 +12,9 @@ ghost use Rattle.pres_lines.specs.Lines.{line_at, has_line, unmarked, first_slow
 ghost use Rattle.pres_lines.specs.Steps.{IsToldWith, LineAfter};
 ghost use Rattle.pres_engine.specs.Engines.{Runs};
 ghost use Rattle.pres_engine.specs.Turned.{IsNotTurned};
-ghost use Rattle.pres_exchange.specs.Exchanges.{AreTold, is_hello, IsAnswered, IsJoined, IsNotJoined, LastIsFor, LinesJoined, NoneSlow, AreEnded, AreRestarted};
+ghost use Rattle.pres_exchange.specs.Exchanges.{AreTold, is_hello, StayMarked, IsAnswered, IsJoined, IsNotJoined, LastIsFor, LinesJoined, NoneSlow, AreEnded, AreRestarted};
 
+use crate::bells::{Bell, Bells};
 use pres_engine::{Engine, EngineFault, Input, Keeper};
 use pres_lines::Lines;
 use pres_ring::{Opening, Outbox};
@@ -21,13 +22,15 @@ use pres_server::{ClientId, Down, Items, Moment, Server, SessionId, Up, Why};
 use std::alloc::{AllocError, Global};
 use std::marker::Model;
 
-/// An engine, and a line for each open session, on which its answers are put. Contracts see both.
-pub struct Exchange<K: Keeper> {
+/// An engine, and a line for each open session, on which its answers are put. Contracts see both,
+/// and not the bells of the sessions.
+pub struct Exchange<K: Keeper, B> {
     engine: Engine<K>,
     lines: Lines,
+    bells: Bells<B>,
 }
 
-impl<K: Keeper> Model for Exchange<K> {
+impl<K: Keeper, B> Model for Exchange<K, B> {
     ghost use Rattle.pres_log.specs.Logs.{entries};
     ghost use Rattle.pres_engine.specs.Engines.{Runs};
     ghost use Rattle.pres_exchange.specs.Exchanges.{Exchanged, AreTold};
@@ -100,22 +103,23 @@ fn end_all<K: Keeper + Drop>(
     Ok(())
 }
 
-impl<K: Keeper + Drop> Exchange<K> {
+impl<K: Keeper + Drop, B: Bell + Clone + Drop> Exchange<K, B> {
     // An engine none of whose sessions is open.
-    fn of(alloc: Global, engine: Engine<K>) -> Exchange<K>
+    fn of(alloc: Global, engine: Engine<K>) -> Exchange<K, B>
         requires { Runs (λ s. (t : SessionId) → is_open t (entries s.log) ≡ false) engine.server }
         ensures { result ≡ record { run = engine; lines = [] } }
     {
         Exchange {
             engine,
             lines: Lines::new(alloc),
+            bells: Bells::new(alloc),
         }
     }
 
     /// Starts over what the keeper holds, whose open sessions are ended first, in byte order of
     /// their clients. Refused as the keeper refuses its server; or where an end is refused: then
     /// some may have been ended.
-    pub fn start(alloc: Global, keeper: K, now: Moment) -> Result<Exchange<K>, (EngineFault, K)>
+    pub fn start(alloc: Global, keeper: K, now: Moment) -> Result<Exchange<K, B>, (EngineFault, K)>
         requires ready { K.ready keeper }
         ensures runs { IfOk result (λ e. is_some e.run.server ≡ true) }
         ensures closed { IfOk result (λ e.
@@ -159,6 +163,7 @@ impl<K: Keeper + Drop> Exchange<K> {
         ensures refused { IfErr result
             (IsNotTurned self.old.run.server input now self.new.run.server) }
         ensures lines { OnErr result (self.new.lines ≡ self.old.lines) }
+        ensures marks { StayMarked self.old.lines self.new.lines }
         ensures stays { OnErr result (self.new.run.number ≡ self.old.run.number) }
         ensures rises { self.old.run.number ≤ self.new.run.number }
         ensures fewer { unmarked self.new.lines ≤ unmarked self.old.lines }
@@ -167,6 +172,7 @@ impl<K: Keeper + Drop> Exchange<K> {
         let answers = self.engine.turn(input, now)?;
         // it ensures that the log is legal
         let _ = self.engine.number();
+        self.bells.note(&answers);
         self.lines.deliver(answers);
         Ok(())
     }
@@ -197,7 +203,10 @@ impl<K: Keeper + Drop> Exchange<K> {
         // it ensures that the log is legal
         let _ = self.engine.number();
         match turned {
-            Ok(answers) => Ok(welcome(&mut self.lines, opening, answers)),
+            Ok(answers) => {
+                self.bells.note(&answers);
+                Ok(welcome(&mut self.lines, opening, answers))
+            }
             Err(fault) => {
                 if is_new {
                     self.lines.remove(session);
@@ -211,6 +220,7 @@ impl<K: Keeper + Drop> Exchange<K> {
     fn next_slow(&mut self, alloc: Global) -> Option<Result<SessionId, AllocError>>
         ensures run { self.new.run ≡ self.old.run }
         ensures fewer { IfSome result (λ r. unmarked self.new.lines < unmarked self.old.lines) }
+        ensures marks { StayMarked self.old.lines self.new.lines }
         ensures none { IfNone result (self.new ≡ self.old) }
         ensures none_slow { IfNone result (NoneSlow self.new.lines) }
     {
@@ -222,6 +232,7 @@ impl<K: Keeper + Drop> Exchange<K> {
     pub fn end_slow(&mut self, alloc: Global, now: Moment)
         ensures ended { AreEnded now self.old.run.server self.new.run.server }
         ensures rises { self.old.run.number ≤ self.new.run.number }
+        ensures marks { StayMarked self.old.lines self.new.lines }
         ensures none_slow { NoneSlow self.new.lines }
     {
         while let Some(next) = self.next_slow(alloc) {
@@ -238,6 +249,8 @@ impl<K: Keeper + Drop> Exchange<K> {
             IfOk r (λ e. first_marked self.now.lines ≡ Some e)) }
         ensures open { IfSome (first_marked self.now.lines) (λ e.
             Runs (λ s. is_open e.0 (entries s.log) ≡ true) self.now.run.server) }
+        ensures none { IfNone result
+            ((s : SessionId) → IfSome (line_at s self.now.lines) (λ l. l.mark ≡ None)) }
     {
         self.lines.first_marked(alloc)
     }
@@ -250,13 +263,39 @@ impl<K: Keeper + Drop> Exchange<K> {
         self.lines.strike(session, why);
     }
 
+    /// From now on the bell is due where something is put for the session, or given up.
+    pub fn hang(&mut self, alloc: Global, session: &SessionId, bell: B) -> Result<(), AllocError>
+        ensures { self.new ≡ self.old }
+    {
+        self.bells.hang(session.copy(alloc)?, bell)
+    }
+
+    /// The session's bell goes.
+    pub fn take_down(&mut self, session: &SessionId)
+        ensures { self.new ≡ self.old }
+    {
+        self.bells.remove(session);
+    }
+
+    /// Hands out each bell that is due, once, but the session's own. They are to be rung once no
+    /// lock is held; one for which the list has no memory is rung at once.
+    pub fn take_due(&mut self, own: &SessionId, bells: &mut Vec<B>)
+        ensures { self.new ≡ self.old }
+    {
+        self.bells.take_due(own, bells);
+    }
+
     /// The keeper.
     pub fn into_keeper(self) -> K
         ensures keeper { result ≡ self.run.keeper }
         ensures ready { K.ready result }
         ensures kept { K.works result → Runs (λ s. K.keeps result s.log) self.run.server }
     {
-        let Exchange { engine, lines: _ } = self;
+        let Exchange {
+            engine,
+            lines: _,
+            bells: _,
+        } = self;
         engine.into_keeper()
     }
 }

@@ -2,8 +2,10 @@
 //! that it is for, and a session that doesn't take its messages in time is ended.
 #![tactic(auto)]
 
+mod bells;
 mod exchange;
 
+pub use bells::{Bell, NoBell};
 pub use exchange::Exchange;
 pub use pres_engine::{EngineFault, Input, Keeper, MemKeeper, SqlKeeper};
 pub use pres_ring::Outbox;

@@ -5,9 +5,20 @@ ghost use Rattle.pres_exchange.specs.Exchanges.{is_hello};
 ghost use Rattle.pres_server.specs.declared.input.Input.TheVariants.{Up as Message};
 
 use crate::rings::{ALICE, BOB, session, set};
-use pres_exchange::{Exchange, Input, MemKeeper, Moment, Outbox, Up, Why};
+use pres_exchange::{Bell, Exchange, Input, MemKeeper, Moment, Outbox, Up, Why};
 use std::alloc::{AllocError, Global};
+use std::ops::Range;
 use std::test::Fail;
+
+// A bell that is told from others by its number, and that nobody hears.
+#[derive(Clone, Copy, Drop)]
+struct Numbered(u32);
+
+impl Bell for Numbered {
+    fn ring(&self) {}
+}
+
+type Numbers = Exchange<MemKeeper, Numbered>;
 
 // The moment of all turns.
 fn now() -> Moment {
@@ -15,7 +26,7 @@ fn now() -> Moment {
 }
 
 // An exchange over nothing, kept in memory.
-fn started(alloc: Global) -> Result<Exchange<MemKeeper>, Fail> {
+fn started(alloc: Global) -> Result<Numbers, Fail> {
     match Exchange::start(alloc, MemKeeper::new(alloc), now()) {
         Ok(exchange) => Ok(exchange),
         Err((fault, keeper)) => {
@@ -25,7 +36,7 @@ fn started(alloc: Global) -> Result<Exchange<MemKeeper>, Fail> {
     }
 }
 
-fn join(alloc: Global, exchange: &mut Exchange<MemKeeper>, text: &str) -> Result<Outbox, Fail> {
+fn join(alloc: Global, exchange: &mut Numbers, text: &str) -> Result<Outbox, Fail> {
     let session = session(alloc, text)?;
     Ok(exchange.join(alloc, &session, now())?)
 }
@@ -37,7 +48,7 @@ fn message(alloc: Global, text: Result<String, AllocError>) -> Result<Up, Fail> 
 
 fn say(
     alloc: Global,
-    exchange: &mut Exchange<MemKeeper>,
+    exchange: &mut Numbers,
     text: Result<String, AllocError>,
 ) -> Result<(), Fail> {
     let up = message(alloc, text)?;
@@ -51,7 +62,7 @@ fn say(
 }
 
 // Alice listens and takes nothing, and Bob writes so often where she listens: the number behind it.
-fn listened(alloc: Global, exchange: &mut Exchange<MemKeeper>, writes: u32) -> Result<u64, Fail> {
+fn listened(alloc: Global, exchange: &mut Numbers, writes: u32) -> Result<u64, Fail> {
     drop(join(alloc, exchange, ALICE)?);
     drop(join(alloc, exchange, BOB)?);
     say(
@@ -83,7 +94,7 @@ fn a_session_that_is_slow_is_ended(rt: HostRuntime) -> Result<(), Fail> {
 }
 
 // What Alice takes after a write of her own.
-fn taken(alloc: Global, exchange: &mut Exchange<MemKeeper>) -> Result<Vec<String>, Fail> {
+fn taken(alloc: Global, exchange: &mut Numbers) -> Result<Vec<String>, Fail> {
     let mut outbox = join(alloc, exchange, ALICE)?;
     let op = format!(in alloc;
         r#"{{"m":"op","n":1,"op":{{"op":"set","path":"/a","value":1}},"q":1,"s":{ALICE}}}"#
@@ -97,7 +108,7 @@ fn taken(alloc: Global, exchange: &mut Exchange<MemKeeper>) -> Result<Vec<String
 }
 
 // How many messages Alice took, and whether she is marked as lost when that is noted.
-fn lost(alloc: Global, exchange: &mut Exchange<MemKeeper>) -> Result<(usize, bool), Fail> {
+fn lost(alloc: Global, exchange: &mut Numbers) -> Result<(usize, bool), Fail> {
     let count = taken(alloc, exchange)?.len();
     let alice = session(alloc, ALICE)?;
     exchange.strike(&alice, Why::Lost);
@@ -114,5 +125,71 @@ fn answers_are_put_on_lines(rt: HostRuntime) -> Result<(), Fail> {
     let said = lost(alloc, &mut exchange);
     drop(exchange.into_keeper());
     assert_eq!(rt; said?, (2, true));
+    Ok(())
+}
+
+// Alice's bell is 1, and Bob's is 2.
+fn hang(alloc: Global, exchange: &mut Numbers) -> Result<(), Fail> {
+    exchange.hang(alloc, &session(alloc, ALICE)?, Numbered(1))?;
+    exchange.hang(alloc, &session(alloc, BOB)?, Numbered(2))?;
+    Ok(())
+}
+
+// Bob writes, so many times from this number on: the bells that are due then, but this one's own.
+fn due(
+    alloc: Global,
+    exchange: &mut Numbers,
+    writes: Range<u32>,
+    own: &str,
+) -> Result<String, Fail> {
+    for write in writes {
+        say(alloc, exchange, set(alloc, write))?;
+    }
+    let own = session(alloc, own)?;
+    let mut bells = Vec::new(alloc);
+    exchange.take_due(&own, &mut bells);
+    let mut numbers = String::new(alloc);
+    for bell in bells.iter() {
+        numbers.push_str(bell.0.to_string(alloc)?.as_str())?;
+    }
+    if bells.is_empty() {
+        numbers.push_str("-")?;
+    }
+    Ok(numbers)
+}
+
+// The bells that are due: after a write, again, after two, where Alice asks, and where hers is
+// taken down; then where she takes nothing, until her ring is full and behind that.
+fn rung(alloc: Global, exchange: &mut Numbers) -> Result<String, Fail> {
+    listened(alloc, exchange, 0)?;
+    hang(alloc, exchange)?;
+    let mut said = String::new(alloc);
+    for (writes, own) in [
+        (1..2, BOB),
+        (2..2, BOB),
+        (2..4, BOB),
+        (4..5, ALICE),
+        (5..6, BOB),
+    ] {
+        said.push_str(due(alloc, exchange, writes, own)?.as_str())?;
+        said.push_str(" ")?;
+    }
+    exchange.take_down(&session(alloc, ALICE)?);
+    said.push_str(due(alloc, exchange, 6..7, BOB)?.as_str())?;
+    hang(alloc, exchange)?;
+    for writes in [7..255, 255..256, 256..257] {
+        said.push_str(" ")?;
+        said.push_str(due(alloc, exchange, writes, BOB)?.as_str())?;
+    }
+    Ok(said)
+}
+
+#[test]
+fn each_due_bell_is_handed_out_once(rt: HostRuntime) -> Result<(), Fail> {
+    let alloc = rt.alloc();
+    let mut exchange = started(alloc)?;
+    let said = rung(alloc, &mut exchange);
+    drop(exchange.into_keeper());
+    assert_eq!(rt; said?.as_str(), "1 - 1 2 1 - 1 1 -");
     Ok(())
 }
