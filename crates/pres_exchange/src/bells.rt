@@ -107,10 +107,16 @@ impl<B: Bell + Clone + Drop> Bells<B> {
         });
     }
 
-    /// Hands out the bells that are due, but the session's own. One for which the list has no
-    /// memory is rung at once.
-    pub(crate) fn take_due(&mut self, own: &SessionId, bells: &mut Vec<B>) {
-        let own = self.hung.get(own).map(|hung| hung.number);
+    // The number of the session's bell.
+    fn number_of(&self, session: Option<&SessionId>) -> Option<u64> {
+        let hung = self.hung.get(session?)?;
+        Some(hung.number)
+    }
+
+    /// Hands out the bells that are due, but this session's. One for which the list has no memory
+    /// is rung at once.
+    pub(crate) fn take_due(&mut self, but: Option<&SessionId>, bells: &mut Vec<B>) {
+        let own = self.number_of(but);
         self.round = self.round.wrapping_add(1);
         for due in self.due.drain(..) {
             if own != Some(due.number) {

@@ -277,12 +277,12 @@ impl<K: Keeper + Drop, B: Bell + Clone + Drop> Exchange<K, B> {
         self.bells.remove(session);
     }
 
-    /// Hands out each bell that is due, once, but the session's own. They are to be rung once no
-    /// lock is held; one for which the list has no memory is rung at once.
-    pub fn take_due(&mut self, own: &SessionId, bells: &mut Vec<B>)
+    /// Hands out each bell that is due, once, but this session's, whose connection asks. They are to
+    /// be rung once no lock is held; one for which the list has no memory is rung at once.
+    pub fn take_due(&mut self, but: Option<&SessionId>, bells: &mut Vec<B>)
         ensures { self.new ≡ self.old }
     {
-        self.bells.take_due(own, bells);
+        self.bells.take_due(but, bells);
     }
 
     /// The keeper.

@@ -46,7 +46,7 @@ fn listened(alloc: Global, writes: u32) -> Result<Run, Fail> {
 }
 
 // Bob's write number n.
-fn set(alloc: Global, n: u32) -> Result<String, AllocError> {
+pub(crate) fn set(alloc: Global, n: u32) -> Result<String, AllocError> {
     format!(in alloc;
         r#"{{"m":"op","n":{n},"op":{{"op":"set","path":"/a","value":{n}}},"q":{n},"s":{BOB}}}"#
     )

@@ -1,0 +1,4 @@
+pub mod Counted
+pub mod Heard
+pub mod Fewer
+pub mod Ends

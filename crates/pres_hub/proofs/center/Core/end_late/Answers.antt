@@ -1,0 +1,52 @@
+use Rattle.std.proofs.Common.{◌≡◌, ◌∙◌, ap, subst, sym, refl, arith}
+use Rattle.pres_log.specs.Logs.{number}
+use Rattle.pres_server.specs.LegalLog.{IsLegal}
+use Rattle.pres_server.specs.declared.input.Input.TheVariants as input
+use Rattle.pres_engine.specs.Engines.{Runs}
+use Rattle.pres_exchange.proofs.Marks.{stay_twice}
+use Rattle.pres_hub.proofs.Fewer.{late_fewer, rose}
+use Rattle.pres_hub.proofs.Ends.{late_more, none_late}
+use Rattle.pres_hub.proofs.center.Core.end_late.Goals as goal
+
+pub returns-then-after-before-clause-ended : goal.returns-then-after-before-clause-ended
+returns-then-after-before-clause-ended g c =
+    let old = c.loop-self.self in
+    let new = c.event.new.self in
+    c.loop-self.invariant.4 new.run.server (late_more c.args.now old.run.server new.run.server new.run.server old.lines c.in_ok-event.ensures.done (0, refl))
+
+pub returns-then-after-before-clause-none_late : goal.returns-then-after-before-clause-none_late
+returns-then-after-before-clause-none_late g c =
+    let old = c.loop-self.self in
+    let new = c.event.new.self in
+    let before = c.number-before.ensures.number ∙ ap (λ x. x.run.number) c.self.view_is in
+    let after = c.number-after.ensures.number ∙ ap (λ x. x.run.number) c.self-in-loop-self.view_is in
+    none_late c.args.now old.run.number new.run.number old.run.server new.run.server old.lines c.in_ok-event.ensures.done
+    (subst (λ x. Runs (λ s. IsLegal s.log) x.run.server) c.self.view_is c.number-before.ensures.legal)
+    (subst (λ x. Runs (λ s. x.run.number ≡ number s.log) x.run.server) c.self.view_is c.number-before.ensures.counted)
+    (subst (λ x. Runs (λ s. x.run.number ≡ number s.log) x.run.server) c.self-in-loop-self.view_is c.number-after.ensures.counted)
+    (sym after ∙ c.if-after-before.true ∙ before)
+
+pub loop-self-smaller : goal.loop-self-smaller
+loop-self-smaller g c =
+    let old = c.loop-self.self in
+    let new = c.event.new.self in
+    let before = c.number-before.ensures.number ∙ ap (λ x. x.run.number) c.self.view_is in
+    let after = c.number-after.ensures.number ∙ ap (λ x. x.run.number) c.self-in-loop-self.view_is in
+    late_fewer input.Tick c.args.now old.run.number new.run.number old.run.server new.run.server old.lines c.in_ok-event.ensures.done
+    (subst (λ x. Runs (λ s. IsLegal s.log) x.run.server) c.self.view_is c.number-before.ensures.legal)
+    (subst (λ x. Runs (λ s. x.run.number ≡ number s.log) x.run.server) c.self.view_is c.number-before.ensures.counted)
+    (subst (λ x. Runs (λ s. x.run.number ≡ number s.log) x.run.server) c.self-in-loop-self.view_is c.number-after.ensures.counted)
+    (rose old.run.number new.run.number c.in_ok-event.ensures.rises (λ h. c.if-after-before.false (after ∙ h ∙ sym before)))
+
+pub loop-self-preserved : goal.loop-self-preserved
+loop-self-preserved g c =
+    let before = c.loop-self.invariant in
+    let event = c.in_ok-event.ensures in
+    let since = before.2 in
+    let rises = event.rises in (
+      event.counts ∙ before.0,
+      event.start ∙ before.1,
+      omega (arith, since, rises),
+      stay_twice c.args.self.now.lines c.loop-self.self.lines c.event.new.self.lines before.3 event.marks,
+      λ after h. before.4 after (late_more c.args.now c.loop-self.self.run.server c.event.new.self.run.server after c.loop-self.self.lines event.done h),
+    )

@@ -1,0 +1,141 @@
+-- What the calls of a hub's core do.
+use Rattle.std.specs.Prelude.{◌≡◌, ◌≢◌, ◌⊎◌, ◌+◌, ◌<◌, ◌≤◌, ℕ, zero, suc, Bool, true, false, List, [], ◌∷◌, Option, Some, None, is_some, IsSomeAnd}
+use Rattle.pres_ids.specs.Ids.{same_session}
+use Rattle.pres_wire.specs.declared.up.Up.{Up}
+use Rattle.pres_wire.specs.Messages.{session_in}
+use Rattle.pres_log.specs.declared.fault.Fault.{Fault}
+use Rattle.pres_log.specs.declared.fault.Fault.TheVariants as fault
+use Rattle.pres_log.specs.Logs.{entries}
+use Rattle.pres_server.specs.declared.input.Input.{Input}
+use Rattle.pres_server.specs.declared.input.Input.TheVariants as input
+use Rattle.pres_server.specs.Heard.{State}
+use Rattle.pres_server.specs.Sessions.{is_open, count}
+use Rattle.pres_server.specs.Turns.{Decision, quiet, makes, turn}
+use Rattle.pres_ring.specs.Accepted.{is_hello}
+use Rattle.pres_lines.specs.Lines.{Lines, line_at}
+use Rattle.pres_engine.specs.Engines.{Runs}
+use Rattle.pres_engine.specs.Turned.{IsNotTurned}
+use Rattle.pres_engine.specs.declared.fault.EngineFault.TheVariants as refusal
+use Rattle.pres_seats.specs.declared.tally.Counts.{Counts}
+use Rattle.pres_exchange.specs.Exchanges.{IsAnswered, IsJoined, IsNotJoined, AreEnded}
+use Rattle.pres_ids.specs.declared.id.SessionId.{SessionId}
+use Rattle.pres_ids.specs.declared.id.Why.{Why}
+use Rattle.pres_hub.specs.Cores.{end_by}
+use Rattle.pres_ring.specs.Ends.{Taking}
+use Rattle.pres_seats.specs.Seats.{Seated}
+use Rattle.pres_seats.specs.declared.fault.HubFault.{HubFault}
+use Rattle.pres_seats.specs.declared.fault.HubFault.TheVariants as why
+
+-- the input's turn is done and answered, and then sessions that are slow are ended
+pub record IsCarriedOut (input : Input) (now : ℕ) (old new : Option State) (before : Lines) : Type 0 where
+  pub middle : Option State
+  pub lines : Lines
+  pub answered : IsAnswered old input now middle before lines
+  pub ended : AreEnded now middle new
+
+-- the session is opened, and then sessions that are slow are ended
+pub record IsOpened (s : SessionId) (now : ℕ) (old new : Option State) (before : Lines) (end : Taking) : Type 0 where
+  pub middle : Option State
+  pub lines : Lines
+  pub joined : IsJoined s now old middle before lines end
+  pub ended : AreEnded now middle new
+
+-- how many messages the turn of this one accepts
+abbrev pub accepted_by : Decision → ℕ
+accepted_by (makes es) = 1
+accepted_by _ = 0
+
+abbrev pub accepted_of : Option State → Up → ℕ → ℕ
+accepted_of None m now = 0
+accepted_of (Some s) m now = accepted_by (turn s (input.Up m) now)
+
+-- the message's session has had as many messages as the seat, where it is open
+abbrev pub IsAbreast : Up → ℕ → Option State → Type 0
+IsAbreast m q server = Runs (λ s. is_open (session_in m) (entries s.log) ≡ true → count (session_in m) (entries s.log) ≡ q) server
+
+-- A seat's message is taken to a server that runs: it is no Hello, names the seat's session, which is no further than
+-- the seat, and the server has what the seat was told of.
+pub record IsTaken (seat : Seated) (m : Up) (server : Option State) (number : ℕ) : Type 0 where
+  pub runs : is_some server ≡ true
+  pub no_hello : is_hello m ≡ false
+  pub own : same_session (session_in m) seat.session ≡ true
+  pub fresh : seat.seen ≤ number
+  pub abreast : IsAbreast m seat.q server
+
+-- The message's turn is done and answered, and then sessions that are slow are ended. The seat and the counts have one
+-- message more where the server accepted it, and the seat is told of the number.
+pub record IsHeard (m : Up) (now : ℕ) (old new : Option State) (before : Lines) (earlier number : ℕ) (seat seat_after : Seated) (counts counts_after : Counts) : Type 0 where
+  pub taken : IsTaken seat m old earlier
+  pub carried : IsCarriedOut (input.Up m) now old new before
+  pub seat_is : seat_after ≡ record { session = seat.session; q = seat.q + accepted_of old m now; seen = number; made = seat.made + accepted_of old m now }
+  pub counts_are : counts_after ≡ record counts { accepted = counts.accepted + accepted_of old m now }
+
+-- an event isn't done, as its turn isn't
+abbrev pub IsRefused : Input → ℕ → Option State → Option State → HubFault → Type 0
+IsRefused i now old new why.Memory = IsNotTurned old i now new refusal.Memory
+IsRefused i now old new (why.Refused f) = IsNotTurned old i now new (refusal.Refused f)
+IsRefused i now old new (why.Keeper f) = IsNotTurned old i now new (refusal.Keeper f)
+IsRefused i now old new why.Down = IsNotTurned old i now new refusal.Down
+IsRefused i now old new e = ⊥
+
+-- the refusal of a message that names another session, a Hello before all
+abbrev pub IsForeign : Bool → Bool → Fault → Type 0
+IsForeign true same f = f ≡ fault.Bad
+IsForeign false same f = (f ≡ fault.Session) × (same ≡ false)
+
+-- why a seat's message isn't taken to the server
+abbrev pub IsKeptBack : Seated → Up → Option State → ℕ → HubFault → Type 0
+IsKeptBack seat m None number e = e ≡ why.Down
+IsKeptBack seat m (Some s) number (why.Refused f) = IsForeign (is_hello m) (same_session (session_in m) seat.session) f
+IsKeptBack seat m (Some s) number (why.Behind have seen) = (have ≡ number) × (seen ≡ seat.seen) × (number < seat.seen)
+IsKeptBack seat m (Some s) number (why.Apart q) = (q ≡ seat.q + 1) × (is_open (session_in m) (entries s.log) ≡ true) × (count (session_in m) (entries s.log) ≢ seat.q)
+IsKeptBack seat m (Some s) number e = ⊥
+
+-- the end of a session isn't done: memory is refused with the server as it was, or its turn isn't done
+abbrev pub IsRefusedEnd : Input → ℕ → Option State → Option State → HubFault → Type 0
+IsRefusedEnd i now old new why.Memory = new ≡ old
+IsRefusedEnd i now old new (why.Refused f) = IsRefused i now old new (why.Refused f)
+IsRefusedEnd i now old new (why.Keeper f) = IsRefused i now old new (why.Keeper f)
+IsRefusedEnd i now old new why.Down = IsRefused i now old new why.Down
+IsRefusedEnd i now old new e = ⊥
+
+-- a seat's message is kept back, with the server as it was, or its turn isn't done
+abbrev pub IsNotHeard : Seated → Up → ℕ → ℕ → Option State → Option State → HubFault → Type 0
+IsNotHeard seat m number now old new e = (IsKeptBack seat m old number e × (new ≡ old)) ⊎ IsRefused (input.Up m) now old new e
+
+-- a session isn't opened, as its Hello's turn isn't done
+abbrev pub IsNotOpened : SessionId → ℕ → Option State → Option State → HubFault → Type 0
+IsNotOpened s now old new why.Memory = IsNotJoined s now old new refusal.Memory
+IsNotOpened s now old new (why.Refused f) = IsNotJoined s now old new (refusal.Refused f)
+IsNotOpened s now old new (why.Keeper f) = IsNotJoined s now old new (refusal.Keeper f)
+IsNotOpened s now old new why.Down = IsNotJoined s now old new refusal.Down
+IsNotOpened s now old new e = ⊥
+
+-- ---- ends
+
+-- the session's end was refused, and it is still to end
+abbrev pub IsMarked : SessionId → Lines → Type 0
+IsMarked s lines = IsSomeAnd (line_at s lines) (λ l. is_some l.mark ≡ true)
+
+-- marked sessions are ended, one after the other
+abbrev pub EndsMarked : ℕ → List (SessionId × Why) → Option State → Option State → Type 0
+EndsMarked now [] old new = new ≡ old
+EndsMarked now (e ∷ es) old new = (middle : Option State) × (lines : Lines) × IsCarriedOut (end_by e.1 e.0) now old middle lines × EndsMarked now es middle new
+
+-- so many times the first lease that ran out is ended, or nothing is done where there is none
+abbrev pub EndsLate : ℕ → ℕ → Option State → Option State → Type 0
+EndsLate now zero old new = new ≡ old
+EndsLate now (suc n) old new = (middle : Option State) × (lines : Lines) × IsCarriedOut input.Tick now old middle lines × EndsLate now n middle new
+
+abbrev pub AreMarkedEnded : ℕ → Option State → Option State → Type 0
+AreMarkedEnded now old new = (es : List (SessionId × Why)) × EndsMarked now es old new
+
+abbrev pub AreLateEnded : ℕ → Option State → Option State → Type 0
+AreLateEnded now old new = (n : ℕ) × EndsLate now n old new
+
+-- sessions that are marked are ended, then those whose leases ran out, until none is left
+pub record IsTicked (now : ℕ) (old new : Option State) : Type 0 where
+  pub middle : Option State
+  pub marked : AreMarkedEnded now old middle
+  pub late : AreLateEnded now middle new
+  pub none_late : Runs (λ s. turn s input.Tick now ≡ quiet) new

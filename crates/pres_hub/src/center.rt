@@ -1,0 +1,414 @@
+//! The value under a hub's lock.
+
+ghost use Rattle.std.specs.Prelude.{◌≡◌, ◌≤◌, ◌+◌, ◌-◌, ◌^◌, ◌<◌, ◌≢◌, [], false, true, Some, None, IfOk, IfErr, IfSome, IfNone, OnOk, OnErr, is_some, option_map};
+ghost use Rattle.pres_ids.specs.declared.id.SessionId.{SessionId};
+ghost use Rattle.pres_log.specs.Logs.{Log, entries};
+ghost use Rattle.pres_server.specs.Sessions.{is_open, count};
+ghost use Rattle.pres_ids.specs.Ids.{same_session};
+ghost use Rattle.pres_wire.specs.Messages.{session_in};
+ghost use Rattle.pres_server.specs.Turns.{turn, quiet};
+ghost use Rattle.pres_server.specs.Replays.{made_from};
+ghost use Rattle.pres_server.specs.declared.input.Input.TheVariants.{Up as Message, Tick as Late};
+ghost use Rattle.pres_engine.specs.Engines.{Runs};
+ghost use Rattle.pres_ring.specs.Accepted.{is_hello, messages_in};
+ghost use Rattle.pres_exchange.specs.Exchanges.{StayMarked, IsAnswered, AreRestarted};
+ghost use Rattle.pres_lines.specs.Lines.{line_at, struck, ChangesAt};
+ghost use Rattle.pres_hub.specs.Cores.{Stands, end_by};
+ghost use Rattle.pres_hub.specs.Said.{IsCarriedOut, IsOpened, IsKeptBack, IsAbreast, accepted_of, IsHeard, IsRefused, IsNotHeard, IsNotOpened, IsRefusedEnd, IsMarked, AreMarkedEnded, AreLateEnded, IsTicked};
+ghost use Rattle.pres_seats.specs.declared.fault.HubFault.TheVariants.{Down as Gone, Memory};
+
+use pres_exchange::{
+    Bell, Count, Exchange, Fault, Input, Keeper, Moment, Outbox, Server, SessionId, Up, Why,
+};
+use pres_seats::{HubFault, Parting, Report, Seat, Tally};
+use std::alloc::Global;
+use std::marker::Model;
+use std::sync::ledger::{Blank, Ledger};
+
+/// What a hub answers a message that was taken: the number of the server's last entry then.
+#[derive(Clone, Copy, Debug, PartialEq, Eq)]
+pub struct Said {
+    pub number: u64,
+}
+
+/// The value under a hub's lock: a server with its keeper, the lines of its sessions and their
+/// bells, and what was accepted from which seats. Contracts see these but for the bells, and the
+/// number that the start left.
+pub struct Core<L: Ledger, K: Keeper + Drop, B> {
+    alloc: Global,
+    exchange: Exchange<K, B>,
+    tally: Tally<L>,
+    start: u64,
+}
+
+impl<L: Ledger, K: Keeper + Drop, B> Model for Core<L, K, B> {
+    ghost use Rattle.pres_exchange.specs.Exchanges.{NoneSlow};
+    ghost use Rattle.pres_hub.specs.Cores.{Held, AreAccepted};
+
+    ghost Value = { Held K };
+
+    ghost view = { λ c. record {
+      run = c.exchange.run;
+      lines = c.exchange.lines;
+      counts = c.tally;
+      start = c.start;
+    } };
+
+    ghost invariant = { λ c. NoneSlow c.exchange.lines
+        × AreAccepted c.start c.tally.accepted c.exchange.run.server };
+}
+
+// The input that ends the session for this reason.
+fn end_by(why: Why, session: SessionId) -> Input
+    ensures input { result ≡ end_by why session }
+    ensures ends { messages_in result ≡ 0 }
+{
+    match why {
+        Why::Slow => Input::Slow(session),
+        _ => Input::Lost(session),
+    }
+}
+
+// Whether the session is open, and has had another number of messages.
+fn is_apart(server: &Server, session: &SessionId, mine: Count) -> bool
+    ensures opened { (result ≡ true) → is_open session.now (entries server.now.log) ≡ true }
+    ensures apart { (result ≡ true) → count session.now (entries server.now.log) ≢ mine }
+    ensures abreast { (result ≡ false) → is_open session.now (entries server.now.log) ≡ true
+        → count session.now (entries server.now.log) ≡ mine }
+{
+    match server.count(session) {
+        Some(count) => count != mine,
+        None => false,
+    }
+}
+
+// Takes the message to the server, and counts it where it was accepted.
+fn take_message<L: Ledger, K: Keeper + Drop, B: Bell + Clone + Drop>(
+    exchange: &mut Exchange<K, B>,
+    tally: &mut Tally<L>,
+    seat: &mut Seat<L>,
+    up: Up,
+    now: Moment,
+) -> Result<(), HubFault>
+    requires hello { is_hello up ≡ false }
+    requires abreast { IsAbreast up seat.old.q exchange.old.run.server }
+    requires few { Runs (λ s. tally.old.accepted < 2 ^ 53) exchange.old.run.server }
+    ensures answered { IfOk result (λ _. IsAnswered exchange.old.run.server (Message up) now
+        exchange.new.run.server exchange.old.lines exchange.new.lines) }
+    ensures seat { OnOk result (seat.new ≡ record seat.old {
+      q = seat.old.q + accepted_of exchange.old.run.server up now;
+      made = seat.old.made + accepted_of exchange.old.run.server up now;
+    }) }
+    ensures tally { OnOk result (tally.new ≡ record tally.old {
+      accepted = tally.old.accepted + accepted_of exchange.old.run.server up now;
+    }) }
+    ensures rises { exchange.old.run.number ≤ exchange.new.run.number }
+    ensures refused { IfErr result (IsRefused (Message up) now
+        exchange.old.run.server exchange.new.run.server) }
+    ensures kept { OnErr result ((tally.new ≡ tally.old) × (seat.new ≡ seat.old)) }
+    ensures stays { OnErr result (exchange.new.run.number ≡ exchange.old.run.number) }
+    ensures lines { OnErr result (exchange.new.lines ≡ exchange.old.lines) }
+{
+    let before = exchange.number();
+    let q = up.q();
+    exchange.turn(Input::Up(up), now)?;
+    let after = exchange.number();
+    if after > before {
+        let Some(q) = q else { unreachable!() };
+        tally.add(seat, Count::up_to(q));
+    }
+    Ok(())
+}
+
+impl<L: Ledger, K: Keeper + Drop, B: Bell + Clone + Drop> Core<L, K, B> {
+    /// Starts a hub over what the keeper holds, whose open sessions are ended first. Refused as
+    /// the keeper refuses its server; or where an end is refused: then some may have been ended.
+    pub fn start(
+        alloc: Global,
+        blank: Blank,
+        keeper: K,
+        now: Moment,
+    ) -> Result<Core<L, K, B>, (HubFault, K)>
+        requires name { blank.name ≡ L.name }
+        requires parts { blank.parts ≡ L.parts }
+        requires whole { blank.parts ≡ 2 ^ 53 }
+        requires ready { K.ready keeper }
+        ensures runs { IfOk result (λ c. is_some c.run.server ≡ true) }
+        ensures closed { IfOk result (λ c.
+            Runs (λ s. (t : SessionId) → is_open t (entries s.log) ≡ false) c.run.server) }
+        ensures ended { IfOk result (λ c. (log : Log) → K.works c.run.keeper → K.keeps keeper log
+            → AreRestarted now (Some (made_from log)) c.run.server) }
+        ensures lines { IfOk result (λ c. c.lines ≡ []) }
+        ensures counts { IfOk result (λ c.
+            c.counts ≡ record { accepted = 0; seats = 0; out = 0 }) }
+        ensures stands { IfOk result (λ c. Stands K.works K.keeps c) }
+        ensures ready { IfErr result (λ e. K.ready e.1) }
+    {
+        match Exchange::start(alloc, keeper, now) {
+            Ok(exchange) => {
+                let start = exchange.number();
+                Ok(Core {
+                    alloc,
+                    exchange,
+                    tally: Tally::open(blank),
+                    start,
+                })
+            }
+            Err((fault, keeper)) => Err((HubFault::from(fault), keeper)),
+        }
+    }
+
+    /// Changes nothing, and shows what holds whenever the lock is free.
+    pub fn show(&self)
+        ensures { Stands K.works K.keeps self.now }
+    {
+        let _ = self.exchange.number();
+    }
+
+    // Does what the input asks for, and ends each session that doesn't take its messages in time.
+    fn event(&mut self, input: Input, now: Moment) -> Result<(), HubFault>
+        requires { messages_in input ≡ 0 }
+        ensures done { IfOk result (λ _.
+            IsCarriedOut input now self.old.run.server self.new.run.server self.old.lines) }
+        ensures refused { IfErr result
+            (IsRefused input now self.old.run.server self.new.run.server) }
+        ensures lines { OnErr result (self.new.lines ≡ self.old.lines) }
+        ensures marks { StayMarked self.old.lines self.new.lines }
+        ensures rises { self.old.run.number ≤ self.new.run.number }
+        ensures stays { OnErr result (self.new.run.number ≡ self.old.run.number) }
+        ensures counts { self.new.counts ≡ self.old.counts }
+        ensures start { self.new.start ≡ self.old.start }
+    {
+        self.exchange.turn(input, now)?;
+        self.exchange.end_slow(self.alloc, now);
+        Ok(())
+    }
+
+    /// Opens the session: its seat, and the end from which its messages are taken.
+    pub fn join(&mut self, session: &SessionId, now: Moment) -> Result<(Seat<L>, Outbox), HubFault>
+        ensures seat { IfOk result (λ joined. joined.0 ≡ record {
+          session = session.now;
+          q = 0;
+          seen = self.new.run.number;
+          made = 1;
+        }) }
+        ensures counts { OnOk result (self.new.counts ≡ record {
+          accepted = self.old.counts.accepted + 1;
+          seats = self.old.counts.seats + 1;
+          out = self.old.counts.out + 1;
+        }) }
+        ensures joined { IfOk result (λ joined. IsOpened session.now now self.old.run.server
+            self.new.run.server self.old.lines joined.1) }
+        ensures refused { IfErr result
+            (IsNotOpened session.now now self.old.run.server self.new.run.server) }
+        ensures down { (self.old.run.server ≡ None)
+            → IfErr result (λ e. e ≡ Gone) }
+        ensures stays { OnErr result (self.new.run.number ≡ self.old.run.number) }
+        ensures start { self.new.start ≡ self.old.start }
+        ensures kept { OnErr result (self.new.counts ≡ self.old.counts) }
+    {
+        if self.exchange.server().is_none() {
+            return Err(HubFault::Down);
+        }
+        // it ensures that the log is legal
+        let _ = self.exchange.number();
+        let mine = session.copy(self.alloc)?;
+        let outbox = self.exchange.join(self.alloc, session, now)?;
+        self.exchange.end_slow(self.alloc, now);
+        let seat = self.tally.seat(mine, self.exchange.number());
+        Ok((seat, outbox))
+    }
+
+    /// Takes the seat's message to the server. Refused with the seat and the server as they were:
+    /// Down; Refused, where it is a Hello (Bad) or names another session (Session); Behind; Apart;
+    /// and as the engine refuses its turn, which is Down from then on where the batch was kept.
+    pub fn say(&mut self, seat: &mut Seat<L>, up: Up, now: Moment) -> Result<Said, HubFault>
+        ensures number { IfOk result (λ said. said.number ≡ self.new.run.number) }
+        ensures fresh { IfOk result (λ said. seat.old.seen ≤ said.number) }
+        ensures heard { IfOk result (λ said. IsHeard up now self.old.run.server
+            self.new.run.server self.old.lines self.old.run.number said.number seat.old seat.new
+            self.old.counts self.new.counts) }
+        ensures refused { IfErr result (IsNotHeard seat.old up self.old.run.number now
+            self.old.run.server self.new.run.server) }
+        ensures kept { OnErr result
+            ((self.new.counts ≡ self.old.counts) × (seat.new ≡ seat.old)) }
+        ensures stays { OnErr result (self.new.run.number ≡ self.old.run.number) }
+        ensures lines { OnErr result (self.new.lines ≡ self.old.lines) }
+        ensures start { self.new.start ≡ self.old.start }
+    {
+        if let Some(fault) = self.refusal(seat, &up) {
+            drop(up);
+            return Err(fault);
+        }
+        // it ensures that the log is legal
+        let _ = self.exchange.number();
+        take_message(&mut self.exchange, &mut self.tally, seat, up, now)?;
+        self.exchange.end_slow(self.alloc, now);
+        let number = self.exchange.number();
+        seat.see(number);
+        Ok(Said { number })
+    }
+
+    // Ends the sessions whose leases ran out.
+    fn end_late(&mut self, now: Moment) -> Result<(), HubFault>
+        ensures ended { OnOk result (AreLateEnded now self.old.run.server self.new.run.server) }
+        ensures none_late { OnOk result
+            (Runs (λ s. turn s Late now ≡ quiet) self.new.run.server) }
+        ensures marks { StayMarked self.old.lines self.new.lines }
+        ensures rises { self.old.run.number ≤ self.new.run.number }
+        ensures counts { self.new.counts ≡ self.old.counts }
+        ensures start { self.new.start ≡ self.old.start }
+    {
+        loop {
+            let before = self.exchange.number();
+            self.event(Input::Tick, now)?;
+            let after = self.exchange.number();
+            if after == before {
+                return Ok(());
+            }
+        }
+    }
+
+    /// Ends the sessions that are marked, in their order, and then those whose leases ran out: how
+    /// many. At a refusal it stops, and what was ended stays so.
+    pub fn tick(&mut self, now: Moment) -> Result<u64, HubFault>
+        ensures ended { IfOk result (λ n. self.new.run.number ≡ self.old.run.number + n) }
+        ensures ticked { OnOk result
+            (IsTicked now self.old.run.server self.new.run.server) }
+        ensures closed { OnOk result ((s : SessionId) → IsMarked s self.old.lines
+            → Runs (λ t. is_open s (entries t.log) ≡ false) self.new.run.server) }
+        ensures rises { self.old.run.number ≤ self.new.run.number }
+        ensures counts { self.new.counts ≡ self.old.counts }
+        ensures start { self.new.start ≡ self.old.start }
+    {
+        let before = self.exchange.number();
+        self.end_marked(now)?;
+        self.end_late(now)?;
+        let after = self.exchange.number();
+        Ok(after - before)
+    }
+
+    // Ends the sessions that are marked, in their order.
+    fn end_marked(&mut self, now: Moment) -> Result<(), HubFault>
+        ensures ended { OnOk result (AreMarkedEnded now self.old.run.server self.new.run.server) }
+        ensures left { OnOk result ((s : SessionId) → IsMarked s self.old.lines
+            → line_at s self.new.lines ≡ None) }
+        ensures rises { self.old.run.number ≤ self.new.run.number }
+        ensures counts { self.new.counts ≡ self.old.counts }
+        ensures start { self.new.start ≡ self.old.start }
+    {
+        while let Some(next) = self.exchange.first_marked(self.alloc) {
+            let (session, why) = next?;
+            // it ensures that the log is legal
+            let _ = self.exchange.number();
+            self.event(end_by(why, session), now)?;
+        }
+        Ok(())
+    }
+
+    // Ends the session.
+    fn end(&mut self, session: &SessionId, why: Why, now: Moment) -> Result<(), HubFault>
+        ensures ended { IfOk result (λ _. IsCarriedOut (end_by why session.now) now
+            self.old.run.server self.new.run.server self.old.lines) }
+        ensures refused { IfErr result (IsRefusedEnd (end_by why session.now) now
+            self.old.run.server self.new.run.server) }
+        ensures rises { self.old.run.number ≤ self.new.run.number }
+        ensures lines { OnErr result (self.new.lines ≡ self.old.lines) }
+        ensures counts { self.new.counts ≡ self.old.counts }
+        ensures start { self.new.start ≡ self.old.start }
+    {
+        let ended = session.copy(self.alloc)?;
+        self.event(end_by(why, ended), now)
+    }
+
+    /// Takes the seat, and ends its session, where that is open. Where the end is refused the
+    /// session is marked.
+    pub fn leave(&mut self, seat: Seat<L>, why: Why, now: Moment) -> Parting<L>
+        ensures made { result.made ≡ seat.made }
+        ensures ended { IfNone result.fault (IsCarriedOut (end_by why seat.session) now
+            self.old.run.server self.new.run.server self.old.lines) }
+        ensures refused { IfSome result.fault (IsRefusedEnd (end_by why seat.session) now
+            self.old.run.server self.new.run.server) }
+        ensures marked { IfSome result.fault (λ _. ChangesAt seat.session
+            (option_map (struck why)) self.old.lines self.new.lines) }
+        ensures rises { self.old.run.number ≤ self.new.run.number }
+        ensures counts { self.new.counts ≡ record self.old.counts
+            { out = self.old.counts.out - 1 } }
+        ensures start { self.new.start ≡ self.old.start }
+    {
+        self.exchange.take_down(seat.session());
+        match self.end(seat.session(), why, now) {
+            Ok(()) => self.tally.take(seat, None),
+            Err(fault) => {
+                self.exchange.strike(seat.session(), why);
+                self.tally.take(seat, Some(fault))
+            }
+        }
+    }
+
+    // Why the seat's message isn't taken to the server.
+    fn refusal(&self, seat: &Seat<L>, up: &Up) -> Option<HubFault>
+        ensures refused { IfSome result
+            (IsKeptBack seat.now up.now self.now.run.server self.now.run.number) }
+        ensures runs { IfNone result (is_some self.now.run.server ≡ true) }
+        ensures hello { IfNone result (is_hello up.now ≡ false) }
+        ensures own { IfNone result (same_session (session_in up.now) seat.now.session ≡ true) }
+        ensures fresh { IfNone result (seat.now.seen ≤ self.now.run.number) }
+        ensures abreast { IfNone result (IsAbreast up.now seat.now.q self.now.run.server) }
+    {
+        let Some(server) = self.exchange.server() else {
+            return Some(HubFault::Down);
+        };
+        if matches!(up, Up::Hello { .. }) {
+            return Some(HubFault::Refused(Fault::Bad));
+        }
+        if up.session() != seat.session() {
+            return Some(HubFault::Refused(Fault::Session));
+        }
+        let have = self.exchange.number();
+        let seen = seat.seen();
+        if have < seen {
+            return Some(HubFault::Behind { have, seen });
+        }
+        let mine = seat.q();
+        if is_apart(server, up.session(), mine) {
+            return Some(HubFault::Apart { q: mine.get() + 1 });
+        }
+        None
+    }
+
+    /// From now on the bell is due where something is put for the seat's session, or given up.
+    pub fn hang(&mut self, seat: &Seat<L>, bell: B) -> Result<(), HubFault>
+        ensures same { self.new ≡ self.old }
+        ensures memory { IfErr result (λ e. e ≡ Memory) }
+    {
+        self.exchange.hang(self.alloc, seat.session(), bell)?;
+        Ok(())
+    }
+
+    /// Hands out each bell that is due, once, but this session's, whose connection asks. They are to
+    /// be rung once the lock is free; one for which the list has no memory is rung at once.
+    pub fn take_due(&mut self, but: Option<&SessionId>, bells: &mut Vec<B>)
+        ensures { self.new ≡ self.old }
+    {
+        self.exchange.take_due(but, bells);
+    }
+
+    /// Ends the run.
+    pub fn finish(self) -> Report<L, K>
+        ensures number { result.number ≡ self.run.number }
+        ensures accepted { result.accepted ≡ self.counts.accepted }
+        ensures seats_out { result.seats_out ≡ self.counts.out }
+        ensures keeper { result.keeper ≡ self.run.keeper }
+        ensures none { (result.gathered ≡ 0) × (result.sum ≡ 0) }
+    {
+        let Core {
+            alloc: _,
+            exchange,
+            tally,
+            start: _,
+        } = self;
+        let number = exchange.number();
+        tally.close(number, exchange.into_keeper())
+    }
+}

@@ -1,0 +1,12 @@
+//! The value under a hub's lock, and the hub: many callers of one server.
+#![tactic(auto)]
+
+mod center;
+mod gate;
+mod locked;
+
+pub use center::{Core, Said};
+pub use gate::{Gate, OpenGate};
+pub use locked::Hub;
+pub use pres_exchange::{Bell, Keeper, MemKeeper, NoBell, Outbox, SqlKeeper};
+pub use pres_seats::{HubFault, Parting, Report, Seat};
