@@ -165,6 +165,13 @@ impl<L: Ledger, K: Keeper + Drop, B: Bell + Clone + Drop> Core<L, K, B> {
         let _ = self.exchange.number();
     }
 
+    /// The number of the last entry that was answered.
+    pub fn number(&self) -> u64
+        ensures { result ≡ self.now.run.number }
+    {
+        self.exchange.number()
+    }
+
     // Does what the input asks for, and ends each session that doesn't take its messages in time.
     fn event(&mut self, input: Input, now: Moment) -> Result<(), HubFault>
         requires { messages_in input ≡ 0 }

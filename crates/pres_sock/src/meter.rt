@@ -1,0 +1,69 @@
+//! A stream that counts its reads.
+
+use std::io;
+use std::io::{ErrorKind, Read, Write};
+
+/// The greatest number of reads in a row that give nothing.
+pub const MAX_IDLE_READS: u32 = 2_000;
+
+/// The greatest number of reads in all.
+pub const MAX_READS: u32 = u32::MAX;
+
+/// A stream that refuses to read once its turns are spent. A read that gives nothing answers
+/// `WouldBlock`, whichever of three words the stream has for it; a write begins the count of those
+/// anew, so that a listener that only hears is not out of turns.
+#[derive(Drop)]
+pub(crate) struct Metered<S> {
+    stream: S,
+    reads: u32,
+    idle: u32,
+}
+
+impl<S> Metered<S> {
+    /// No reads so far.
+    pub(crate) fn new(stream: S) -> Metered<S> {
+        Metered {
+            stream,
+            reads: 0,
+            idle: 0,
+        }
+    }
+
+    /// Whether no read is left.
+    pub(crate) fn is_spent(&self) -> bool {
+        self.reads >= MAX_READS || self.idle >= MAX_IDLE_READS
+    }
+}
+
+impl<S: Read> Read for Metered<S> {
+    fn read(&mut self, buf: &mut [u8]) -> io::Result<usize> {
+        if self.is_spent() {
+            return Err(io::Error::from(ErrorKind::WouldBlock));
+        }
+        self.reads = self.reads.saturating_add(1);
+        match self.stream.read(buf) {
+            Ok(count) => {
+                self.idle = 0;
+                Ok(count)
+            }
+            Err(error) => match error.kind() {
+                ErrorKind::WouldBlock | ErrorKind::TimedOut | ErrorKind::Interrupted => {
+                    self.idle = self.idle.saturating_add(1);
+                    Err(io::Error::from(ErrorKind::WouldBlock))
+                }
+                _ => Err(error),
+            },
+        }
+    }
+}
+
+impl<S: Write> Write for Metered<S> {
+    fn write(&mut self, buf: &[u8]) -> io::Result<usize> {
+        self.idle = 0;
+        self.stream.write(buf)
+    }
+
+    fn flush(&mut self) -> io::Result<()> {
+        self.stream.flush()
+    }
+}

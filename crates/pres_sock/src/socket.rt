@@ -1,0 +1,170 @@
+//! A WebSocket over any stream.
+
+ghost use Rattle.std.specs.Prelude.{◌≡◌, false, IfErr};
+ghost use Rattle.pres_sock.specs.Ends.{is_handshake, of_shake};
+
+use crate::fault::{SockFault, stream_fault};
+use crate::meter::Metered;
+use std::alloc::Global;
+use std::io::{ErrorKind, Read, Write};
+use tungstenite::handshake::{client, server};
+use tungstenite::{
+    CloseCode, CloseFrame, Error, HandshakeError, MaskKeys, Message, NoCallback, NoMask, Utf8Bytes,
+    WebSocket, WebSocketConfig,
+};
+
+/// A socket whose reads are counted: a client's frames are masked, and a server's are not.
+pub(crate) type Socket<S, M> = WebSocket<Metered<S>, M>;
+
+// How many bytes a read asks for.
+const READ_SIZE: usize = 4096;
+
+// The most reads that wait for the peer's part of a close.
+const CLOSE_READS: u32 = 20;
+
+// The sizes of a connection's buffers.
+fn config() -> WebSocketConfig {
+    WebSocketConfig::default().read_buffer_size(READ_SIZE)
+}
+
+/// A server's handshake of RFC 6455, tried again after each read that gives nothing.
+pub(crate) fn shake<S: Read + Write + Drop>(
+    alloc: Global,
+    stream: S,
+) -> Result<Socket<S, NoMask>, SockFault> {
+    let mut mid = server::start(alloc, Metered::new(stream), NoCallback, Some(config()));
+    for _ in 0..u64::MAX {
+        mid = match mid.handshake() {
+            Ok(socket) => return Ok(socket),
+            Err(HandshakeError::Failure(error)) => return Err(shake_fault(error)),
+            Err(HandshakeError::Interrupted(next)) => {
+                if next.get_ref().is_spent() {
+                    return Err(SockFault::Turns);
+                }
+                next
+            }
+        };
+    }
+    Err(SockFault::Turns)
+}
+
+// The fault of a handshake's error, with want of memory apart.
+fn shake_fault(error: Error) -> SockFault
+    ensures { result ≡ of_shake error }
+{
+    match error {
+        Error::OutOfMemory => SockFault::Memory,
+        other => SockFault::Handshake(other),
+    }
+}
+
+// The nonce of a handshake (RFC 6455, 4.1), from four keys.
+fn nonce_of<M: MaskKeys>(keys: &mut M) -> [u8; 16] {
+    let mut nonce = [0; 16];
+    for part in nonce.chunks_mut(4) {
+        part.copy_from_slice(&keys.next_key()[..part.len().min(4)]);
+    }
+    nonce
+}
+
+/// A client's handshake, tried again after each read that gives nothing.
+pub(crate) fn connect<S: Read + Write + Drop, M: MaskKeys + Drop>(
+    alloc: Global,
+    stream: S,
+    mut keys: M,
+) -> Result<Socket<S, M>, SockFault> {
+    let nonce = nonce_of(&mut keys);
+    let request = client::request_of(alloc, "ws://presence/").map_err(shake_fault)?;
+    let stream = Metered::new(stream);
+    let mut mid = client::start(alloc, nonce, keys, request, stream, Some(config())).map_err(
+        shake_fault,
+    )?;
+    for _ in 0..u64::MAX {
+        mid = match mid.handshake() {
+            Ok((socket, _)) => return Ok(socket),
+            Err(HandshakeError::Failure(error)) => return Err(shake_fault(error)),
+            Err(HandshakeError::Interrupted(next)) => {
+                if next.get_ref().is_spent() {
+                    return Err(SockFault::Turns);
+                }
+                next
+            }
+        };
+    }
+    Err(SockFault::Turns)
+}
+
+/// What a read brought.
+#[derive(Drop)]
+pub(crate) enum Came {
+    /// A text message.
+    Text(Utf8Bytes),
+    /// A binary message.
+    Binary,
+    /// The peer's close.
+    Close,
+    /// Nothing for us.
+    Nothing,
+}
+
+/// One read. A ping is answered by the socket itself.
+pub(crate) fn read<S: Read + Write + Drop, M: MaskKeys + Drop>(
+    socket: &mut Socket<S, M>,
+) -> Result<Came, SockFault>
+    ensures { IfErr result (λ e. is_handshake e ≡ false) }
+{
+    match socket.read() {
+        Ok(Message::Text(text)) => Ok(Came::Text(text)),
+        Ok(Message::Binary(_)) => Ok(Came::Binary),
+        Ok(Message::Ping(_)) | Ok(Message::Pong(_)) => Ok(Came::Nothing),
+        Ok(Message::Close(_)) | Err(Error::ConnectionClosed) => Ok(Came::Close),
+        Err(Error::Io(error)) => {
+            if error.kind() != ErrorKind::WouldBlock {
+                return Err(SockFault::Stream(Error::Io(error)));
+            }
+            if socket.get_ref().is_spent() {
+                return Err(SockFault::Turns);
+            }
+            Ok(Came::Nothing)
+        }
+        Err(error) => Err(stream_fault(error)),
+    }
+}
+
+/// Puts the text into what is to be sent, as a message.
+pub(crate) fn write<S: Read + Write + Drop, M: MaskKeys + Drop>(
+    alloc: Global,
+    socket: &mut Socket<S, M>,
+    text: &str,
+) -> Result<(), SockFault>
+    ensures { IfErr result (λ e. is_handshake e ≡ false) }
+{
+    socket
+        .write(Message::text(alloc, text)?)
+        .map_err(stream_fault)
+}
+
+/// Sends what was written.
+pub(crate) fn flush<S: Read + Write + Drop, M: MaskKeys + Drop>(
+    socket: &mut Socket<S, M>,
+) -> Result<(), SockFault>
+    ensures { IfErr result (λ e. is_handshake e ≡ false) }
+{
+    socket.flush().map_err(stream_fault)
+}
+
+/// Closes the connection as RFC 6455, 7.1.1, has it: what the peer has still sent is read, so that
+/// it gets the close. Whatever fails then, the connection is over.
+pub(crate) fn close<S: Read + Write + Drop, M: MaskKeys + Drop>(socket: &mut Socket<S, M>) {
+    let frame = CloseFrame {
+        code: CloseCode::Normal,
+        reason: Utf8Bytes::from_static(""),
+    };
+    let _ = socket.close(Some(frame));
+    for _ in 0..CLOSE_READS {
+        match socket.read() {
+            Ok(_) | Err(Error::Io(_)) => {}
+            Err(_error) => return,
+        }
+    }
+}
