@@ -2,3 +2,4 @@ pub mod Counted
 pub mod Heard
 pub mod Fewer
 pub mod Ends
+pub mod Crossing

@@ -1,18 +1,22 @@
 -- The words that ask for `apply` are taken.
-use Rattle.std.proofs.Common.{◌≡◌, ap, sym, refl, ◌∙◌, true, List, [], ◌∷◌, codes, Option, Some, None, option_map}
+use Rattle.std.proofs.Common.{◌≡◌, ap, ap₂, sym, refl, ◌∙◌, true, List, [], ◌∷◌, codes, Option, Some, None, option_map}
 use Rattle.std.specs.Prelude.{◌&&◌}
+use Rattle.std.proofs.lemmas.Option.{none-some}
 use Rattle.clap.specs.Simple.{built, is_simple, names_of, entered, subcommand_of}
 use Rattle.clap.specs.Takes.{takes, built_takes}
-use Rattle.clap.specs.Walk.{stop_after, nothing_held, Text}
-use Rattle.clap.specs.Words.{App, HasMatchesOf, subcommand_name_of, subcommand_rows_of}
+use Rattle.clap.specs.Walk.{stop_after, nothing_held, Text, Row}
+use Rattle.std.specs.Prelude.{Box, unwrap_or}
+use Rattle.std.specs.Box.{box_value}
+use Rattle.clap.specs.Words.{App, HasMatchesOf, subcommand_name_of, subcommand_rows, subcommand_rows_of}
 use Rattle.clap.specs.declared.parser.matches.ArgMatches.{ArgMatches}
-use Rattle.clap.specs.declared.parser.matches.ArgMatches.TheViews.{out-ArgMatches}
+use Rattle.clap.specs.declared.parser.matches.ArgMatches.TheViews.{out-ArgMatches, out-SubCommand}
+use Rattle.clap.specs.declared.parser.matches.SubCommand.{SubCommand}
 use Rattle.clap.proofs.OnLiterals.{clap_on_literals}
 use Rattle.clap.specs.Words.{fault_of, is_simple_and_free}
 use Rattle.clap.specs.declared.error.kind.ErrorKind.TheVariants as kind
 use Rattle.presence.specs.Words.{AreTaken, AsksApply, program}
 
-simple : is_simple program ≡ true
+pub simple : is_simple program ≡ true
 unfolding clap_on_literals
 simple = refl
 
@@ -25,6 +29,40 @@ taken_alone = refl
 
 pub asked_is_taken : (words : List Text) → AsksApply words → takes program words ≡ true
 asked_is_taken words e = ap (λ ws. is_simple program && built_takes (built program) nothing_held ws) e ∙ taken_alone
+
+abbrev name_after : List Text → Option Text
+name_after words = option_map (λ p. p.0) (entered (built program) (stop_after (built program).top.rules (names_of (built program)) words))
+
+named_alone : name_after apply_alone ≡ Some (codes "apply")
+unfolding clap_on_literals
+named_alone = refl
+
+pub asked_name : (words : List Text) → AsksApply words → option_map (λ p. p.0) (subcommand_of program words) ≡ Some (codes "apply")
+asked_name words e = ap name_after e ∙ named_alone
+
+-- ---- the subcommand of a parse
+
+joined : {A B : Type 0} (o : Option (A × B)) (a : A) (b : B) → option_map (λ p. p.0) o ≡ Some a → option_map (λ p. p.1) o ≡ Some b → o ≡ Some (a, b)
+joined None a b e r = absurd (none-some a e)
+joined (Some (x, y)) a b e r = ap₂ (λ u v. Some (u, v)) (ap (λ o. unwrap_or o x) e) (ap (λ o. unwrap_or o y) r)
+
+name_in_rows : {Z : Type 0} (o : Option (Box SubCommand Z)) → option_map (λ p. p.0) (subcommand_rows o) ≡ option_map (λ b. (out-SubCommand (box_value b)).name.now) o
+name_in_rows None = refl
+name_in_rows (Some b) = refl
+
+-- a parse whose subcommand has this name and these rows has both
+pub parsed_subcommand : (m : ArgMatches) (name : Text) (rows : List Row) → Some name ≡ subcommand_name_of m
+    → Some rows ≡ option_map (λ p. p.1) (subcommand_rows (out-ArgMatches m).subcommand) → subcommand_rows_of m ≡ Some (name, rows)
+parsed_subcommand m name rows is_name are_rows =
+    joined (subcommand_rows_of m) name rows (name_in_rows (out-ArgMatches m).subcommand ∙ sym is_name) (sym are_rows)
+
+pub asked_is_apply : (app : App) (words : List Text) (m : ArgMatches) (name : Text) → app ≡ program → HasMatchesOf app words m
+    → Some name ≡ subcommand_name_of m → AsksApply words → name ≡ codes "apply"
+asked_is_apply app words m name same has named asks =
+    let found = (has (ap is_simple same ∙ simple)).1 in
+    let e : Some name ≡ Some (codes "apply") = named ∙ sym (name_in_rows (out-ArgMatches m).subcommand)
+    ∙ ap (option_map (λ p. p.0)) (found ∙ ap (λ a. subcommand_of a words) same) ∙ asked_name words asks in
+    ap (λ o. unwrap_or o name) e
 
 -- ---- words that are taken
 
@@ -49,10 +87,22 @@ version_asked : fault_of program (codes "presence" ∷ codes "--version" ∷ [])
 unfolding clap_on_literals
 version_asked = refl
 
-other_word : fault_of program (codes "presence" ∷ codes "serve" ∷ []) ≡ kind.UnknownArgument ∷ kind.InvalidSubcommand ∷ []
+other_word : fault_of program (codes "presence" ∷ codes "sreve" ∷ []) ≡ kind.UnknownArgument ∷ kind.InvalidSubcommand ∷ []
 unfolding clap_on_literals
 other_word = refl
 
 further_word : fault_of program (codes "presence" ∷ codes "apply" ∷ codes "x" ∷ []) ≡ kind.UnknownArgument ∷ []
 unfolding clap_on_literals
 further_word = refl
+
+no_file : fault_of program (codes "presence" ∷ codes "serve" ∷ codes "127.0.0.1:9000" ∷ []) ≡ kind.MissingRequiredArgument ∷ []
+unfolding clap_on_literals
+no_file = refl
+
+no_connections : fault_of program (codes "presence" ∷ codes "serve" ∷ codes "127.0.0.1:9000" ∷ codes "f" ∷ codes "--connections" ∷ codes "0" ∷ []) ≡ kind.ValueValidation ∷ []
+unfolding clap_on_literals
+no_connections = refl
+
+no_incarnation : fault_of program (codes "presence" ∷ codes "client" ∷ codes "127.0.0.1:9000" ∷ codes "alice" ∷ codes "0" ∷ []) ≡ kind.ValueValidation ∷ []
+unfolding clap_on_literals
+no_incarnation = refl

@@ -1,18 +1,76 @@
 -- The words of the command line.
-use Rattle.std.specs.Prelude.{◌≡◌, ℕ, true, List, [], ◌∷◌, drop, codes}
-use Rattle.clap.specs.Words.{App, Shape, new_app, with_subcommand, fault_of}
+use Rattle.std.specs.Prelude.{◌≡◌, ◌⊎◌, ℕ, true, false, List, Option, Some, [], ◌∷◌, drop, codes, option_map}
+use Rattle.clap.specs.Words.{App, Row, Rule, Shape, Text, first_of, new_app, new_rule, subcommand_of, with_rule, with_subcommand, fault_of}
+use Rattle.clap.specs.declared.builder.command.Command.{Command}
+use Rattle.clap.specs.declared.builder.command.Command.TheViews.{out-Command}
+use Rattle.clap.specs.declared.builder.value_parser.ValueParser.TheVariants as parser
+use Rattle.presence.specs.declared.words.Calling.{Calling}
+use Rattle.presence.specs.declared.words.Request.{Request}
+use Rattle.pres_service.specs.declared.serve.Serving.{Serving}
+use Rattle.presence.specs.declared.words.Request.TheVariants.{Apply, Serve, Client}
+
+-- ---- the program and its subcommands
+
+abbrev pub needed : Text → Rule
+needed id = record (new_rule id) { required = true }
+
+-- a whole number from 1 on
+abbrev pub up_to : ℕ → Rule → Rule
+up_to most rule = record rule { parser = Some (parser.Unsigned 1 most) }
+
+abbrev pub apply_shape : App
+apply_shape = new_app (codes "apply")
+
+abbrev pub serve_shape : App
+serve_shape = with_rule (with_rule (with_rule (new_app (codes "serve")) (needed (codes "ADDRESS"))) (needed (codes "FILE")))
+    (up_to 1024 (record (new_rule (codes "connections")) { long = Some (codes "connections"); value_names = 1 }))
+
+abbrev pub client_shape : App
+client_shape = with_rule (with_rule (with_rule (new_app (codes "client")) (needed (codes "ADDRESS"))) (needed (codes "ID")))
+    (up_to 9007199254740991 (needed (codes "INCARNATION")))
 
 abbrev pub on_top : Shape → Shape
 on_top s = record s { has_version = true; subcommand_required = true; disable_help_subcommand = true }
 
--- the program, which has one subcommand
 abbrev pub program : App
-program = with_subcommand (record (new_app (codes "presence")) { top = on_top (new_app (codes "presence")).top }) (new_app (codes "apply")).top
+program = with_subcommand (with_subcommand (with_subcommand
+    (record (new_app (codes "presence")) { top = on_top (new_app (codes "presence")).top })
+    apply_shape.top) serve_shape.top) client_shape.top
+
+-- no argument of the command is one of its subcommands too
+abbrev pub HasNoGlobals : Command → Type 0
+HasNoGlobals c = (out-Command c).has_globals ≡ false
+
+-- ---- what words ask for
 
 -- after the program's own name stands `apply` alone
-abbrev pub AsksApply : List (List ℕ) → Type 0
+abbrev pub AsksApply : List Text → Type 0
 AsksApply words = drop 1 words ≡ codes "apply" ∷ []
 
+-- the words name this subcommand
+abbrev Names : Text → List Text → Type 0
+Names name words = option_map (λ p. p.0) (subcommand_of program words) ≡ Some name
+
+-- the words ask for a server or a client
+abbrev pub AsksNet : List Text → Type 0
+AsksNet words = Names (codes "serve") words ⊎ Names (codes "client") words
+
 -- the words are no mistake, and ask for no help and no version
-abbrev pub AreTaken : List (List ℕ) → Type 0
+abbrev pub AreTaken : List Text → Type 0
 AreTaken words = fault_of program words ≡ []
+
+-- a server is given this address and this file
+abbrev pub IsServed : Serving → List Row → Type 0
+IsServed serving rows = (first_of (codes "ADDRESS") rows ≡ Some serving.address.now)
+    × (first_of (codes "FILE") rows ≡ Some serving.file.now)
+
+-- a client is given this address and this id
+abbrev pub IsCalled : Calling → List Row → Type 0
+IsCalled calling rows = (first_of (codes "ADDRESS") rows ≡ Some calling.address.now)
+    × (first_of (codes "ID") rows ≡ Some calling.id.now)
+
+-- the request is that of the subcommand, with what that is given
+abbrev pub IsAskedBy : Request → Option (Text × List Row) → Type 0
+IsAskedBy Apply asked = (rows : List Row) × (asked ≡ Some (codes "apply", rows))
+IsAskedBy (Serve serving) asked = (rows : List Row) × (asked ≡ Some (codes "serve", rows)) × IsServed serving rows
+IsAskedBy (Client calling) asked = (rows : List Row) × (asked ≡ Some (codes "client", rows)) × IsCalled calling rows

@@ -4,18 +4,25 @@ ghost use Rattle.std.specs.Prelude.{◌≡◌, ◌⊎◌, ◌≢◌, map};
 ghost use Rattle.clap.specs.Words.{kind_of};
 ghost use Rattle.presence.specs.Lines.{Finished, Stopped};
 ghost use Rattle.presence.specs.Statuses.{IsStatus};
-ghost use Rattle.presence.specs.Words.{AreTaken, AsksApply};
+ghost use Rattle.presence.specs.Words.{AreTaken, AsksApply, AsksNet};
 
 use crate::apply::apply_run;
 use crate::faults::RunFault;
-use crate::words::{Request, read_words};
+use crate::words::{Calling, Request, read_words};
 use clap::Error;
 use clap::error::ErrorKind;
+use pres_ids::{ClientId, IdFault};
+use pres_service::{ServiceFault, Serving, Visit, client_run, serve_run};
 use std::alloc::Global;
 use std::io;
 use std::io::{Read, Write};
+use std::net::{Net, TcpListener, TcpStream};
+use std::random::RandomSource;
+use std::sync::Wait;
+use std::thread::Threads;
+use std::time::Clock;
 
-// Exit statuses.
+// Exit statuses. Those of a server and of a client that end early are the service's.
 const DONE: u8 = 0;
 
 const REFUSED: u8 = 1;
@@ -25,31 +32,42 @@ const BAD_WORDS: u8 = 2;
 const NO_MEMORY: u8 = 5;
 
 /// Runs the program with the words of its command line, its own name first, and answers the
-/// exit status: 0 done, 1 input refused, 2 bad words, 5 out of memory.
-pub fn presence_run<R: Read, W: Write, F: Write>(
-    alloc: Global,
-    words: &[&str],
-    input: &mut R,
-    output: &mut W,
-    faults: &mut F,
-) -> u8
+/// exit status: 0 done, 1 input refused, 2 bad words, 3 file refused, 4 socket refused, 5 out of
+/// memory. A server that isn't asked to end doesn't.
+pub fn presence_run<
+    H: Net<Listener = TcpListener, Stream = TcpStream>
+        + Threads
+        + Wait
+        + Clock
+        + RandomSource
+        + Copy
+        + Sync,
+    R: Read,
+    W: Write,
+    F: Write,
+>(host: &HostRuntime, rt: &H, words: &[&str], input: &mut R, output: &mut W, faults: &mut F) -> u8
     ensures status { IsStatus result }
     ensures asked { AsksApply (map (λ word. word.now) words.now) → result ≢ 2 }
     ensures applied { AsksApply (map (λ word. word.now) words.now) → result ≡ 0
         → Finished (R.remaining input.old) (W.contents output.old) (W.contents output.new) }
     ensures untaken { ¬ AreTaken (map (λ word. word.now) words.now) → input.new ≡ input.old }
-    ensures done { result ≡ 0 → Finished (R.remaining input.old)
-        (W.contents output.old) (W.contents output.new) ⊎ (input.new ≡ input.old) }
+    ensures done { ¬ AsksNet (map (λ word. word.now) words.now) → result ≡ 0
+        → Finished (R.remaining input.old) (W.contents output.old) (W.contents output.new)
+        ⊎ (input.new ≡ input.old) }
     ensures words { result ≡ 2 → (input.new ≡ input.old) × (output.new ≡ output.old) }
-    ensures memory { result ≡ 5 → Stopped (R.remaining input.old) (R.remaining input.new)
+    ensures memory { ¬ AsksNet (map (λ word. word.now) words.now) → result ≡ 5
+        → Stopped (R.remaining input.old) (R.remaining input.new)
         (W.contents output.old) (W.contents output.new) }
 {
+    let alloc = host.alloc();
     match read_words(alloc, words) {
         Ok(Request::Apply) => {
             let status = apply_status(alloc, input, output);
             tell(status, faults);
             status
         }
+        Ok(Request::Serve(serving)) => serve_status(host, rt, alloc, serving, output, faults),
+        Ok(Request::Client(calling)) => client_status(rt, alloc, calling, input, output, faults),
         Err(error) => explain(&error, output, faults),
     }
 }
@@ -69,6 +87,82 @@ fn apply_status<R: Read, W: Write>(alloc: Global, input: &mut R, output: &mut W)
         Err(RunFault::Memory) => NO_MEMORY,
         Err(_) => REFUSED,
     }
+}
+
+// Runs `presence serve`, and answers the exit status.
+fn serve_status<
+    H: Net<Listener = TcpListener, Stream = TcpStream>
+        + Threads
+        + Wait
+        + Clock
+        + RandomSource
+        + Copy
+        + Sync,
+    W: Write,
+    F: Write,
+>(
+    host: &HostRuntime,
+    rt: &H,
+    alloc: Global,
+    serving: Serving<'_>,
+    output: &mut W,
+    faults: &mut F,
+) -> u8
+    ensures status { IsStatus result }
+    ensures words { result ≢ 2 }
+{
+    match serve_run(host, rt, alloc, serving, output, faults) {
+        Ok(()) => DONE,
+        Err(fault) => tell_fault(&fault, faults),
+    }
+}
+
+// Runs `presence client`, and answers the exit status: that of bad words where the client's id is
+// none.
+fn client_status<
+    H: Net<Listener = TcpListener, Stream = TcpStream>
+        + Threads
+        + Wait
+        + Clock
+        + RandomSource
+        + Copy
+        + Sync,
+    R: Read,
+    W: Write,
+    F: Write,
+>(rt: &H, alloc: Global, calling: Calling<'_>, input: &mut R, output: &mut W, faults: &mut F) -> u8
+    ensures status { IsStatus result }
+    ensures words { result ≡ 2 → (input.new ≡ input.old) × (output.new ≡ output.old) }
+{
+    let id = match ClientId::parse(alloc, calling.id) {
+        Ok(id) => id,
+        Err(IdFault::Memory) => {
+            tell(NO_MEMORY, faults);
+            return NO_MEMORY;
+        }
+        Err(_) => {
+            let _ = faults.write_all(b"presence: bad client id\n");
+            return BAD_WORDS;
+        }
+    };
+    let visit = Visit {
+        address: calling.address,
+        id,
+        incarnation: calling.incarnation,
+    };
+    match client_run(rt, alloc, visit, input, output) {
+        Ok(()) => DONE,
+        Err(fault) => tell_fault(&fault, faults),
+    }
+}
+
+// Says on the stream for faults why a server or a client ended early, and answers the exit status.
+fn tell_fault<F: Write>(fault: &ServiceFault, faults: &mut F) -> u8
+    ensures status { IsStatus result }
+    ensures words { result ≢ 2 }
+{
+    let _ = write!(faults, "presence: {fault}\n");
+    fault.status()
 }
 
 // Says on the stream for faults why the status is not 0. Where that stream fails nothing is left

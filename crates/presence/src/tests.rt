@@ -1,8 +1,12 @@
 use crate::program::presence_run;
-use std::alloc::Global;
 use std::io;
 use std::io::{Read, Write};
+use std::net::{Net, TcpListener, TcpStream};
+use std::random::RandomSource;
+use std::sync::Wait;
 use std::test::Fail;
+use std::thread::Threads;
+use std::time::Clock;
 
 // Gives its bytes one at a time, and then ends or fails.
 #[derive(Drop)]
@@ -58,10 +62,20 @@ struct Ran {
     faults: Vec<u8>,
 }
 
-fn run<R: Read>(alloc: Global, words: &[&str], input: &mut R) -> Ran {
+fn run<
+    H: Net<Listener = TcpListener, Stream = TcpStream>
+        + Threads
+        + Wait
+        + Clock
+        + RandomSource
+        + Copy
+        + Sync,
+    R: Read,
+>(host: &HostRuntime, rt: &H, words: &[&str], input: &mut R) -> Ran {
+    let alloc = host.alloc();
     let mut output = Vec::new(alloc);
     let mut faults = Vec::new(alloc);
-    let status = presence_run(alloc, words, input, &mut output, &mut faults);
+    let status = presence_run(host, rt, words, input, &mut output, &mut faults);
     Ran {
         status,
         output,
@@ -70,8 +84,17 @@ fn run<R: Read>(alloc: Global, words: &[&str], input: &mut R) -> Ran {
 }
 
 // Whether `presence apply` answers the input so.
-fn answers<R: Read>(alloc: Global, input: &mut R, output: &str, status: u8) -> bool {
-    let ran = run(alloc, &["presence", "apply"], input);
+fn answers<
+    H: Net<Listener = TcpListener, Stream = TcpStream>
+        + Threads
+        + Wait
+        + Clock
+        + RandomSource
+        + Copy
+        + Sync,
+    R: Read,
+>(host: &HostRuntime, rt: &H, input: &mut R, output: &str, status: u8) -> bool {
+    let ran = run(host, rt, &["presence", "apply"], input);
     let fault = if status == 1 {
         "presence: input refused\n"
     } else {
@@ -141,7 +164,7 @@ x
     ] {
         let mut whole = input.as_bytes();
         assert!(rt;
-            answers(rt.alloc(), &mut whole, output, status),
+            answers(&rt, &rt, &mut whole, output, status),
             "whole: {input}"
         );
         let mut drops = Drops {
@@ -149,7 +172,7 @@ x
             fails: false,
         };
         assert!(rt;
-            answers(rt.alloc(), &mut drops, output, status),
+            answers(&rt, &rt, &mut drops, output, status),
             "by bytes: {input}"
         );
     }
@@ -219,10 +242,10 @@ fn takes_or_refuses_lines(rt: HostRuntime) -> Result<(), Fail> {
         ),
     ] {
         let mut input = line.as_bytes();
-        assert!(rt; answers(rt.alloc(), &mut input, output, status), "{line}");
+        assert!(rt; answers(&rt, &rt, &mut input, output, status), "{line}");
     }
     let mut bytes = b"\"\xff\"\n".as_slice();
-    assert!(rt; answers(rt.alloc(), &mut bytes, "refused 12 NotJson\ntree null\n", 1));
+    assert!(rt; answers(&rt, &rt, &mut bytes, "refused 12 NotJson\ntree null\n", 1));
     Ok(())
 }
 
@@ -244,7 +267,7 @@ fn keeps_to_its_bounds(rt: HostRuntime) -> Result<(), Fail> {
         let text = format!(in alloc; "{line}{spaces}\n")?;
         let mut input = text.as_bytes();
         assert!(rt;
-            answers(alloc, &mut input, output, status),
+            answers(&rt, &rt, &mut input, output, status),
             "{part} {count} {pad}"
         );
     }
@@ -264,7 +287,7 @@ fn stops_where_a_read_fails(rt: HostRuntime) -> Result<(), Fail> {
             rest: &text.as_bytes()[..length],
             fails: true,
         };
-        assert!(rt; answers(rt.alloc(), &mut input, output, 1), "at {length}");
+        assert!(rt; answers(&rt, &rt, &mut input, output, 1), "at {length}");
     }
     Ok(())
 }
@@ -289,7 +312,7 @@ fn stops_where_a_write_fails(rt: HostRuntime) -> Result<(), Fail> {
         };
         let mut faults = Vec::new(alloc);
         let words = ["presence", "apply"];
-        let ended = presence_run(alloc, &words, &mut input, &mut output, &mut faults);
+        let ended = presence_run(&rt, &rt, &words, &mut input, &mut output, &mut faults);
         assert_eq!(rt; ended, status, "after {writes} writes");
         assert!(rt;
             output.taken.as_slice() == wanted.as_bytes(),
@@ -305,12 +328,76 @@ fn reads_its_words(rt: HostRuntime) -> Result<(), Fail> {
         (["presence"].as_slice(), 2, false, true),
         (["presence", "nosuch"].as_slice(), 2, false, true),
         (["presence", "apply", "x"].as_slice(), 2, false, true),
+        (
+            ["presence", "serve", "127.0.0.1:1"].as_slice(),
+            2,
+            false,
+            true,
+        ),
+        (
+            [
+                "presence",
+                "serve",
+                "127.0.0.1:1",
+                "f",
+                "--connections",
+                "0",
+            ]
+            .as_slice(),
+            2,
+            false,
+            true,
+        ),
+        (
+            [
+                "presence",
+                "serve",
+                "127.0.0.1:1",
+                "f",
+                "--connections",
+                "1025",
+            ]
+            .as_slice(),
+            2,
+            false,
+            true,
+        ),
+        (
+            ["presence", "serve", "127.0.0.1:1", "/no/such/folder/f"].as_slice(),
+            3,
+            false,
+            true,
+        ),
+        (
+            ["presence", "client", "127.0.0.1:1", "alice"].as_slice(),
+            2,
+            false,
+            true,
+        ),
+        (
+            ["presence", "client", "127.0.0.1:1", "alice", "0"].as_slice(),
+            2,
+            false,
+            true,
+        ),
+        (
+            ["presence", "client", "127.0.0.1:1", "a b", "1"].as_slice(),
+            2,
+            false,
+            true,
+        ),
+        (
+            ["presence", "client", "127.0.0.1:1", "alice", "1"].as_slice(),
+            4,
+            false,
+            true,
+        ),
         (["presence", "--help"].as_slice(), 0, true, false),
         (["presence", "--version"].as_slice(), 0, true, false),
         (["presence", "apply"].as_slice(), 0, true, false),
     ] {
         let mut input = b"".as_slice();
-        let ran = run(rt.alloc(), words, &mut input);
+        let ran = run(&rt, &rt, words, &mut input);
         assert_eq!(rt; ran.status, status, "{words:?}");
         assert_eq!(rt; !ran.output.is_empty(), writes, "{words:?}");
         assert_eq!(rt; !ran.faults.is_empty(), faults, "{words:?}");
@@ -321,13 +408,7 @@ fn reads_its_words(rt: HostRuntime) -> Result<(), Fail> {
     };
     let mut faults = Vec::new(rt.alloc());
     let words = ["presence", "--help"];
-    let ended = presence_run(
-        rt.alloc(),
-        &words,
-        &mut io::empty(),
-        &mut output,
-        &mut faults,
-    );
+    let ended = presence_run(&rt, &rt, &words, &mut io::empty(), &mut output, &mut faults);
     assert_eq!(rt; ended, 1);
     Ok(())
 }

@@ -1,49 +1,177 @@
 //! The words of the command line.
 
-ghost use Rattle.std.specs.Prelude.{◌≡◌, IfOk, MatchResult, map};
-ghost use Rattle.clap.specs.Words.{app_of, kind_of};
+ghost use Rattle.std.specs.Prelude.{◌≡◌, Some, IfOk, IfSome, MatchResult, codes, map};
+ghost use Rattle.clap.specs.Words.{app_of, found_of, kind_of, rows_of, subcommand_of};
 ghost use Rattle.clap.specs.declared.error.kind.ErrorKind.TheVariants.{OutOfMemory};
-ghost use Rattle.presence.specs.Words.{AreTaken, AsksApply, program};
+ghost use Rattle.presence.specs.Words.{AreTaken, AsksApply, HasNoGlobals, IsAskedBy, IsCalled, IsServed};
+ghost use Rattle.presence.specs.Words.{apply_shape, client_shape, program, serve_shape};
 
-use clap::{Command, Error};
+use clap::builder::ValueParser;
+use clap::error::ErrorKind;
+use clap::{Arg, ArgMatches, Command, Error};
+use pres_ids::Number;
+use pres_service::Serving;
 use std::alloc::{AllocError, Global};
 
+// The most connections that a server may be asked to end after.
+const MOST_CONNECTIONS: u64 = 1_024;
+
+// The greatest number of a client's start: 2^53 - 1.
+const MOST_INCARNATIONS: u64 = 9_007_199_254_740_991;
+
 /// What the program is asked to do.
-#[derive(Clone, Copy, Debug, PartialEq, Eq)]
-pub enum Request {
+#[derive(Clone, Copy)]
+pub enum Request<'a> {
     /// Answers operations from the input with replies and the tree.
     Apply,
+    /// Serves connections over TCP.
+    Serve(Serving<'a>),
+    /// Does what the input's lines say as a client of a server.
+    Client(Calling<'a>),
+}
+
+/// Where a client goes, and as whom.
+#[derive(Clone, Copy)]
+pub struct Calling<'a> {
+    pub address: &'a str,
+    pub id: &'a str,
+    pub incarnation: Number,
+}
+
+fn apply_command<'a>(alloc: Global) -> Command<'a>
+    ensures app { app_of result ≡ apply_shape }
+    ensures local { HasNoGlobals result }
+{
+    Command::new(alloc, "apply").about(
+        "Carries out operations, a JSON line each, and prints replies and the tree",
+    )
+}
+
+fn serve_command<'a>(alloc: Global) -> Result<Command<'a>, AllocError>
+    ensures app { IfOk result (λ made. app_of made ≡ serve_shape) }
+    ensures local { IfOk result (λ made. HasNoGlobals made) }
+{
+    let address = Arg::new(alloc, "ADDRESS")
+        .required(true)
+        .help("Where it listens, as 127.0.0.1:9000");
+    let file = Arg::new(alloc, "FILE").required(true).help(
+        "The file that keeps the tree's history; made where there is none",
+    );
+    let connections = Arg::new(alloc, "connections")
+        .long("connections")
+        .value_name("N")
+        .value_parser(ValueParser::unsigned(1, MOST_CONNECTIONS))
+        .help("Ends once so many connections have ended");
+    Command::new(alloc, "serve")
+        .about("Serves connections over WebSocket")
+        .arg(address)?
+        .arg(file)?
+        .arg(connections)
+}
+
+fn client_command<'a>(alloc: Global) -> Result<Command<'a>, AllocError>
+    ensures app { IfOk result (λ made. app_of made ≡ client_shape) }
+    ensures local { IfOk result (λ made. HasNoGlobals made) }
+{
+    let address = Arg::new(alloc, "ADDRESS")
+        .required(true)
+        .help("Where the server listens");
+    let id = Arg::new(alloc, "ID")
+        .required(true)
+        .help("The client's name: 1 to 128 of A-Z, a-z, 0-9, _ and -");
+    let incarnation = Arg::new(alloc, "INCARNATION")
+        .required(true)
+        .value_parser(ValueParser::unsigned(1, MOST_INCARNATIONS))
+        .help("Which start of the client this is: a greater number each time");
+    Command::new(alloc, "client")
+        .about("Makes the calls that the input's lines say, and prints what it is told")
+        .arg(address)?
+        .arg(id)?
+        .arg(incarnation)
 }
 
 fn command<'a>(alloc: Global) -> Result<Command<'a>, AllocError>
     ensures { IfOk result (λ made. app_of made ≡ program) }
 {
-    let apply = Command::new(alloc, "apply").about(
-        "Carries out operations, a JSON line each, and prints replies and the tree",
-    );
+    let serve = serve_command(alloc)?;
+    let client = client_command(alloc)?;
     Command::new(alloc, "presence")
         .version("0.1.0")
         .about("A presence server: one shared JSON tree, with actions at disconnection")
         .subcommand_required(true)
         .disable_help_subcommand(true)
-        .subcommand(apply)
+        .subcommand(apply_command(alloc))?
+        .subcommand(serve)?
+        .subcommand(client)
 }
 
 /// Reads the words of the command line, the program's name first.
-pub fn read_words<'a>(alloc: Global, words: &'a [&'a str]) -> Result<Request, Error>
+pub fn read_words<'a>(alloc: Global, words: &'a [&'a str]) -> Result<Request<'a>, Error>
     ensures apply { AsksApply (map (λ word. word.now) words.now) → MatchResult result
         (λ request. request ≡ Request.Apply)
         (λ e. kind_of e ≡ OutOfMemory) }
     ensures taken { IfOk result (λ _. AreTaken (map (λ word. word.now) words.now)) }
+    ensures asked { IfOk result (λ request.
+        IsAskedBy request (subcommand_of program (map (λ word. word.now) words.now))) }
 {
     let command = command(alloc)?;
     let matches = command.try_get_matches_from(words)?;
-    let Some((name, _)) = matches.subcommand() else {
+    let Some((name, given)) = matches.subcommand() else {
         unreachable!()
     };
-    if name == "apply" {
-        Ok(Request::Apply)
-    } else {
-        unreachable!()
+    match request_of(name, given) {
+        Some(request) => Ok(request),
+        None => Err(lacking(alloc)?),
     }
+}
+
+// What is asked by a subcommand with what it is given: none where that is not enough.
+fn request_of<'a>(name: &str, given: &ArgMatches<'a>) -> Option<Request<'a>>
+    ensures apply { name.now ≡ codes "apply" → result ≡ Some Request.Apply }
+    ensures asked { IfSome result (λ request.
+        IsAskedBy request (Some (name.now, rows_of (found_of given.now)))) }
+{
+    if name == "apply" {
+        return Some(Request::Apply);
+    }
+    if name == "serve" {
+        return match server_of(given) {
+            Some(serving) => Some(Request::Serve(serving)),
+            None => None,
+        };
+    }
+    if name == "client" {
+        return match client_of(given) {
+            Some(calling) => Some(Request::Client(calling)),
+            None => None,
+        };
+    }
+    None
+}
+
+// What a server is given.
+fn server_of<'a>(given: &ArgMatches<'a>) -> Option<Serving<'a>>
+    ensures { IfSome result (λ serving. IsServed serving (rows_of (found_of given.now))) }
+{
+    Some(Serving {
+        address: given.get_str("ADDRESS")?,
+        file: given.get_str("FILE")?,
+        connections: given.get_one("connections"),
+    })
+}
+
+// What a client is given.
+fn client_of<'a>(given: &ArgMatches<'a>) -> Option<Calling<'a>>
+    ensures { IfSome result (λ calling. IsCalled calling (rows_of (found_of given.now))) }
+{
+    Some(Calling {
+        address: given.get_str("ADDRESS")?,
+        id: given.get_str("ID")?,
+        incarnation: Number::new(given.get_one("INCARNATION")?)?,
+    })
+}
+
+// The mistake that a subcommand lacks what it needs.
+fn lacking(alloc: Global) -> Result<Error, AllocError> {
+    command(alloc)?.error(ErrorKind::MissingRequiredArgument, "an argument is missing")
 }

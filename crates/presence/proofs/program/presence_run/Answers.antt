@@ -4,10 +4,10 @@ use Rattle.presence.proofs.Going.{stopped_none}
 use Rattle.presence.proofs.program.presence_run.Goals as goal
 
 pub returns-in-Err-clause-memory : goal.returns-in-Err-clause-memory
-returns-in-Err-clause-memory g c = λ is.
+returns-in-Err-clause-memory g c = λ _ is.
     let input = g.R.Read.remaining c.args.input.now in
     let before = g.W.Write.contents c.args.output.now in
     subst (λ x. Stopped input input before (g.W.Write.contents x)) (sym (c.explain.ensures.memory is)) (stopped_none input before)
 
 pub returns-in-Err-clause-done : goal.returns-in-Err-clause-done
-returns-in-Err-clause-done g c = λ is. inr refl
+returns-in-Err-clause-done g c = λ _ is. inr refl

@@ -1,9 +1,11 @@
-use Rattle.std.proofs.Common.{rules, refl, ap, subst, sym, ◌∙◌, ◌≡◌, true, List, map, codes, Result, Ok, Err, MatchResult}
+use Rattle.std.proofs.Common.{rules, ap, subst, sym, ◌∙◌, ◌≡◌, true, List, map, Result, Ok, Err, MatchResult}
 use Rattle.std.specs.Result.{IsErrAnd}
 use Rattle.clap.specs.Words.{app_of, kind_of}
 use Rattle.clap.specs.Walk.{Text}
 use Rattle.clap.specs.Takes.{takes}
-use Rattle.presence.proofs.Asked.{asked_is_taken, parsed_is_taken}
+use Rattle.std.specs.Prelude.{unwrap_or}
+use Rattle.std.proofs.lemmas.Option.{none-some}
+use Rattle.presence.proofs.Asked.{asked_is_apply, asked_is_taken, parsed_is_taken}
 use Rattle.presence.proofs.words.read_words.Goals as goal
 
 -- what `?` passes up
@@ -18,10 +20,17 @@ returns-in_err-matches c = record {
       let taken : takes (app_of c.in_ok-command.command) words ≡ true = ap (λ a. takes a words) c.in_ok-command.ensures ∙ asked_is_taken words asks in
       passed c.from_residual-in_err-matches.result c.in_err-matches.field-0.0 _ (λ e. kind_of e ≡ _) c.from_residual-in_err-matches.ensures.1 (c.in_err-matches.ensures.passes taken);
   taken = search rules;
+  asked = search rules;
 }
 
-pub returns-clause-taken : goal.returns-clause-taken
-returns-clause-taken c = parsed_is_taken _ _ c.in_ok-command.ensures c.in_ok-matches.ensures.kinds
+pub returns-in-Some-request_of-clause-apply : goal.returns-in-Some-request_of-clause-apply
+returns-in-Some-request_of-clause-apply c = λ asks.
+    ap (λ o. unwrap_or o c.in-Some-request_of.request)
+    (c.in-Some-request_of.ensures.apply (asked_is_apply _ _ _ _ c.in_ok-command.ensures c.in_ok-matches.ensures.matches c.in-Some.ensures.name asks))
+
+pub returns-in-Some-request_of-clause-taken : goal.returns-in-Some-request_of-clause-taken
+returns-in-Some-request_of-clause-taken c = parsed_is_taken _ _ c.in_ok-command.ensures c.in_ok-matches.ensures.kinds
 
 pub returns-clause-apply : goal.returns-clause-apply
-returns-clause-apply c = λ _. refl
+returns-clause-apply c = λ asks.
+    absurd (none-some _ (c.in-None.ensures.apply (asked_is_apply _ _ _ _ c.in_ok-command.ensures c.in_ok-matches.ensures.matches c.in-Some.ensures.name asks)))

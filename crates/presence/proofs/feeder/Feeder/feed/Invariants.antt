@@ -1,4 +1,4 @@
-use Rattle.std.proofs.Common.{ℕ, List, length, ◌++◌, ◌+◌, ◌≤◌}
+use Rattle.std.proofs.Common.{ℕ, List, length, ◌+◌, ◌≤◌}
 use Rattle.presence.specs.Lines.{IsFeedless, Holds, Midway}
 use Rattle.presence.proofs.feeder.Feeder.feed.Given as goal
 

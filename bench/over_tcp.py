@@ -1,0 +1,145 @@
+"""A server that runs over a file, and a client of it over a WebSocket, for bench/serve and bench/crash."""
+
+import contextlib
+import json
+import os
+import random
+import resource
+import select
+import shutil
+import socket
+import sqlite3
+import subprocess
+import sys
+import tempfile
+import time
+
+TOP = os.path.dirname(os.path.dirname(os.path.abspath(__file__)))
+PROGRAM = os.path.join(TOP, "crates", "presence", "out", "presence")
+
+UPGRADE = (
+    b"GET / HTTP/1.1\r\nHost: presence\r\nUpgrade: websocket\r\nConnection: Upgrade\r\n"
+    b"Sec-WebSocket-Key: dGhlIHNhbXBsZSBub25jZQ==\r\nSec-WebSocket-Version: 13\r\n\r\n")
+
+# How long, in seconds, a server may take to listen and to answer.
+PATIENCE = 60
+
+
+def program_at(path):
+    """The program's whole path, or the end of this run where there is none."""
+    if not os.access(path, os.X_OK):
+        sys.exit("no program at %s: ./presence builds it on its first use" % path)
+    return os.path.abspath(path)
+
+
+def raise_descriptors():
+    """Lets this process, and those that it starts, have as many open files as the system allows it."""
+    _, most = resource.getrlimit(resource.RLIMIT_NOFILE)
+    resource.setrlimit(resource.RLIMIT_NOFILE, (most, most))
+
+
+def free_port():
+    """A port where nobody listens, below those that the system gives to clients: a client that tries a port of those
+    over and over may be connected with itself."""
+    while True:
+        with socket.socket() as tried:
+            port = random.SystemRandom().randrange(20000, 32000)
+            try:
+                tried.bind(("127.0.0.1", port))
+                return port
+            except OSError:
+                pass
+
+
+def batches_of(file):
+    """The rows of a server's file that nobody has open: those of a copy, so that the file stays as it is."""
+    with tempfile.TemporaryDirectory(dir=os.path.dirname(file)) as folder:
+        copy = os.path.join(folder, "copy")
+        for end in ("", "-wal"):
+            if os.path.exists(file + end):
+                shutil.copyfile(file + end, copy + end)
+        with contextlib.closing(sqlite3.connect(copy)) as database:
+            return database.execute("SELECT k, moment, body FROM batch ORDER BY k").fetchall()
+
+
+class Server:
+    """The program, serving a file at a port of this machine. It is killed at the end of a `with`."""
+
+    def __init__(self, program, file, port=None):
+        self.port = port or free_port()
+        words = [program, "serve", "127.0.0.1:%d" % self.port, file]
+        self.started = time.perf_counter()
+        self.process = subprocess.Popen(words, stdout=subprocess.PIPE, stderr=subprocess.PIPE, text=True)
+
+    def __enter__(self):
+        self.wait()
+        return self
+
+    def __exit__(self, *_):
+        self.kill()
+
+    def wait(self):
+        """Waits until it listens: how many seconds after its start that was."""
+        ready, _, _ = select.select([self.process.stdout], [], [], PATIENCE)
+        line = self.process.stdout.readline() if ready else ""
+        if not line.startswith("listening "):
+            self.process.kill()
+            sys.exit("the server doesn't listen: %s" % (line + self.process.stderr.read()).strip())
+        return time.perf_counter() - self.started
+
+    def kill(self):
+        """Kills it: what it had said on its stream for faults."""
+        self.process.kill()
+        _, said = self.process.communicate()
+        return said.strip()
+
+
+class Client:
+    """A connection with a session: a JSON message in each text. What it can't do is a ConnectionError."""
+
+    def __init__(self, port, session):
+        self.socket = socket.create_connection(("127.0.0.1", port), PATIENCE)
+        self.socket.setsockopt(socket.IPPROTO_TCP, socket.TCP_NODELAY, 1)
+        self.file = self.socket.makefile("rb")
+        self.session, self.q = session, 0
+        self.socket.sendall(UPGRADE)
+        if b" 101 " not in self.file.readline():
+            raise ConnectionError("no upgrade")
+        while self.file.readline().strip():
+            pass
+        self.say(m="hello")
+        self.welcome = self.hear()
+
+    def __enter__(self):
+        return self
+
+    def __exit__(self, *_):
+        self.file.close()
+        self.socket.close()
+
+    def say(self, **message):
+        """Sends it, masked with the key 0."""
+        text = json.dumps({"s": self.session, **message}, separators=(",", ":")).encode()
+        length = bytes([0x80 | len(text)]) if len(text) < 126 else bytes([0xFE]) + len(text).to_bytes(2, "big")
+        self.socket.sendall(b"\x81" + length + bytes(4) + text)
+
+    def hear(self):
+        """The next message."""
+        kind, length = self.read(2)
+        if length > 125:
+            length = int.from_bytes(self.read(2 if length == 126 else 8), "big")
+        if kind != 0x81:
+            raise ConnectionError("the server closed the connection")
+        return json.loads(self.read(length))
+
+    def read(self, count):
+        found = self.file.read(count)
+        if len(found) < count:
+            raise ConnectionError("the connection ended")
+        return found
+
+    def ask(self, **message):
+        """Sends the session's next message: what comes next, its answer where it listens to nothing."""
+        self.q += 1
+        self.say(q=self.q, **message)
+        return self.hear()

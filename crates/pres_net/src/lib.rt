@@ -1,0 +1,14 @@
+//! The connections of the machine: TCP streams whose waiting reads a bell ends, a thread for each
+//! connection of a hub, and one that looks each second which sessions are to end.
+#![tactic(auto)]
+
+mod alarm;
+mod crowd;
+mod serve;
+mod stop;
+mod wakeable;
+
+pub use alarm::StreamBell;
+pub use crowd::Crowd;
+pub use serve::{WallClock, serve_connections};
+pub use wakeable::Wakeable;

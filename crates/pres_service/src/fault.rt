@@ -1,0 +1,85 @@
+//! Why a server or a client ends early.
+
+ghost use Rattle.std.specs.Prelude.{◌≡◌};
+ghost use Rattle.pres_service.specs.Faults.{status_of};
+
+use pres_hub::HubFault;
+use pres_saved::SavedFault;
+use pres_sock::SockFault;
+use std::alloc::{AllocError, AllocFailed};
+use thiserror::Error;
+
+/// Why a server or a client ends early. Its text is what the program says of it.
+#[derive(Debug, Drop, Error)]
+pub enum ServiceFault {
+    /// An allocation was refused.
+    #[error("out of memory")]
+    Memory,
+    /// The input is refused or could not be read, or the output could not be written.
+    #[error("input refused")]
+    Input,
+    /// The file is refused.
+    #[error("store refused {n}", n = .0.number())]
+    Store(SavedFault),
+    /// The address can't be bound or reached.
+    #[error("socket refused 2")]
+    Address,
+    /// The connection ended.
+    #[error("socket refused {n}", n = .0.number())]
+    Sock(SockFault),
+}
+
+impl ServiceFault {
+    /// The program's exit status.
+    pub fn status(&self) -> u8
+        ensures { result ≡ status_of self.now }
+    {
+        match self {
+            ServiceFault::Input => 1,
+            ServiceFault::Store(_) => 3,
+            ServiceFault::Address | ServiceFault::Sock(_) => 4,
+            ServiceFault::Memory => 5,
+        }
+    }
+}
+
+impl From<SavedFault> for ServiceFault {
+    fn from(fault: SavedFault) -> ServiceFault {
+        match fault {
+            SavedFault::Memory => ServiceFault::Memory,
+            other => ServiceFault::Store(other),
+        }
+    }
+}
+
+impl From<HubFault> for ServiceFault {
+    fn from(fault: HubFault) -> ServiceFault {
+        match fault {
+            HubFault::Memory => ServiceFault::Memory,
+            HubFault::Keeper(fault) => ServiceFault::from(fault),
+            other => ServiceFault::Sock(SockFault::Hub(other)),
+        }
+    }
+}
+
+impl From<SockFault> for ServiceFault {
+    fn from(fault: SockFault) -> ServiceFault {
+        match fault {
+            SockFault::Memory => ServiceFault::Memory,
+            SockFault::Hub(fault) => ServiceFault::from(fault),
+            other => ServiceFault::Sock(other),
+        }
+    }
+}
+
+impl From<AllocError> for ServiceFault {
+    fn from(_refused: AllocError) -> ServiceFault {
+        ServiceFault::Memory
+    }
+}
+
+impl<T: Drop> From<AllocFailed<T>> for ServiceFault {
+    fn from(_refused: AllocFailed<T>) -> ServiceFault {
+        ServiceFault::Memory
+    }
+}

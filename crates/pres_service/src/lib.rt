@@ -1,0 +1,12 @@
+//! What `presence serve` and `presence client` do: a server over TCP that is kept in a file, and the
+//! calls of a client over TCP.
+#![tactic(auto)]
+
+mod client;
+mod fault;
+mod lines;
+mod serve;
+
+pub use client::{Visit, client_run};
+pub use fault::ServiceFault;
+pub use serve::{Serving, serve_run};

@@ -1,0 +1,234 @@
+//! `presence serve`: a server over TCP, kept in a file.
+
+ghost use Rattle.std.specs.Prelude.{◌≡◌, ◌^◌};
+ghost use Rattle.pres_saved.specs.Keeps.{IsReady};
+
+use crate::fault::ServiceFault;
+use pres_engine::{Premise, SavedFault, SqlKeeper, Supposed};
+use pres_hub::{Core, Hub, Keeper, OpenGate};
+use pres_net::{StreamBell, WallClock, serve_connections};
+use pres_server::Moment;
+use sqlite::{Alter, Connection};
+use std::alloc::Global;
+use std::fs;
+use std::io::{ErrorKind, Write};
+use std::marker::Brand;
+use std::net::{Net, TcpListener, TcpStream};
+use std::sync::Wait;
+use std::sync::ledger::{Blank, Ledger};
+use std::thread::Threads;
+use std::time::{Clock, Instant};
+
+/// What a server is asked for: where it listens, where it keeps its batches, and how many
+/// connections it serves, none where it goes on.
+#[derive(Clone, Copy)]
+pub struct Serving<'a> {
+    pub address: &'a str,
+    pub file: &'a str,
+    pub connections: Option<u32>,
+}
+
+/// Opens the file, or makes its tables where it is absent or empty, goes over what it holds, listens
+/// at the address, and serves connections. It says on the output where it listens, once it does, and
+/// at its end the number of the last entry; on the stream for faults, over an old file, how many
+/// entries it has and how long it took to read them.
+pub fn serve_run<R, W: Write, F: Write>(
+    host: &HostRuntime,
+    rt: &R,
+    alloc: Global,
+    serving: Serving<'_>,
+    output: &mut W,
+    faults: &mut F,
+) -> Result<(), ServiceFault>
+where
+    R: Net<Listener = TcpListener, Stream = TcpStream> + Threads + Wait + Clock + Sync,
+{
+    let is_new = is_empty(host, serving.file);
+    let Ok(connection) = Connection::open(host, serving.file) else {
+        return Err(ServiceFault::from(SavedFault::Database));
+    };
+    let keeper = keeper_of(alloc, connection, is_new)?;
+    let number = granted(rt, alloc, keeper, serving, is_new, output, faults)?;
+    match writeln!(output, "number {number}") {
+        Ok(()) => Ok(()),
+        Err(_) => Err(ServiceFault::Input),
+    }
+}
+
+// Whether there is no such file, or one without a byte, as a server leaves it that was stopped
+// before it had made its tables.
+fn is_empty(host: &HostRuntime, file: &str) -> bool {
+    match fs::metadata(host, file) {
+        Ok(found) => found.len() == 0,
+        Err(error) => error.kind() == ErrorKind::NotFound,
+    }
+}
+
+// What keeps the batches: the tables that are found, or are made in a new file. A file of no bytes
+// may have tables all the same, in the log beside it.
+fn keeper_of<S: Alter + Drop>(
+    alloc: Global,
+    connection: Connection<S>,
+    is_new: bool,
+) -> Result<SqlKeeper<S>, SavedFault> {
+    if !connection.is_autocommit() {
+        drop(connection);
+        return Err(SavedFault::Database);
+    }
+    match SqlKeeper::open(alloc, connection) {
+        Ok(keeper) => Ok(keeper),
+        Err((SavedFault::NotOurs, connection)) => made(alloc, connection, is_new),
+        Err((fault, connection)) => {
+            drop(connection);
+            Err(fault)
+        }
+    }
+}
+
+// The tables made in a new file.
+fn made<S: Alter + Drop>(
+    alloc: Global,
+    connection: Connection<S>,
+    is_new: bool,
+) -> Result<SqlKeeper<S>, SavedFault> {
+    if !is_new || !connection.is_autocommit() {
+        drop(connection);
+        return Err(SavedFault::NotOurs);
+    }
+    match SqlKeeper::create(alloc, connection) {
+        Ok(keeper) => Ok(keeper),
+        Err((fault, connection)) => {
+            drop(connection);
+            Err(fault)
+        }
+    }
+}
+
+// The number of the last entry. That the tables which were found are those of the statements is
+// taken for granted.
+fn granted<S: Alter + Drop + Send, R, W: Write, F: Write>(
+    rt: &R,
+    alloc: Global,
+    keeper: SqlKeeper<S>,
+    serving: Serving<'_>,
+    is_new: bool,
+    output: &mut W,
+    faults: &mut F,
+) -> Result<u64, ServiceFault>
+where
+    R: Net<Listener = TcpListener, Stream = TcpStream> + Threads + Wait + Clock + Sync,
+{
+    supposing::<Brand, S, R, W, F>(rt, alloc, keeper, serving, is_new, output, faults)
+}
+
+// The same, where a premise says that the keeper is ready.
+fn supposing<P: Premise + Send, S: Alter + Drop + Send, R, W: Write, F: Write>(
+    rt: &R,
+    alloc: Global,
+    keeper: SqlKeeper<S>,
+    serving: Serving<'_>,
+    is_new: bool,
+    output: &mut W,
+    faults: &mut F,
+) -> Result<u64, ServiceFault>
+where
+    R: Net<Listener = TcpListener, Stream = TcpStream> + Threads + Wait + Clock + Sync,
+    requires { P.holds → IsReady S.Store keeper }
+{
+    let keeper = Supposed::<SqlKeeper<S>, P>::new(keeper);
+    counted::<Supposed<SqlKeeper<S>, P>, R, W, F>(
+        rt, alloc, keeper, serving, is_new, output, faults,
+    )
+}
+
+// The same over a keeper.
+fn counted<K: Keeper + Drop + Send, R, W: Write, F: Write>(
+    rt: &R,
+    alloc: Global,
+    keeper: K,
+    serving: Serving<'_>,
+    is_new: bool,
+    output: &mut W,
+    faults: &mut F,
+) -> Result<u64, ServiceFault>
+where
+    R: Net<Listener = TcpListener, Stream = TcpStream> + Threads + Wait + Clock + Sync,
+    requires ready { K.ready keeper }
+{
+    let blank = Blank::new(1 << 53);
+    served::<Brand, K, R, W, F>(rt, alloc, blank, keeper, serving, is_new, output, faults)
+}
+
+// The same with a ledger that the caller picks.
+fn served<L: Ledger + Send + Sync, K: Keeper + Drop + Send, R, W: Write, F: Write>(
+    rt: &R,
+    alloc: Global,
+    blank: Blank,
+    keeper: K,
+    serving: Serving<'_>,
+    is_new: bool,
+    output: &mut W,
+    faults: &mut F,
+) -> Result<u64, ServiceFault>
+where
+    R: Net<Listener = TcpListener, Stream = TcpStream> + Threads + Wait + Clock + Sync,
+    requires name { blank.name ≡ L.name }
+    requires parts { blank.parts ≡ L.parts }
+    requires whole { blank.parts ≡ 2 ^ 53 }
+    requires ready { K.ready keeper }
+{
+    let start = Instant::now(rt).ok();
+    let now = Moment::at(pres_sock::Clock::now(&mut WallClock::new(rt)));
+    let core = match Core::<L, K, StreamBell>::start(alloc, blank, keeper, now) {
+        Ok(core) => core,
+        Err((fault, keeper)) => {
+            drop(keeper);
+            return Err(ServiceFault::from(fault));
+        }
+    };
+    if !is_new {
+        tell_start(rt, core.number(), start, faults);
+    }
+    match listening(rt, serving.address, output) {
+        Ok(listener) => {
+            let hub = Hub::new(core, OpenGate);
+            serve_connections(rt, alloc, &hub, &listener, serving.connections);
+            Ok(hub.into_core().finish().number())
+        }
+        Err(fault) => {
+            drop(core.finish());
+            Err(fault)
+        }
+    }
+}
+
+// Listens at the address, and says so.
+fn listening<R: Net<Listener = TcpListener, Stream = TcpStream>, W: Write>(
+    rt: &R,
+    address: &str,
+    output: &mut W,
+) -> Result<TcpListener, ServiceFault> {
+    let Ok(listener) = TcpListener::bind(rt, address) else {
+        return Err(ServiceFault::Address);
+    };
+    let told = match writeln!(output, "listening {address}") {
+        Ok(()) => output.flush(),
+        Err(error) => Err(error),
+    };
+    match told {
+        Ok(()) => Ok(listener),
+        Err(_) => Err(ServiceFault::Input),
+    }
+}
+
+// How many entries an old file has, and how long it took to read them.
+fn tell_start<R: Clock, F: Write>(rt: &R, number: u64, start: Option<Instant>, faults: &mut F) {
+    let Some(start) = start else {
+        return;
+    };
+    let Ok(spent) = start.elapsed(rt) else {
+        return;
+    };
+    let millis = spent.as_millis();
+    let _ = writeln!(faults, "presence: {number} entries read in {millis} ms");
+}
