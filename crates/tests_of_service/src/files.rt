@@ -1,0 +1,51 @@
+//! Where a server of a test listens, and where it keeps its history.
+
+use sqlite::Connection;
+use std::fs;
+use std::net::{Net, TcpListener, TcpStream};
+use std::test::Fail;
+
+/// An address at which nobody listens, and the name of a file that isn't there.
+#[derive(Drop)]
+pub(crate) struct Place {
+    pub(crate) address: String,
+    pub(crate) file: String,
+}
+
+/// A place of this name.
+pub(crate) fn new_place<R: Net<Listener = TcpListener, Stream = TcpStream>>(
+    host: &HostRuntime,
+    rt: &R,
+    name: &str,
+) -> Result<Place, Fail> {
+    let listener = TcpListener::bind(rt, "127.0.0.1:0")?;
+    let port = listener.local_addr()?.port();
+    drop(listener);
+    let place = Place {
+        address: format!(in host.alloc(); "127.0.0.1:{port}")?,
+        file: format!(in host.alloc(); "/tmp/presence_{name}_{port}")?,
+    };
+    place.clear(host);
+    Ok(place)
+}
+
+impl Place {
+    /// Removes the files.
+    pub(crate) fn clear(&self, host: &HostRuntime) {
+        for end in ["", "-wal", "-shm", ".other"] {
+            if let Ok(name) = format!(in host.alloc(); "{}{end}", self.file) {
+                let _ = fs::remove_file(host, name.as_str());
+            }
+        }
+    }
+
+    /// The name of a database with a table of another program.
+    pub(crate) fn foreign(&self, host: &HostRuntime) -> Result<String, Fail> {
+        let name = format!(in host.alloc(); "{}.other", self.file)?;
+        let mut connection = Connection::open(host, name.as_str())?;
+        let made = connection.execute("CREATE TABLE other(x INTEGER)", &[]);
+        drop(connection);
+        made?;
+        Ok(name)
+    }
+}

@@ -1,0 +1,263 @@
+//! Clients that visit a server, over TCP and a file.
+
+use crate::board::{Board, Pen};
+use crate::files::{Place, new_place};
+use pres_ids::{ClientId, Number};
+use pres_service::{ServiceFault, Serving, Visit, client_run, serve_run};
+use std::alloc::Global;
+use std::io::Write;
+use std::net::{Net, TcpListener, TcpStream};
+use std::random::RandomSource;
+use std::sync::Wait;
+use std::test::Fail;
+use std::thread;
+use std::thread::Threads;
+use std::time::{Clock, Duration};
+
+// Who visits a server, and what the client's lines are.
+#[derive(Clone, Copy)]
+struct Visitor {
+    id: &'static str,
+    incarnation: u64,
+    lines: &'static str,
+}
+
+// What a server printed, and its exit status.
+fn serve<R: Net<Listener = TcpListener, Stream = TcpStream> + Threads + Wait + Clock + Sync>(
+    host: &HostRuntime,
+    rt: &R,
+    serving: Serving<'_>,
+) -> (u8, Vec<u8>) {
+    let mut output = Vec::new(host.alloc());
+    let mut faults = Vec::new(host.alloc());
+    let status = match serve_run(host, rt, host.alloc(), serving, &mut output, &mut faults) {
+        Ok(()) => 0,
+        Err(fault) => fault.status(),
+    };
+    (status, output)
+}
+
+// The exit status of the visitor's client, which tries again until the server listens.
+fn visit<
+    R: Net<Listener = TcpListener, Stream = TcpStream> + RandomSource + Clock + Wait + Copy,
+    W: Write,
+>(rt: &R, alloc: Global, address: &str, visitor: Visitor, output: &mut W) -> u8 {
+    for _ in 0..500 {
+        let Ok(id) = ClientId::parse(alloc, visitor.id) else {
+            return 2;
+        };
+        let Some(incarnation) = Number::new(visitor.incarnation) else {
+            return 2;
+        };
+        let visit = Visit {
+            address,
+            id,
+            incarnation,
+        };
+        match client_run(rt, alloc, visit, &mut visitor.lines.as_bytes(), output) {
+            Ok(()) => return 0,
+            Err(ServiceFault::Address) => thread::sleep(rt, Duration::from_millis(20)),
+            Err(fault) => return fault.status(),
+        }
+    }
+    4
+}
+
+// What a server of one connection and its visitor print.
+fn one<
+    R: Net<Listener = TcpListener, Stream = TcpStream>
+        + RandomSource
+        + Threads
+        + Wait
+        + Clock
+        + Copy
+        + Sync,
+>(host: &HostRuntime, rt: &R, place: &Place, visitor: Visitor) -> Result<String, Fail> {
+    let alloc = host.alloc();
+    let serving = Serving {
+        address: place.address.as_str(),
+        file: place.file.as_str(),
+        connections: Some(1),
+    };
+    let board = Board::new(alloc);
+    let shared = &board;
+    let (served, visited) = thread::scope(thread::scope_env(), rt, |scope| {
+        let server = scope.spawn(move || serve(host, rt, serving));
+        let visited = visit(
+            rt,
+            alloc,
+            serving.address,
+            visitor,
+            &mut Pen { rt, board: shared },
+        );
+        match server {
+            Ok(server) => (Some(server.join(rt)), visited),
+            Err(_) => (None, visited),
+        }
+    });
+    said(rt, alloc, served, visited, &board)
+}
+
+// Both statuses, and what both printed.
+fn said<R: Wait>(
+    rt: &R,
+    alloc: Global,
+    served: Option<(u8, Vec<u8>)>,
+    visited: u8,
+    board: &Board,
+) -> Result<String, Fail> {
+    let Some((status, output)) = served else {
+        return Err("no thread")?;
+    };
+    let told = board.text(rt, alloc)?;
+    let served = std::str::from_utf8(output.as_slice())?;
+    let ended = served.lines().last().unwrap_or("");
+    Ok(format!(in alloc; "{visited}\n{told}{status} {ended}")?)
+}
+
+const FIRST: Visitor = Visitor {
+    id: "alice",
+    incarnation: 1,
+    lines: "listen /a\nset /a 1\n",
+};
+
+const FIRST_SAID: &str = "0
+connected true
+value /a 2 null
+value /a 3 1
+done 2 3
+connected false
+0 number 4";
+
+const SECOND: Visitor = Visitor {
+    id: "alice",
+    incarnation: 2,
+    lines: "listen /a",
+};
+
+const SECOND_SAID: &str = "0
+connected true
+value /a 6 1
+connected false
+0 number 7";
+
+// What was written is there when the file is served again.
+#[test]
+fn a_file_survives(rt: HostRuntime) -> Result<(), Fail> {
+    let place = new_place(&rt, &rt, "survives")?;
+    let first = one(&rt, &rt, &place, FIRST)?;
+    assert_eq!(rt; first.as_str(), FIRST_SAID);
+    let second = one(&rt, &rt, &place, SECOND)?;
+    assert_eq!(rt; second.as_str(), SECOND_SAID);
+    place.clear(&rt);
+    Ok(())
+}
+
+const LISTENS: Visitor = Visitor {
+    id: "alice",
+    incarnation: 1,
+    lines: "listen /b\nwait 1\n",
+};
+
+const WRITES: Visitor = Visitor {
+    id: "bob",
+    incarnation: 1,
+    lines: "set /b 1\n",
+};
+
+// What a server of two connections and the first visitor print, where the second one comes once
+// the first one has listened.
+fn two<
+    R: Net<Listener = TcpListener, Stream = TcpStream>
+        + RandomSource
+        + Threads
+        + Wait
+        + Clock
+        + Copy
+        + Sync,
+>(host: &HostRuntime, rt: &R, place: &Place) -> Result<String, Fail> {
+    let alloc = host.alloc();
+    let serving = Serving {
+        address: place.address.as_str(),
+        file: place.file.as_str(),
+        connections: Some(2),
+    };
+    let board = Board::new(alloc);
+    let shared = &board;
+    let (served, visited) = thread::scope(thread::scope_env(), rt, |scope| {
+        let server = scope.spawn(move || serve(host, rt, serving));
+        let second = scope.spawn(move || {
+            shared.wait_for(rt, "value /b 2 null\n");
+            visit(rt, alloc, serving.address, WRITES, &mut Vec::new(alloc))
+        });
+        let visited = visit(
+            rt,
+            alloc,
+            serving.address,
+            LISTENS,
+            &mut Pen { rt, board: shared },
+        );
+        drop(second);
+        match server {
+            Ok(server) => (Some(server.join(rt)), visited),
+            Err(_) => (None, visited),
+        }
+    });
+    said(rt, alloc, served, visited, &board)
+}
+
+const TWO_SAID: &str = "0
+connected true
+value /b 2 null
+value /b 4 1
+connected false
+0 number 6";
+
+#[test]
+fn two_visitors_meet(rt: HostRuntime) -> Result<(), Fail> {
+    let place = new_place(&rt, &rt, "two")?;
+    let said = two(&rt, &rt, &place)?;
+    assert_eq!(rt; said.as_str(), TWO_SAID);
+    place.clear(&rt);
+    Ok(())
+}
+
+// Lines that are none are told before there is a connection: nobody listens there.
+#[test]
+fn bad_lines_are_told(rt: HostRuntime) -> Result<(), Fail> {
+    for (lines, told) in [
+        ("listen /a\nlitsen /b\n", "bad line 2\n"),
+        ("\n", "bad line 1\n"),
+        ("wait 1001", "bad line 1\n"),
+        ("set /a 1\r\nset /b", "bad line 2\n"),
+    ] {
+        let visitor = Visitor { lines, ..FIRST };
+        let mut output = Vec::new(rt.alloc());
+        let status = visit(&rt, rt.alloc(), "127.0.0.1:1", visitor, &mut output);
+        assert_eq!(rt; status, 1, "{lines:?}");
+        assert_eq!(rt; std::str::from_utf8(output.as_slice())?, told);
+    }
+    Ok(())
+}
+
+// A file that is no database of saved rows, and an address that can't be bound.
+#[test]
+fn bad_places_are_refused(rt: HostRuntime) -> Result<(), Fail> {
+    let place = new_place(&rt, &rt, "refused")?;
+    let foreign = place.foreign(&rt)?;
+    for (address, file, status) in [
+        (place.address.as_str(), foreign.as_str(), 3),
+        (place.address.as_str(), "/no/such/folder/file", 3),
+        ("nowhere", place.file.as_str(), 4),
+    ] {
+        let serving = Serving {
+            address,
+            file,
+            connections: Some(1),
+        };
+        let (served, _) = serve(&rt, &rt, serving);
+        assert_eq!(rt; served, status, "{address} {file}");
+    }
+    place.clear(&rt);
+    Ok(())
+}

@@ -1,0 +1,259 @@
+//! What connections are answered.
+
+ghost use Rattle.std.specs.Prelude.{◌≡◌, ◌^◌};
+
+use crate::script::{Fails, HEAD, NONE, Script, frame, said, script_of};
+use pres_hub::{Core, Hub, MemKeeper, NoBell, OpenGate};
+use pres_server::Moment;
+use pres_sock::{Clock, SockFault, serve_stream};
+use std::alloc::{AllocError, Global};
+use std::marker::Brand;
+use std::sync::Wait;
+use std::sync::ledger::{Blank, Ledger};
+use std::test::Fail;
+
+// One moment.
+#[derive(Drop)]
+struct Stopped;
+
+impl Clock for Stopped {
+    fn now(&mut self) -> u64 {
+        1000
+    }
+}
+
+// The report's number, what was accepted, seats out and total, and the end in words.
+#[derive(Drop)]
+struct Outcome {
+    counts: (u64, u64, u64, Option<u64>),
+    ended: String,
+}
+
+// The end in words.
+fn end_text(alloc: Global, ended: Result<(), SockFault>) -> Result<String, AllocError> {
+    match ended {
+        Ok(()) => String::from_str(alloc, "closed"),
+        Err(SockFault::Handshake(_)) => String::from_str(alloc, "handshake"),
+        Err(SockFault::Stream(_)) => String::from_str(alloc, "stream"),
+        Err(SockFault::Hub(_)) => String::from_str(alloc, "hub"),
+        Err(SockFault::Memory) => String::from_str(alloc, "memory"),
+        Err(SockFault::Turns) => String::from_str(alloc, "turns"),
+    }
+}
+
+// One connection to a new hub, with a ledger that the caller picks.
+fn served_with<L: Ledger, R: Wait>(
+    rt: &R,
+    alloc: Global,
+    blank: Blank,
+    stream: Script,
+) -> Result<Outcome, Fail>
+    requires name { blank.name ≡ L.name }
+    requires parts { blank.parts ≡ L.parts }
+    requires whole { blank.parts ≡ 2 ^ 53 }
+{
+    let keeper = MemKeeper::new(alloc);
+    let core = match Core::<L, MemKeeper, NoBell>::start(alloc, blank, keeper, Moment::at(0)) {
+        Ok(core) => core,
+        Err((fault, keeper)) => {
+            drop(keeper);
+            return Err(fault)?;
+        }
+    };
+    let hub = Hub::new(core, OpenGate);
+    let (parting, ended) = serve_stream(rt, alloc, &hub, stream, None, &mut Stopped);
+    let mut report = hub.into_core().finish();
+    if let Some(parting) = parting {
+        report.gather(parting);
+    }
+    Ok(Outcome {
+        counts: (
+            report.number(),
+            report.accepted(),
+            report.seats_out(),
+            report.total(),
+        ),
+        ended: end_text(alloc, ended)?,
+    })
+}
+
+// One connection to a new hub.
+fn served<R: Wait>(rt: &R, alloc: Global, stream: Script) -> Result<Outcome, Fail> {
+    served_with::<Brand, R>(rt, alloc, Blank::new(1 << 53), stream)
+}
+
+// The pieces of a stream: the request, and a frame for each line, whose first word is its kind.
+fn pieces(alloc: Global, lines: &str) -> Result<Vec<Vec<u8>>, Fail> {
+    let mut pieces = Vec::new(alloc);
+    let mut head = Vec::new(alloc);
+    head.extend_from_slice(HEAD)?;
+    pieces.push(head)?;
+    for line in lines.lines() {
+        let (kind, text) = line.split_once(' ').unwrap_or((line, ""));
+        let piece = match kind {
+            "text" => frame(alloc, 1, text.as_bytes())?,
+            "binary" => frame(alloc, 2, text.as_bytes())?,
+            "long" => frame(alloc, 1, long(alloc)?.as_bytes())?,
+            "ping" => frame(alloc, 9, b"")?,
+            _ => frame(alloc, 8, b"")?,
+        };
+        pieces.push(piece)?;
+    }
+    Ok(pieces)
+}
+
+// A text of one byte more than a message may have.
+fn long(alloc: Global) -> Result<String, AllocError> {
+    let mut text = String::new(alloc);
+    for _ in 0..1_048_577 {
+        text.push('x')?;
+    }
+    Ok(text)
+}
+
+// What a connection of these lines is answered, how it ended, and what was counted.
+fn answered<R: Wait>(
+    rt: &R,
+    alloc: Global,
+    lines: &str,
+    fails: Fails,
+) -> Result<(String, Outcome), Fail> {
+    let (stream, written) = script_of(alloc, pieces(alloc, lines)?, fails)?;
+    let served = served(rt, alloc, stream)?;
+    Ok((said(alloc, written)?, served))
+}
+
+const BAD: &str = r#"text {"m":"hello","s":["alice",1,1]}
+text {"m":"beat"
+binary 1
+long
+ping
+text {"m":"op","n":1,"op":{"op":"set","path":"/a","value":1},"q":1,"s":["alice",1,1]}
+close"#;
+
+const BAD_ANSWERS: &str = r#"{"m":"welcome","ops":0,"s":["alice",1,1],"z":1}
+{"code":1,"m":"fault","s":["alice",1,1]}
+{"code":1,"m":"fault","s":["alice",1,1]}
+{"code":1,"m":"fault","s":["alice",1,1]}
+another frame
+{"done":2,"m":"reply","n":1,"out":"wrote","q":1,"r":1,"s":["alice",1,1],"z":2}
+close
+"#;
+
+#[test]
+fn what_is_no_message_is_answered(rt: HostRuntime) -> Result<(), Fail> {
+    let (said, served) = answered(&rt, rt.alloc(), BAD, NONE)?;
+    assert_eq!(rt; said.as_str(), BAD_ANSWERS);
+    assert_eq!(rt; served.ended.as_str(), "closed");
+    assert_eq!(rt; served.counts, (3, 2, 0, Some(2)));
+    Ok(())
+}
+
+const EARLY: &str = r#"text {"m":"beat","s":["alice",1,1]}
+close"#;
+
+// Before the Hello the connection is ended.
+#[test]
+fn what_comes_before_a_hello_ends_the_connection(rt: HostRuntime) -> Result<(), Fail> {
+    let (said, served) = answered(&rt, rt.alloc(), EARLY, NONE)?;
+    assert_eq!(rt;
+        said.as_str(),
+        "{\"code\":1,\"m\":\"fault\",\"s\":null}\nclose\n"
+    );
+    assert_eq!(rt; served.ended.as_str(), "closed");
+    assert_eq!(rt; served.counts, (0, 0, 0, Some(0)));
+    Ok(())
+}
+
+const BYE: &str = r#"text {"m":"hello","s":["alice",1,1]}
+text {"m":"bye","q":1,"s":["alice",1,1]}
+close"#;
+
+const BYE_ANSWERS: &str = r#"{"m":"welcome","ops":0,"s":["alice",1,1],"z":1}
+{"m":"gone","r":1,"s":["alice",1,1],"why":"bye","z":2}
+close
+"#;
+
+// Behind Gone the connection is closed.
+#[test]
+fn a_bye_closes_the_connection(rt: HostRuntime) -> Result<(), Fail> {
+    let (said, served) = answered(&rt, rt.alloc(), BYE, NONE)?;
+    assert_eq!(rt; said.as_str(), BYE_ANSWERS);
+    assert_eq!(rt; served.ended.as_str(), "closed");
+    assert_eq!(rt; served.counts, (2, 2, 0, Some(2)));
+    Ok(())
+}
+
+const SHORT: &str = r#"text {"m":"hello","s":["alice",1,1]}
+binary 1
+text {"m":"op","n":1,"op":{"op":"set","path":"/a","value":1},"q":1,"s":["alice",1,1]}
+close"#;
+
+// How many runs, in which a read or a write fails, leave a seat out or a session open.
+fn left_behind<R: Wait>(rt: &R, alloc: Global) -> Result<u32, Fail> {
+    let mut left: u32 = 0;
+    for number in 1..20 {
+        for fails in [
+            Fails {
+                read: number,
+                write: 0,
+            },
+            Fails {
+                read: 0,
+                write: number,
+            },
+        ] {
+            let (_, served) = answered(rt, alloc, SHORT, fails)?;
+            let (number, accepted, out, total) = served.counts;
+            if out != 0 || total != Some(accepted) || number == accepted && number != 0 {
+                left = left.saturating_add(1);
+            }
+        }
+    }
+    Ok(left)
+}
+
+// A session that was opened has an end: so there is an entry more than what was accepted.
+#[test]
+fn each_failure_ends_the_session(rt: HostRuntime) -> Result<(), Fail> {
+    assert_eq!(rt; left_behind(&rt, rt.alloc())?, 0);
+    Ok(())
+}
+
+// How a connection ends that opens a session, whose peer is silent for so many reads and then goes.
+fn ended_silent<R: Wait>(rt: &R, alloc: Global, reads: u32) -> Result<Outcome, Fail> {
+    let mut pieces = pieces(alloc, HELLO)?;
+    // one read gives nothing behind the Hello
+    for _ in 1..reads {
+        pieces.push(Vec::new(alloc))?;
+    }
+    let (stream, written) = script_of(alloc, pieces, NONE)?;
+    drop(written);
+    served(rt, alloc, stream)
+}
+
+const HELLO: &str = r#"text {"m":"hello","s":["alice",1,1]}"#;
+
+#[test]
+fn a_silent_peer_is_out_of_turns(rt: HostRuntime) -> Result<(), Fail> {
+    let ended = ended_silent(&rt, rt.alloc(), 1_999)?;
+    assert_eq!(rt; ended.ended.as_str(), "stream");
+    let ended = ended_silent(&rt, rt.alloc(), 2_000)?;
+    assert_eq!(rt; ended.ended.as_str(), "turns");
+    assert_eq!(rt; ended.counts, (2, 1, 0, Some(1)));
+    Ok(())
+}
+
+#[test]
+fn no_handshake_is_no_seat(rt: HostRuntime) -> Result<(), Fail> {
+    let mut pieces = Vec::new(rt.alloc());
+    let mut head = Vec::new(rt.alloc());
+    head.extend_from_slice(b"GET / HTTP/1.1\r\nHost: x\r\n\r\n")?;
+    pieces.push(head)?;
+    let (stream, written) = script_of(rt.alloc(), pieces, NONE)?;
+    drop(written);
+    let ended = served(&rt, rt.alloc(), stream)?;
+    assert_eq!(rt; ended.ended.as_str(), "handshake");
+    assert_eq!(rt; ended.counts, (0, 0, 0, Some(0)));
+    Ok(())
+}

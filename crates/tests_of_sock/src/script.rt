@@ -1,0 +1,189 @@
+//! A stream of known bytes, and the frames of RFC 6455, section 5.2.
+
+use rtrb::{Consumer, Producer, RingBuffer};
+use std::alloc::{AllocError, Global};
+use std::io;
+use std::io::{ErrorKind, Read, Write};
+use std::test::Fail;
+
+/// A request that asks for a WebSocket.
+pub(crate) const HEAD: &[u8] =
+    b"GET / HTTP/1.1\r\nHost: x\r\nUpgrade: websocket\r\nConnection: Upgrade\r\nSec-WebSocket-Key: dGhlIHNhbXBsZSBub25jZQ==\r\nSec-WebSocket-Version: 13\r\n\r\n";
+
+/// A stream that gives its pieces one after the other, behind each a read that gives nothing, and
+/// then ends. What is written goes into a ring. The read and the write of these numbers fail.
+#[derive(Drop)]
+pub(crate) struct Script {
+    pieces: Vec<Vec<u8>>,
+    piece: usize,
+    at: usize,
+    reads: u32,
+    writes: u32,
+    fails: Fails,
+    output: Producer<u8, Global>,
+}
+
+/// Which read and which write fail, from 1 on; 0 for none.
+#[derive(Clone, Copy, Drop)]
+pub(crate) struct Fails {
+    pub(crate) read: u32,
+    pub(crate) write: u32,
+}
+
+/// None fails.
+pub(crate) const NONE: Fails = Fails { read: 0, write: 0 };
+
+/// A stream of these pieces, and the end from which what is written is taken.
+pub(crate) fn script_of(
+    alloc: Global,
+    pieces: Vec<Vec<u8>>,
+    fails: Fails,
+) -> Result<(Script, Consumer<u8, Global>), AllocError> {
+    let (output, written) = RingBuffer::new(alloc, 1 << 16)?;
+    let script = Script {
+        pieces,
+        piece: 0,
+        at: 0,
+        reads: 0,
+        writes: 0,
+        fails,
+        output,
+    };
+    Ok((script, written))
+}
+
+impl Read for Script {
+    fn read(&mut self, buf: &mut [u8]) -> io::Result<usize> {
+        self.reads = self.reads.saturating_add(1);
+        if self.reads == self.fails.read {
+            return Err(io::Error::from(ErrorKind::ConnectionReset));
+        }
+        let Some(piece) = self.pieces.get(self.piece) else {
+            return Ok(0);
+        };
+        let left = piece.get(self.at..).unwrap_or(&[]);
+        if left.is_empty() {
+            self.piece = self.piece.saturating_add(1);
+            self.at = 0;
+            return Err(io::Error::from(ErrorKind::WouldBlock));
+        }
+        let count = left.len().min(buf.len());
+        buf[..count].copy_from_slice(&left[..count]);
+        self.at = self.at.saturating_add(count);
+        Ok(count)
+    }
+}
+
+impl Write for Script {
+    fn write(&mut self, buf: &[u8]) -> io::Result<usize> {
+        self.writes = self.writes.saturating_add(1);
+        if self.writes == self.fails.write {
+            return Err(io::Error::from(ErrorKind::BrokenPipe));
+        }
+        for byte in buf {
+            if self.output.push(*byte).is_err() {
+                return Err(io::Error::from(ErrorKind::BrokenPipe));
+            }
+        }
+        Ok(buf.len())
+    }
+
+    fn flush(&mut self) -> io::Result<()> {
+        Ok(())
+    }
+}
+
+// A frame without its payload, and without its mask, whose bit is this.
+fn head(alloc: Global, opcode: u8, mask: u8, len: usize) -> Result<Vec<u8>, AllocError> {
+    let mut bytes = Vec::new(alloc);
+    bytes.push(0x80 | opcode)?;
+    let len = len as u64;
+    if len < 126 {
+        bytes.push(mask | len as u8)?;
+    } else if len < 1 << 16 {
+        bytes.push(mask | 126)?;
+        bytes.extend_from_slice(&(len as u16).to_be_bytes())?;
+    } else {
+        bytes.push(mask | 127)?;
+        bytes.extend_from_slice(&len.to_be_bytes())?;
+    }
+    Ok(bytes)
+}
+
+/// A client's frame, whose mask is 0.
+pub(crate) fn frame(alloc: Global, opcode: u8, payload: &[u8]) -> Result<Vec<u8>, AllocError> {
+    let mut bytes = head(alloc, opcode, 0x80, payload.len())?;
+    bytes.extend_from_slice(&[0, 0, 0, 0])?;
+    bytes.extend_from_slice(payload)?;
+    Ok(bytes)
+}
+
+/// A server's frame.
+pub(crate) fn server_frame(alloc: Global, text: &str) -> Result<Vec<u8>, AllocError> {
+    let mut bytes = head(alloc, 1, 0, text.len())?;
+    bytes.extend_from_slice(text.as_bytes())?;
+    Ok(bytes)
+}
+
+// The bytes that were written.
+fn bytes_of(alloc: Global, mut written: Consumer<u8, Global>) -> Result<Vec<u8>, AllocError> {
+    let mut bytes = Vec::new(alloc);
+    for _ in 0..1 << 16 {
+        let Ok(byte) = written.pop() else {
+            break;
+        };
+        bytes.push(byte)?;
+    }
+    Ok(bytes)
+}
+
+// Behind the answer to the request.
+fn frames_in(bytes: &[u8]) -> &[u8] {
+    let end = b"\r\n\r\n";
+    match bytes
+        .windows(end.len())
+        .position(|part| part == end.as_slice())
+    {
+        Some(at) => bytes.get(at.saturating_add(end.len())..).unwrap_or(&[]),
+        None => &[],
+    }
+}
+
+// The opcode and the payload of the first frame, and what comes behind it. Payloads are short, and
+// masks are 0.
+fn first_frame(bytes: &[u8]) -> Option<(u8, &[u8], &[u8])> {
+    let (opcode, short) = (*bytes.first()? & 15, *bytes.get(1)?);
+    let (from, len): (usize, usize) = if short & 127 < 126 {
+        (2, (short & 127) as usize)
+    } else {
+        let (high, low) = (*bytes.get(2)?, *bytes.get(3)?);
+        (4, (high as usize) << 8 | low as usize)
+    };
+    let mask_len = if short >= 128 { 4 } else { 0 };
+    let rest = bytes.get(from.saturating_add(mask_len)..)?;
+    if rest.len() < len {
+        return None;
+    }
+    let (payload, behind) = rest.split_at(len);
+    Some((opcode, payload, behind))
+}
+
+/// The texts that were sent, each on a line, and `close` for a close.
+pub(crate) fn said(alloc: Global, written: Consumer<u8, Global>) -> Result<String, Fail> {
+    let bytes = bytes_of(alloc, written)?;
+    let mut rest = frames_in(bytes.as_slice());
+    let mut said = String::new(alloc);
+    for _ in 0..1000 {
+        let Some((opcode, payload, behind)) = first_frame(rest) else {
+            break;
+        };
+        match opcode {
+            1 => said.push_str(std::str::from_utf8(payload)?)?,
+            8 => said.push_str("close")?,
+            _ => said.push_str("another frame")?,
+        }
+        said.push_str("\n")?;
+        rest = behind;
+    }
+    Ok(said)
+}

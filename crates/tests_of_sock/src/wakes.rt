@@ -1,0 +1,120 @@
+//! What ends a read of a stream that waits for bytes or for its bell.
+
+use pres_hub::Bell;
+use pres_net::{Crowd, Wakeable};
+use std::alloc::Global;
+use std::io::{ErrorKind, Read, Write};
+use std::net::{Net, TcpListener, TcpStream};
+use std::test::Fail;
+use std::time::{Duration, Instant};
+use std::{io, thread};
+
+// Long enough that a test which waits so long has failed.
+const LONG_MILLIS: u64 = 20_000;
+
+// Both ends of a connection.
+fn pair<R: Net<Listener = TcpListener, Stream = TcpStream>>(
+    rt: &R,
+) -> io::Result<(TcpStream, TcpStream)> {
+    let listener = TcpListener::bind(rt, "127.0.0.1:0")?;
+    let near = TcpStream::connect(rt, listener.local_addr()?)?;
+    let (far, _) = listener.accept()?;
+    Ok((near, far))
+}
+
+// A stream whose reads wait no longer than this, and its peer.
+fn waking<'a, R: Net<Listener = TcpListener, Stream = TcpStream>>(
+    rt: &R,
+    alloc: Global,
+    millis: u64,
+    crowd: &'a Crowd,
+) -> Result<(Wakeable<'a>, TcpStream), Fail> {
+    let (near, far) = pair(rt)?;
+    match Wakeable::new(rt, alloc, near, Duration::from_millis(millis), crowd) {
+        Ok(stream) => Ok((stream, far)),
+        Err(_) => Err("no descriptors")?,
+    }
+}
+
+// How many bytes a read brought, or why it brought none.
+fn read(stream: &mut Wakeable<'_>) -> Result<usize, ErrorKind> {
+    stream.read(&mut [0u8; 64]).map_err(|e| e.kind())
+}
+
+#[test]
+fn time_ends_a_read(rt: HostRuntime) -> Result<(), Fail> {
+    let crowd = Crowd::new();
+    let (mut stream, _far) = waking(&rt, rt.alloc(), 30, &crowd)?;
+    let start = Instant::now(&rt)?;
+    assert_eq!(rt; read(&mut stream), Err(ErrorKind::WouldBlock));
+    assert!(rt; start.elapsed(&rt)? >= Duration::from_millis(30));
+    Ok(())
+}
+
+#[test]
+fn a_ring_ends_a_read(rt: HostRuntime) -> Result<(), Fail> {
+    let crowd = Crowd::new();
+    let (mut stream, _far) = waking(&rt, rt.alloc(), LONG_MILLIS, &crowd)?;
+    let bell = stream.bell()?;
+    let start = Instant::now(&rt)?;
+    let child = thread::spawn(&rt, move || {
+        for _ in 0..3u8 {
+            thread::sleep(&rt, Duration::from_millis(30));
+            bell.ring();
+        }
+    })?;
+    for _ in 0..3u8 {
+        assert_eq!(rt; read(&mut stream), Err(ErrorKind::WouldBlock));
+    }
+    assert!(rt; start.elapsed(&rt)? < Duration::from_millis(LONG_MILLIS));
+    child.join(&rt);
+    Ok(())
+}
+
+// Also one before the read, and bytes end a read that doesn't hear its bell.
+#[test]
+fn a_ring_is_heard_once(rt: HostRuntime) -> Result<(), Fail> {
+    let crowd = Crowd::new();
+    let (mut stream, mut far) = waking(&rt, rt.alloc(), LONG_MILLIS, &crowd)?;
+    let bell = stream.bell()?;
+    let start = Instant::now(&rt)?;
+    for _ in 0..5u8 {
+        bell.ring();
+        bell.ring();
+        assert_eq!(rt; read(&mut stream), Err(ErrorKind::WouldBlock));
+        far.write_all(b"abc")?;
+        assert_eq!(rt; read(&mut stream), Ok(3));
+    }
+    assert!(rt; start.elapsed(&rt)? < Duration::from_millis(LONG_MILLIS));
+    Ok(())
+}
+
+// How many bytes come until the end.
+fn until_the_end(stream: &mut Wakeable<'_>) -> Result<usize, ErrorKind> {
+    let mut came = 0usize;
+    for _ in 0..100u8 {
+        match read(stream) {
+            Ok(0) => break,
+            Ok(count) => came = came.saturating_add(count),
+            Err(ErrorKind::WouldBlock) => {}
+            Err(kind) => return Err(kind),
+        }
+    }
+    Ok(came)
+}
+
+// The bytes and the end are one report, whether the last read was full or not.
+#[test]
+fn all_bytes_come_and_then_the_end(rt: HostRuntime) -> Result<(), Fail> {
+    for sent in [3, 64, 1_000, 640] {
+        let crowd = Crowd::new();
+        let (mut stream, mut far) = waking(&rt, rt.alloc(), LONG_MILLIS, &crowd)?;
+        let start = Instant::now(&rt)?;
+        far.write_all([7u8; 1_000].get(..sent).unwrap_or(&[]))?;
+        drop(far);
+        assert_eq!(rt; until_the_end(&mut stream), Ok(sent));
+        assert_eq!(rt; read(&mut stream), Ok(0));
+        assert!(rt; start.elapsed(&rt)? < Duration::from_millis(LONG_MILLIS));
+    }
+    Ok(())
+}
