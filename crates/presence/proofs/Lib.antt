@@ -1,6 +1,1 @@
-pub mod Json
-pub mod Split
-pub mod Going
-pub mod Whole
-pub mod Steps
 pub mod Asked

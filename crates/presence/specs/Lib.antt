@@ -1,5 +1,2 @@
-pub mod Faults
-pub mod Replies
-pub mod Lines
 pub mod Statuses
 pub mod Words

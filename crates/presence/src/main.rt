@@ -1,11 +1,6 @@
 //! The presence server's command line.
 #![tactic(auto)]
 
-mod applier;
-mod apply;
-mod faults;
-mod feeder;
-mod pending;
 mod program;
 #[cfg(test)]
 mod tests;

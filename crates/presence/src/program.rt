@@ -2,15 +2,14 @@
 
 ghost use Rattle.std.specs.Prelude.{◌≡◌, ◌⊎◌, ◌≢◌, map};
 ghost use Rattle.clap.specs.Words.{kind_of};
-ghost use Rattle.presence.specs.Lines.{Finished, Stopped};
+ghost use Rattle.pres_apply.specs.Lines.{Finished, Stopped};
 ghost use Rattle.presence.specs.Statuses.{IsStatus};
 ghost use Rattle.presence.specs.Words.{AreTaken, AsksApply, AsksNet};
 
-use crate::apply::apply_run;
-use crate::faults::RunFault;
 use crate::words::{Calling, Request, read_words};
 use clap::Error;
 use clap::error::ErrorKind;
+use pres_apply::{RunFault, apply_run};
 use pres_ids::{ClientId, IdFault};
 use pres_service::{ServiceFault, Serving, Visit, client_run, serve_run};
 use std::alloc::Global;

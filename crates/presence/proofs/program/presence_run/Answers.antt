@@ -1,6 +1,6 @@
 use Rattle.std.proofs.Common.{sym, subst, inr, refl}
-use Rattle.presence.specs.Lines.{Stopped}
-use Rattle.presence.proofs.Going.{stopped_none}
+use Rattle.pres_apply.specs.Lines.{Stopped}
+use Rattle.pres_apply.proofs.Going.{stopped_none}
 use Rattle.presence.proofs.program.presence_run.Goals as goal
 
 pub returns-in-Err-clause-memory : goal.returns-in-Err-clause-memory

@@ -1,0 +1,5 @@
+pub mod Json
+pub mod Split
+pub mod Going
+pub mod Whole
+pub mod Steps

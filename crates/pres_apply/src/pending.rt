@@ -1,0 +1,68 @@
+//! The line that has come so far.
+
+ghost use Rattle.std.specs.Prelude.{◌≡◌, ◌≤◌, ◌++◌, List, ℕ, [], OnOk, vec_len, false};
+ghost use Rattle.pres_wire.specs.UpForms.{longest_text};
+ghost use Rattle.pres_apply.specs.Lines.{Holds};
+
+use pres_wire::MAX_TEXT_BYTES;
+use std::alloc::{AllocError, Global};
+
+/// The line that has come so far, or that it is too long, as no message may be. Of one that is too
+/// long nothing is kept.
+#[derive(Drop)]
+pub(crate) struct Pending {
+    bytes: Vec<u8>,
+    cut: bool,
+    ghost short: { vec_len bytes ≤ longest_text },
+}
+
+impl Pending {
+    /// A line of which nothing has come.
+    pub(crate) fn new(alloc: Global) -> Pending
+        ensures { Holds [] result.bytes.items result.cut }
+    {
+        Pending {
+            bytes: Vec::new(alloc),
+            cut: false,
+        }
+    }
+
+    /// More of the line.
+    pub(crate) fn push(&mut self, piece: &[u8]) -> Result<(), AllocError>
+        ensures { OnOk result ((line : List ℕ) → Holds line self.old.bytes.items self.old.cut
+            → Holds (line ++ piece.now) self.new.bytes.items self.new.cut) }
+    {
+        if self.cut {
+            return Ok(());
+        }
+        if piece.len() > MAX_TEXT_BYTES - self.bytes.len() {
+            self.bytes.clear();
+            self.cut = true;
+            return Ok(());
+        }
+        self.bytes.extend_from_slice(piece)?;
+        Ok(())
+    }
+
+    /// Whether the line is too long.
+    pub(crate) fn is_cut(&self) -> bool
+        ensures { result ≡ self.now.cut }
+    {
+        self.cut
+    }
+
+    /// The line, where it isn't too long.
+    pub(crate) fn bytes(&self) -> &[u8]
+        ensures { result.now ≡ self.now.bytes.items }
+    {
+        self.bytes.as_slice()
+    }
+
+    /// Begins the next line.
+    pub(crate) fn clear(&mut self)
+        ensures { Holds [] self.new.bytes.items self.new.cut }
+    {
+        self.bytes.clear();
+        self.cut = false;
+    }
+}
