@@ -1,5 +1,4 @@
 pub mod Json
 pub mod Split
 pub mod Going
-pub mod Whole
 pub mod Steps

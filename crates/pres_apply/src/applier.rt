@@ -81,8 +81,8 @@ impl Applier {
             Err(Fault::Spent) => return Err(RunFault::Spent),
             Err(_) => return Err(RunFault::Memory),
         };
-        let text = kept_text(self.alloc, number.get(), &kept)?;
-        out.extend_from_slice(text.as_bytes())?;
+        let line = kept_line(self.alloc, number.get(), &kept)?;
+        out.extend_from_slice(&line)?;
         Ok(())
     }
 
@@ -106,45 +106,38 @@ impl Applier {
         ensures text { OnOk result (out.new.items ≡ out.old.items ++ tree_line self.now) }
         ensures err { IfErr result (λ e. e ≡ RunFault.Memory) }
     {
-        let text = json_text(self.alloc, self.plain.tree())?;
         out.extend_from_slice(b"tree ")?;
-        out.extend_from_slice(text.as_bytes())?;
+        self.plain.tree().print(self.alloc, out)?;
         out.extend_from_slice(b"\n")?;
         Ok(())
     }
 }
 
-// The JSON text of a value.
-fn json_text(alloc: Global, tree: &Tree) -> Result<String, AllocError>
-    ensures { IfOk result (λ text. string_bytes text ≡ value_text tree.now) }
-{
-    let value = tree.to_value(alloc)?;
-    let text = value.to_string(alloc)?;
-    Ok(text)
-}
-
-// The JSON text of what a place holds.
-fn held_text(alloc: Global, held: &Option<Tree>) -> Result<String, AllocError>
-    ensures { IfOk result (λ text. string_bytes text ≡ value_text (rows_in held.now)) }
-{
-    match held {
-        Some(tree) => json_text(alloc, tree),
-        None => String::from_str(alloc, "null"),
-    }
-}
-
-// The reply to an operation that was carried out.
-fn kept_text(alloc: Global, number: u64, kept: &Kept) -> Result<String, AllocError>
-    ensures { IfOk result (λ text. string_bytes text ≡ kept_line number kept.now) }
+// The line that replies to an operation that was carried out.
+fn kept_line(alloc: Global, number: u64, kept: &Kept) -> Result<Vec<u8>, AllocError>
+    ensures { IfOk result (λ line. line.items ≡ kept_line number kept.now) }
 {
     match kept {
-        Kept::Wrote => format!(in alloc; "{number} wrote\n"),
-        Kept::Stale(held) => {
-            let held = held_text(alloc, held)?;
-            let text = format!(in alloc; "{number} stale {held}\n")?;
-            Ok(text)
+        Kept::Wrote => {
+            let text = format!(in alloc; "{number} wrote\n")?;
+            Ok(text.into_bytes())
         }
+        Kept::Stale(held) => stale_line(alloc, number, held),
     }
+}
+
+// The line that replies to a transaction that met another value.
+fn stale_line(alloc: Global, number: u64, held: &Option<Tree>) -> Result<Vec<u8>, AllocError>
+    ensures { IfOk result (λ line. line.items ≡ kept_line number (Kept.Stale held.now)) }
+{
+    let text = format!(in alloc; "{number} stale ")?;
+    let mut line = text.into_bytes();
+    match held {
+        Some(tree) => tree.print(alloc, &mut line)?,
+        None => line.extend_from_slice(b"null")?,
+    }
+    line.push(b'\n')?;
+    Ok(line)
 }
 
 // The JSON value that a line is.

@@ -91,7 +91,7 @@ impl ClientId {
         if !is_client_id(text) {
             return Err(IdFault::NotAnId);
         }
-        let text = Text::of(String::from_str(alloc, text)?);
+        let text = Text::from_str(alloc, text)?;
         Ok(ClientId { text })
     }
 

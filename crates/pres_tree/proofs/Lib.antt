@@ -18,3 +18,4 @@ pub mod Swapped
 pub mod PathOrder
 pub mod Standing
 pub mod Places
+pub mod Written

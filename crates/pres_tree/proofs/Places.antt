@@ -99,6 +99,16 @@ rise_remove [] (suc i) a = tt
 rise_remove (e ∷ es) zero a = a.1
 rise_remove (e ∷ es) (suc i) a = (all_removed (λ l. key_cmp e.0 l ≡ Less) es i a.0, rise_remove es i a.1)
 
+-- the keys of a beginning rise
+all_front : {V : Type 0} (P : Key → Type 0) (xs ys : List (Key × V)) → AllByRecursion P (keys_of (xs ++ ys)) → AllByRecursion P (keys_of xs)
+all_front P [] ys h = tt
+all_front P (x ∷ xs) ys h = (h.0, all_front P xs ys h.1)
+
+pub rise_front : {V : Type 0} (xs ys : List (Key × V)) → IsStrictlySortedBy key_cmp (keys_of (xs ++ ys)) → IsStrictlySortedBy key_cmp (keys_of xs)
+unfolding IsStrictlySortedBy
+rise_front [] ys a = tt
+rise_front (x ∷ xs) ys a = (all_front (λ l. key_cmp x.0 l ≡ Less) xs ys a.0, rise_front xs ys a.1)
+
 pub found_remove : {V : Type 0} (k : Key) (es : List (Key × V)) (i : ℕ) → seek (key_cmp k) es ≡ Ok i → remove es i ≡ remove_entry (is_at (key_cmp k)) es
 found_remove k es i p = (found_at (key_cmp k) es i p).removes
 

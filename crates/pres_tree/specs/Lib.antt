@@ -8,6 +8,7 @@ pub mod Paths
 pub mod Printing
 pub mod Reading
 pub mod Rest
+pub mod Rooms
 pub mod Rows
 pub mod Scalars
 pub mod StoreLends

@@ -1,6 +1,6 @@
 //! Values under keys, in key order: a short list, or an ordered map.
 
-ghost use Rattle.std.specs.Prelude.{◌≡◌, ◌<◌, ◌≤◌, ◌++◌, ◌↔◌, [], IsTrue, Some, None, IfSome, IfOk, OnOk, OnErr, length, slice_get, insert, vec_capacity};
+ghost use Rattle.std.specs.Prelude.{◌≡◌, ◌<◌, ◌≤◌, ◌++◌, ◌↔◌, ◌∷◌, [], IsTrue, MatchOption, Some, None, IfSome, IfOk, OnOk, OnErr, length, slice_get, insert, vec_capacity};
 ghost use Rattle.std.specs.Option.{option_copied, option_copied_mut};
 ghost use Rattle.std.specs.Borrow.{sem};
 ghost use Rattle.std.specs.List.{IsAmong};
@@ -232,6 +232,20 @@ impl<V: Drop> Store<V> {
             Store::Many(many) => many.remove(key),
         }
     }
+
+    // Takes the last entry.
+    fn pop_last(&mut self) -> Option<(Key, V)>
+        requires { IsOrdered key_cmp (seen self.old) }
+        ensures entries { MatchOption result
+            ((seen self.old).entries ≡ [])
+            (λ e. (seen self.old).entries ≡ (seen self.new).entries ++ e ∷ []) }
+        ensures ordered { IsOrdered key_cmp (seen self.new) }
+    {
+        match self {
+            Store::Few(few) => few.pop(),
+            Store::Many(many) => many.pop_last(),
+        }
+    }
 }
 
 impl<V> Children<V> {
@@ -249,7 +263,8 @@ impl<V> Children<V> {
 
     /// Whether there are none.
     pub(crate) fn is_empty(&self) -> bool
-        ensures { IsTrue result ↔ (btree_map_len self.now ≡ 0) }
+        ensures none { IsTrue result ↔ (btree_map_len self.now ≡ 0) }
+        ensures ordered { IsOrdered key_cmp self.now }
     {
         match &self.store {
             Store::Few(few) => few.is_empty(),
@@ -310,6 +325,15 @@ impl<V: Drop> Children<V> {
         ensures ordered { IsOrdered key_cmp self.new }
     {
         self.store.remove(key)
+    }
+
+    /// Takes the last entry. It takes no memory.
+    pub(crate) fn pop_last(&mut self) -> Option<(Key, V)>
+        ensures entries { MatchOption result
+            (self.old.entries ≡ [])
+            (λ e. self.old.entries ≡ self.new.entries ++ e ∷ []) }
+    {
+        self.store.pop_last()
     }
 }
 

@@ -74,7 +74,7 @@ impl Key {
         if let Some(fault) = fault_of(text) {
             return Err(fault);
         }
-        let text = Text::of(String::from_str(alloc, text)?);
+        let text = Text::from_str(alloc, text)?;
         Ok(Key { text })
     }
 

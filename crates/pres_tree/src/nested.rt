@@ -14,6 +14,7 @@ use crate::fault::TreeFault;
 use crate::key::Key;
 use crate::path::Path;
 use crate::read::Form;
+use json::Writer;
 use serde_json::Value;
 use std::alloc::{AllocError, Global};
 use std::marker::Model;
@@ -21,9 +22,10 @@ use std::mem::replace;
 
 /// What may stand at a place of a value, and how JSON tells it: a leaf is a form of its own.
 pub trait Leaf: Form<Self> + Drop {
-    ghost use Rattle.std.specs.Prelude.{◌≡◌, ◌↔◌, IsTrue, IfOk};
+    ghost use Rattle.std.specs.Prelude.{◌≡◌, ◌↔◌, ◌++◌, IsTrue, IfOk, OnOk};
     ghost use Rattle.serde_json.specs.Data.{Data, Members, null, object};
     ghost use Rattle.serde_json.specs.View.{view};
+    ghost use Rattle.pres_tree.specs.Printing.{tokens_of};
     ghost use Rattle.pres_tree.specs.Reading.{HasKeys, branch, leaf};
 
     ghost printing: { Self → Data };
@@ -40,6 +42,12 @@ pub trait Leaf: Form<Self> + Drop {
     fn print(&self, alloc: Global) -> Result<Value, AllocError>
         ensures json { IfOk result (λ made. view made ≡ printing self.now) }
         ensures reads_back { IfOk result (λ made. Self.reading (view made) ≡ leaf self.now) };
+
+    /// Writes the JSON value of the leaf.
+    fn write(&self, out: &mut Writer) -> Result<(), AllocError>
+        ensures ok { OnOk result
+            (out.new.tokens ≡ out.old.tokens ++ tokens_of (printing self.now)) }
+        ensures before { out.new.before ≡ out.old.before };
 
     // Null is no leaf, and neither is an object whose names are keys.
     ghost null_is_branch: { Self.reading null ≡ branch };
@@ -374,6 +382,10 @@ pub trait Change<L, M>: Drop {
     /// The leaf of the other kind.
     fn change(&self, alloc: Global, leaf: &L) -> Result<M, AllocError>
         ensures { IfOk result (λ made. made ≡ makes self.now leaf.now) };
+
+    /// The same of a leaf that isn't needed any more, which is moved.
+    fn change_owned(&self, leaf: L) -> M
+        ensures { result ≡ makes self.now leaf };
 }
 
 // Leaves are copied as they are.
@@ -385,6 +397,10 @@ impl<L: Leaf> Change<L, L> for Same {
 
     fn change(&self, alloc: Global, leaf: &L) -> Result<L, AllocError> {
         leaf.copy(alloc)
+    }
+
+    fn change_owned(&self, leaf: L) -> L {
+        leaf
     }
 }
 
@@ -447,6 +463,61 @@ fn changed_children<L, M: Drop, C: Change<L, M>>(
     for (key, child) in children.iter() {
         let name = key.copy(alloc)?;
         drop(changed.insert(alloc, name, child.changed(alloc, how)?)?);
+    }
+    Ok(changed)
+}
+
+impl<L: Drop> Nested<L> {
+    /// The same of a value that isn't needed any more: its keys and leaves are moved.
+    pub fn into_changed<M: Drop, C: Change<L, M>>(
+        self,
+        alloc: Global,
+        how: &C,
+    ) -> Result<Nested<M>, AllocError>
+        ensures { IfOk result (λ t. t ≡ with_leaves (C.makes how.now) self) }
+    {
+        moved(alloc, self, how)
+    }
+}
+
+// The value with each leaf changed, by moves.
+#[cycle(moved)]
+fn moved<L: Drop, M: Drop, C: Change<L, M>>(
+    alloc: Global,
+    value: Nested<L>,
+    how: &C,
+) -> Result<Nested<M>, AllocError>
+    ensures { IfOk result (λ t. t ≡ with_leaves (C.makes how.now) value) }
+{
+    match value.node {
+        Node::Empty => Ok(Nested::empty()),
+        Node::Leaf(leaf) => Ok(Nested::scalar(how.change_owned(leaf))),
+        Node::Object(children) => {
+            let changed = moved_children(alloc, children, how)?;
+            Ok(Nested {
+                node: Node::Object(changed),
+            })
+        }
+    }
+}
+
+// The last child goes first, so that each is put before those that are changed already.
+#[cycle(moved)]
+fn moved_children<L: Drop, M: Drop, C: Change<L, M>>(
+    alloc: Global,
+    mut children: Children<Nested<L>>,
+    how: &C,
+) -> Result<Children<Nested<M>>, AllocError>
+    ensures entries { IfOk result (λ m.
+        m.entries ≡ children_with (C.makes how.now) children.entries) }
+    ensures ordered { IfOk result (λ m. IsOrdered key_cmp m) }
+{
+    // it ensures that the keys rise
+    let _ = children.is_empty();
+    let mut changed = Children::new(alloc);
+    'children: while let Some((key, child)) = children.pop_last() {
+        let child = moved(alloc, child, how)?;
+        drop(changed.insert(alloc, key, child)?);
     }
     Ok(changed)
 }

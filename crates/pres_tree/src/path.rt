@@ -148,6 +148,23 @@ impl Path {
         Ok(Path { keys })
     }
 
+    /// The same of keys that aren't needed any more, which are moved.
+    pub fn join_owned(&self, alloc: Global, other: Path) -> Result<Path, TreeFault>
+        ensures path { IfOk result (λ p. p ≡ self.now ++ other) }
+        ensures deep { IsErrOf result TreeFault.TooDeep
+            ↔ (max_depth < length self.now + length other) }
+        ensures err { IfErr result (λ e. (e ≡ TooDeep) ⊎ (e ≡ Memory)) }
+    {
+        if self.keys.len() + other.keys.len() > MAX_DEPTH {
+            return Err(TreeFault::TooDeep);
+        }
+        let mut keys = copies(alloc, &self.keys)?;
+        let mut rest = other.keys;
+        keys.append(&mut rest)?;
+        drop(rest);
+        Ok(Path { keys })
+    }
+
     /// The other path with this one cut off, where it is this one or below it.
     pub fn below(&self, alloc: Global, other: &Path) -> Result<Option<Path>, AllocError>
         ensures { IfOk result (λ found. found ≡ below self.now other.now) }

@@ -1,13 +1,16 @@
 //! JSON from values.
 
-ghost use Rattle.std.specs.Prelude.{◌≡◌, IfOk};
+ghost use Rattle.std.specs.Prelude.{◌≡◌, ◌++◌, IfOk, OnOk, OnErr};
 ghost use Rattle.serde_json.specs.View.{view, members_view};
-ghost use Rattle.pres_tree.specs.Printing.{json_of, members_of, ReadsBack, MembersReadBack};
+ghost use Rattle.serde_json.specs.Written.{compact_text};
+ghost use Rattle.pres_tree.specs.Printing.{json_of, members_of, ReadsBack, MembersReadBack, tokens_of, tokens_of_members};
 
 use crate::children::Children;
 use crate::nested::{Leaf, Nested, Node};
+use json::Writer;
 use serde_json::{Map, Value};
 use std::alloc::{AllocError, Global};
+use std::mem::replace;
 
 impl<L: Leaf> Nested<L> {
     /// The JSON value: null, the leaf, or the object of the children. Read again, it is the
@@ -41,4 +44,57 @@ fn printed<L: Leaf>(
         drop(members.insert(name, child.to_value(alloc)?)?);
     }
     Ok(members)
+}
+
+impl<L: Leaf> Nested<L> {
+    /// Adds the JSON text to the bytes; at AllocError they are as they were. It makes no JSON
+    /// value of the tree.
+    pub fn print(&self, alloc: Global, out: &mut Vec<u8>) -> Result<(), AllocError>
+        ensures ok { OnOk result
+            (out.new.items ≡ out.old.items ++ compact_text (json_of L.printing self.now)) }
+        ensures err { OnErr result (out.new.items ≡ out.old.items) }
+    {
+        let start = out.len();
+        let mut writer = Writer::new(replace(out, Vec::new(alloc)));
+        let written = self.write(&mut writer);
+        *out = writer.into_inner();
+        if written.is_err() {
+            out.truncate(start);
+        }
+        written
+    }
+
+    // Writes the JSON value: null, the leaf, or the object of the children.
+    #[cycle(write)]
+    fn write(&self, out: &mut Writer) -> Result<(), AllocError>
+        ensures ok { OnOk result
+            (out.new.tokens ≡ out.old.tokens ++ tokens_of (json_of L.printing self.now)) }
+        ensures before { out.new.before ≡ out.old.before }
+    {
+        match &self.node {
+            Node::Empty => out.null(),
+            Node::Leaf(leaf) => leaf.write(out),
+            Node::Object(children) => {
+                out.begin_object()?;
+                write_members(children, out)
+            }
+        }
+    }
+}
+
+// Writes the members of an object, and its end.
+#[cycle(write)]
+fn write_members<L: Leaf>(
+    children: &Children<Nested<L>>,
+    out: &mut Writer,
+) -> Result<(), AllocError>
+    ensures ok { OnOk result (out.new.tokens
+        ≡ out.old.tokens ++ tokens_of_members (members_of L.printing children.now.entries)) }
+    ensures before { out.new.before ≡ out.old.before }
+{
+    for (key, child) in children.iter() {
+        out.key(key.text())?;
+        child.write(out)?;
+    }
+    out.end_object()
 }

@@ -71,6 +71,23 @@ impl<L: Leaf> Nested<L> {
     {
         Nested::from_value_as::<L>(alloc, value, path)
     }
+
+    /// The same for a value that is to stand below so many keys.
+    pub fn from_value_under(
+        alloc: Global,
+        value: &Value,
+        depth: usize,
+    ) -> Result<Nested<L>, TreeFault>
+        requires { depth ≤ max_depth }
+        ensures read { MatchResult result
+            (λ t. (fault_of L.reading (max_depth + 1 - depth) (view value.now) ≡ None)
+            × (t ≡ rows_of L.reading (view value.now)))
+            (λ e. (e ≡ Memory)
+            ⊎ (fault_of L.reading (max_depth + 1 - depth) (view value.now) ≡ Some e)) }
+        ensures shallow { IfOk result (λ t. Shallow (max_depth + 1 - depth) t) }
+    {
+        read_at::<L, L>(alloc, value, LEVELS - depth)
+    }
 }
 
 impl<L: Drop> Nested<L> {

@@ -4,6 +4,7 @@ use crate::fault::TreeFault;
 use crate::nested::Leaf;
 use crate::read::Form;
 use crate::text::Text;
+use json::Writer;
 use serde_json::Value;
 use std::alloc::{AllocError, Global};
 
@@ -27,10 +28,7 @@ impl Form<Scalar> for Scalar {
     fn read(alloc: Global, value: &Value) -> Result<Scalar, TreeFault> {
         match value {
             Value::Bool(truth) => Ok(Scalar::Bool(*truth)),
-            Value::String(text) => Ok(Scalar::Text(Text::of(String::from_str(
-                alloc,
-                text.as_str(),
-            )?))),
+            Value::String(text) => Ok(Scalar::Text(Text::from_str(alloc, text.as_str())?)),
             Value::Number(number) => match number.as_i64() {
                 Some(whole) => Ok(Scalar::Int(whole)),
                 None => {
@@ -73,6 +71,14 @@ impl Leaf for Scalar {
             Scalar::Bool(truth) => Ok(Value::Bool(*truth)),
             Scalar::Int(number) => Ok(Value::from(*number)),
             Scalar::Text(text) => Ok(Value::String(String::from_str(alloc, text.as_str())?)),
+        }
+    }
+
+    fn write(&self, out: &mut Writer) -> Result<(), AllocError> {
+        match self {
+            Scalar::Bool(truth) => out.boolean(*truth),
+            Scalar::Int(number) => out.i64(*number),
+            Scalar::Text(text) => out.string(text.as_str()),
         }
     }
 

@@ -1,48 +1,86 @@
 //! Texts that contracts see as their bytes.
 
 ghost use Rattle.std.specs.Prelude.{◌≡◌, IfOk, string_bytes};
+ghost use Rattle.pres_tree.specs.Rooms.{bytes_in};
 
+use arrayvec::ArrayString;
 use std::alloc::{AllocError, Global};
 use std::cmp::Ordering;
 use std::fmt;
 use std::marker::Model;
 
-/// A text that contracts see as its bytes, by which it is compared.
-#[derive(Drop)]
+// The bytes of the longest text that lies in itself.
+const SHORT: usize = 16;
+
+/// A text that contracts see as its bytes, by which it is compared. A text of up to 16 bytes
+/// takes no memory but its own.
 pub struct Text {
-    text: String,
+    room: Room,
+}
+
+// Where its bytes lie.
+#[derive(Drop)]
+pub(crate) enum Room {
+    Short(ArrayString<SHORT>),
+    Long(String),
 }
 
 impl Model for Text {
-    ghost use Rattle.std.specs.Prelude.{List, ℕ, string_bytes};
+    ghost use Rattle.std.specs.Prelude.{List, ℕ};
+    ghost use Rattle.pres_tree.specs.Rooms.{bytes_in};
 
     ghost Value = { List ℕ };
 
-    ghost view = { λ a. string_bytes a.text };
+    ghost view = { λ a. bytes_in a.room };
+}
+
+// By hand, so that letting go of a text is one step of a proof, whichever room it has.
+impl Drop for Text {
+    fn drop(self) {
+        let Text { room } = self;
+        drop(room);
+    }
 }
 
 impl Text {
+    /// The text with these characters.
+    pub fn from_str(alloc: Global, text: &str) -> Result<Text, AllocError>
+        ensures { IfOk result (λ t. t ≡ text.now) }
+    {
+        let room = match ArrayString::from(text) {
+            Ok(short) => Room::Short(short),
+            Err(_) => Room::Long(String::from_str(alloc, text)?),
+        };
+        Ok(Text { room })
+    }
+
     /// The text of a string, which is moved.
     pub fn of(text: String) -> Text
         ensures { result ≡ string_bytes text }
     {
-        Text { text }
+        let short = ArrayString::from(text.as_str()).ok();
+        let room = match short {
+            Some(short) => Room::Short(short),
+            None => Room::Long(text),
+        };
+        Text { room }
     }
 
     /// The characters.
     pub fn as_str(&self) -> &str
         ensures { result.now ≡ self.now }
     {
-        self.text.as_str()
+        match &self.room {
+            Room::Short(text) => text.as_str(),
+            Room::Long(text) => text.as_str(),
+        }
     }
 
     /// An equal text.
     pub fn copy(&self, alloc: Global) -> Result<Text, AllocError>
         ensures { IfOk result (λ t. t ≡ self.now) }
     {
-        Ok(Text {
-            text: String::from_str(alloc, self.text.as_str())?,
-        })
+        Text::from_str(alloc, self.as_str())
     }
 }
 
@@ -63,7 +101,7 @@ impl PartialEq for Text {
     ghost laws = { Prim.search (comparing, rules) };
 
     fn eq(&self, other: &Text) -> bool {
-        self.text == other.text
+        self.as_str() == other.as_str()
     }
 }
 
@@ -106,6 +144,6 @@ impl Ord for Text {
     ghost matches_eq = { Prim.search (comparing, rules) };
 
     fn cmp(&self, other: &Text) -> Ordering {
-        self.text.cmp(&other.text)
+        self.as_str().cmp(other.as_str())
     }
 }

@@ -14,6 +14,10 @@ use Rattle.std.specs.Map.{keys_of}
 use Rattle.pres_tree.specs.Keys.{Key, key_cmp, same_key}
 use Rattle.pres_tree.specs.Paths.{Path, path_cmp, below, is_prefix, meet, overlap}
 use Rattle.pres_tree.proofs.Found.{key_same}
+use Rattle.pres_tree.specs.Rows.{Rows}
+use Rattle.pres_write.specs.declared.draft.Slot.{Slot}
+use Rattle.pres_write.specs.Basics.{basic}
+use Rattle.pres_write.specs.Drafts.{settled}
 use Rattle.pres_write.specs.Updates.{Places, update_writes}
 use Rattle.pres_write.proofs.Ordered.{any-put}
 
@@ -160,3 +164,8 @@ overlap-joined p (q ∷ ps) = λ i. any-joined p q ps i || overlap-joined p ps i
 pub paths_of_writes : (p : Path) (moment : ℕ) (es : Places) → map (λ b. b.path) (update_writes moment (record { path = p; places = es })) ≡ map (λ q. p ++ q) (keys_of es)
 paths_of_writes p moment [] = refl
 paths_of_writes p moment (e ∷ es) = ap (λ ps. (p ++ e.0) ∷ ps) (paths_of_writes p moment es)
+
+-- the write of one place more
+pub writes_more : (p : Path) (moment : ℕ) (done : Places) (e : Path × Rows Slot) → update_writes moment (record { path = p; places = done ++ e ∷ [] }) ≡ update_writes moment (record { path = p; places = done }) ++ basic (p ++ e.0) (settled moment e.1) ∷ []
+writes_more p moment [] e = refl
+writes_more p moment (d ∷ done) e = ap (λ ws. basic (p ++ d.0) (settled moment d.1) ∷ ws) (writes_more p moment done e)

@@ -8,7 +8,7 @@ ghost use Rattle.pres_write.specs.Basics.{Apart, basic, FitsThere, AppliesFirst,
 ghost use Rattle.pres_write.specs.Drafts.{settled};
 ghost use Rattle.pres_write.specs.declared.fault.WriteFault.TheVariants.{Tree as TreeRefused};
 
-use crate::draft::{Draft, settle};
+use crate::draft::{Draft, settle, settle_owned};
 use crate::fault::WriteFault;
 use crate::items::Items;
 use crate::moment::Moment;
@@ -169,6 +169,20 @@ pub(crate) fn settled_write(
     Ok(Basic { path, value })
 }
 
+// The same of a draft that isn't needed any more, which is moved.
+pub(crate) fn moved_write(
+    alloc: Global,
+    path: Path,
+    draft: Draft,
+    moment: Moment,
+) -> Result<Basic, AllocError>
+    requires { Fits path draft }
+    ensures { IfOk result (λ made. made ≡ basic path (settled moment draft)) }
+{
+    let value = settle_owned(alloc, draft, moment)?;
+    Ok(Basic::fitting(path, value))
+}
+
 // Null as none.
 fn some_value(value: Tree) -> Option<Tree>
     ensures { result ≡ option_of value }
@@ -193,22 +207,6 @@ pub fn apply(alloc: Global, tree: &mut Tree, writes: &[Basic]) -> Result<(), Wri
     for write in writes {
         let value = copy_value(alloc, write.value.as_ref())?;
         tree.set(alloc, &write.path, value)?;
-    }
-    Ok(())
-}
-
-/// Applies the writes in their order, and moves their values into the tree. At Memory, the one
-/// refusal, a prefix of the writes stands, none of them in part.
-pub fn apply_owned(alloc: Global, tree: &mut Tree, writes: Items<Basic>) -> Result<(), WriteFault>
-    ensures ok { IfOk result (λ _. tree.new ≡ applied tree.old writes) }
-    ensures err { IfErr result
-        (λ e. (e ≡ TreeRefused Memory) × AppliesFirst writes tree.old tree.new) }
-{
-    // it ensures that the tree's rows are in order
-    let _ = tree.is_empty();
-    for write in writes.into_vec() {
-        let (path, value) = write.into_parts();
-        tree.set(alloc, &path, value)?;
     }
     Ok(())
 }

@@ -1,10 +1,12 @@
 //! Drafts: values whose leaves may be placeholders.
 
-ghost use Rattle.std.specs.Prelude.{◌≡◌, IfOk};
+ghost use Rattle.std.specs.Prelude.{◌≡◌, ◌++◌, IfOk, OnOk};
 ghost use Rattle.serde_json.specs.View.{view};
+ghost use Rattle.pres_tree.specs.Printing.{tokens_of};
 ghost use Rattle.pres_write.specs.Drafts.{is_timestamp, settled, slot_printing};
 
 use crate::moment::Moment;
+use json::Writer;
 use pres_tree::{Change, Form, Leaf, Nested, Scalar, Tree, TreeFault};
 use serde_json::{Value, json};
 use std::alloc::{AllocError, Global};
@@ -41,6 +43,18 @@ fn timestamp(alloc: Global) -> Result<Value, AllocError>
     ensures { IfOk result (λ made. view made ≡ slot_printing Slot.Timestamp) }
 {
     json!(in alloc; {".sv": "timestamp"})
+}
+
+// Writes the JSON value that stands for the moment.
+fn write_timestamp(out: &mut Writer) -> Result<(), AllocError>
+    ensures ok { OnOk result
+        (out.new.tokens ≡ out.old.tokens ++ tokens_of (slot_printing Slot.Timestamp)) }
+    ensures before { out.new.before ≡ out.old.before }
+{
+    out.begin_object()?;
+    out.key(PLACEHOLDER)?;
+    out.string("timestamp")?;
+    out.end_object()
 }
 
 impl Form<Slot> for Slot {
@@ -99,6 +113,13 @@ impl Leaf for Slot {
         }
     }
 
+    fn write(&self, out: &mut Writer) -> Result<(), AllocError> {
+        match self {
+            Slot::Fixed(scalar) => scalar.write(out),
+            Slot::Timestamp => write_timestamp(out),
+        }
+    }
+
     ghost use Rattle.std.specs.Prelude.{refl};
     ghost use Rattle.pres_write.specs.Placeholders.{keys_are_no_placeholder};
 
@@ -147,6 +168,13 @@ impl Change<Slot, Scalar> for Settling {
             Slot::Timestamp => Ok(Scalar::Int(self.moment.millis() as i64)),
         }
     }
+
+    fn change_owned(&self, slot: Slot) -> Scalar {
+        match slot {
+            Slot::Fixed(scalar) => scalar,
+            Slot::Timestamp => Scalar::Int(self.moment.millis() as i64),
+        }
+    }
 }
 
 /// The value of the draft at the moment, made in one walk.
@@ -154,4 +182,11 @@ pub fn settle(alloc: Global, draft: &Draft, moment: Moment) -> Result<Tree, Allo
     ensures { IfOk result (λ t. t ≡ settled moment draft.now) }
 {
     draft.changed(alloc, &Settling { moment })
+}
+
+/// The same of a draft that isn't needed any more: its keys and scalars are moved.
+pub(crate) fn settle_owned(alloc: Global, draft: Draft, moment: Moment) -> Result<Tree, AllocError>
+    ensures { IfOk result (λ t. t ≡ settled moment draft) }
+{
+    draft.into_changed(alloc, &Settling { moment })
 }

@@ -14,7 +14,7 @@ mod transaction;
 mod unconditional;
 mod update;
 
-pub use basic::{Basic, apply, apply_all, apply_owned, copy_writes, equal_writes};
+pub use basic::{Basic, apply, apply_all, copy_writes, equal_writes};
 pub use draft::{Draft, FixedForm, Slot, settle};
 pub use fault::WriteFault;
 pub use items::Items;

@@ -14,7 +14,7 @@ ghost use Rattle.pres_write.specs.declared.fault.WriteFault.TheVariants.{Tree as
 use crate::draft::{Draft, FixedForm};
 use crate::fault::WriteFault;
 use crate::moment::Moment;
-use crate::outcome::{Outcome, one_write};
+use crate::outcome::{Outcome, one_moved, one_write};
 use crate::placement::Placement;
 use crate::transaction::Transaction;
 use crate::update::Update;
@@ -113,17 +113,6 @@ pub(crate) fn set_value(alloc: Global, placement: &Placement) -> Result<Value, A
     let path = placement.path().text(alloc)?;
     let value = placement.draft().to_value(alloc)?;
     set_form(alloc, path, value)
-}
-
-// What a placement that isn't needed any more comes to at the moment.
-fn owned_write(alloc: Global, placement: Placement, moment: Moment) -> Result<Outcome, AllocError>
-    ensures outcome { IfOk result (λ outcome. outcome ≡ resolved [] moment (Op.Set placement)) }
-    ensures apart { IfOk result (λ outcome. Apart (writes_in outcome)) }
-{
-    let (path, draft) = placement.into_parts();
-    let outcome = one_write(alloc, path, &draft, moment);
-    drop(draft);
-    outcome
 }
 
 // The set of a path's text and a JSON value.
@@ -275,7 +264,7 @@ impl Op {
         }
     }
 
-    /// The same of an operation that isn't needed any more: the path of a set is moved.
+    /// The same of an operation that isn't needed any more: its paths and drafts are moved.
     pub fn resolve_owned(
         self,
         alloc: Global,
@@ -287,12 +276,12 @@ impl Op {
         ensures err { IfErr result (λ e. e ≡ TreeRefused Memory) }
     {
         match self {
-            Op::Set(placement) => Ok(owned_write(alloc, placement, moment)?),
-            op => {
-                let outcome = op.resolve(alloc, tree, moment);
-                drop(op);
-                outcome
+            Op::Set(placement) => {
+                let (path, draft) = placement.into_parts();
+                Ok(one_moved(alloc, path, draft, moment)?)
             }
+            Op::Update(update) => Ok(Outcome::Wrote(update.into_writes(alloc, moment)?)),
+            Op::Tx(tx) => Ok(tx.into_outcome(alloc, tree, moment)?),
         }
     }
 

@@ -6,7 +6,9 @@ ghost use Rattle.pres_write.specs.Basics.{Apart};
 ghost use Rattle.pres_write.specs.Outcomes.{kept_of, resolved, writes_in};
 ghost use Rattle.pres_write.specs.declared.op.Op.TheVariants.{Set};
 
-use crate::basic::{Basic, copy_value, copy_writes, equal_value, equal_writes, settled_write};
+use crate::basic::{
+    Basic, copy_value, copy_writes, equal_value, equal_writes, moved_write, settled_write,
+};
 use crate::draft::Draft;
 use crate::items::Items;
 use crate::moment::Moment;
@@ -92,5 +94,20 @@ pub(crate) fn one_write(
     ensures apart { IfOk result (λ outcome. Apart (writes_in outcome)) }
 {
     let write = settled_write(alloc, path, draft, moment)?;
+    Ok(Outcome::Wrote(Items::one(alloc, write)?))
+}
+
+// The same of a draft that isn't needed any more, which is moved.
+pub(crate) fn one_moved(
+    alloc: Global,
+    path: Path,
+    draft: Draft,
+    moment: Moment,
+) -> Result<Outcome, AllocError>
+    requires { Fits path draft }
+    ensures outcome { IfOk result (λ outcome. outcome ≡ resolved [] moment (Set (path, draft))) }
+    ensures apart { IfOk result (λ outcome. Apart (writes_in outcome)) }
+{
+    let write = moved_write(alloc, path, draft, moment)?;
     Ok(Outcome::Wrote(Items::one(alloc, write)?))
 }

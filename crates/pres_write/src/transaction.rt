@@ -9,7 +9,7 @@ ghost use Rattle.pres_write.specs.Outcomes.{compared, writes_in};
 use crate::basic::copy_value;
 use crate::draft::Draft;
 use crate::moment::Moment;
-use crate::outcome::{Outcome, one_write};
+use crate::outcome::{Outcome, one_moved, one_write};
 use pres_tree::{MAX_DEPTH, Path, Tree, TreeFault};
 use std::alloc::{AllocError, Global};
 use std::marker::Model;
@@ -108,6 +108,25 @@ impl Transaction {
         }
         let path = self.path.copy(alloc)?;
         one_write(alloc, path, &self.new, moment)
+    }
+
+    // The same of a transaction that isn't needed any more: its path and its draft are moved.
+    pub(crate) fn into_outcome(
+        self,
+        alloc: Global,
+        tree: &Tree,
+        moment: Moment,
+    ) -> Result<Outcome, AllocError>
+        ensures outcome { IfOk result (λ outcome. outcome ≡ compared tree.now moment self) }
+        ensures apart { IfOk result (λ outcome. Apart (writes_in outcome)) }
+    {
+        let held = tree.at(&self.path);
+        if !self.is_expected(held) {
+            return Ok(Outcome::Stale(copy_value(alloc, held)?));
+        }
+        let Transaction { path, expect, new } = self;
+        drop(expect);
+        one_moved(alloc, path, new, moment)
     }
 
     /// An equal transaction.

@@ -15,7 +15,7 @@ ghost use Rattle.pres_write.specs.Unconditionals.{puts_below};
 ghost use Rattle.pres_write.specs.Updates.{FitsBelow, most_places, is_deep_below, update_fault, update_of, update_writes};
 ghost use Rattle.pres_write.specs.declared.fault.WriteFault.TheVariants.{Tree as TreeRefused};
 
-use crate::basic::{Basic, settled_write};
+use crate::basic::{Basic, moved_write, settled_write};
 use crate::draft::Draft;
 use crate::fault::WriteFault;
 use crate::items::Items;
@@ -199,6 +199,24 @@ impl Update {
         Ok(Items::of(writes))
     }
 
+    // The same of an update that isn't needed any more: its keys and drafts are moved.
+    pub(crate) fn into_writes(
+        self,
+        alloc: Global,
+        moment: Moment,
+    ) -> Result<Items<Basic>, AllocError>
+        ensures writes { IfOk result (λ writes. writes ≡ update_writes moment self) }
+        ensures apart { IfOk result (λ writes. Apart writes) }
+    {
+        let Update { path, places } = self;
+        let mut writes = Vec::new(alloc);
+        for (place, draft) in places {
+            let whole = moved_path(alloc, &path, place)?;
+            writes.push(moved_write(alloc, whole, draft, moment)?)?;
+        }
+        Ok(Items::of(writes))
+    }
+
     /// Its drafts at their whole paths.
     pub fn puts(&self, alloc: Global) -> Result<Puts, AllocError>
         ensures { IfOk result (λ puts. puts ≡ puts_below self.now) }
@@ -243,8 +261,11 @@ fn read_place(
     ensures fits { IfOk result (λ place. FitsBelow path.now place) }
 {
     let place = Path::parse(alloc, name)?;
-    let whole = path.join(alloc, &place)?;
-    let draft = Draft::from_value_below(alloc, value, &whole)?;
+    let depth = path.len() + place.len();
+    if depth > MAX_DEPTH {
+        return Err(TreeFault::TooDeep);
+    }
+    let draft = Draft::from_value_under(alloc, value, depth)?;
     Ok((place, draft))
 }
 
@@ -271,6 +292,18 @@ fn whole_path(alloc: Global, path: &Path, place: &Path) -> Result<Path, AllocErr
     ensures { IfOk result (λ whole. whole ≡ path.now ++ place.now) }
 {
     match path.join(alloc, place) {
+        Ok(whole) => Ok(whole),
+        Err(TreeFault::Memory) => Err(AllocError),
+        Err(_) => unreachable!(),
+    }
+}
+
+// The same of keys that aren't needed any more, which are moved.
+fn moved_path(alloc: Global, path: &Path, place: Path) -> Result<Path, AllocError>
+    requires { IsPath (path.now ++ place) }
+    ensures { IfOk result (λ whole. whole ≡ path.now ++ place) }
+{
+    match path.join_owned(alloc, place) {
         Ok(whole) => Ok(whole),
         Err(TreeFault::Memory) => Err(AllocError),
         Err(_) => unreachable!(),

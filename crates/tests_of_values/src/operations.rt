@@ -8,7 +8,7 @@ ghost use Rattle.pres_write.specs.Outcomes.{writes_in};
 use pres_tree::{Path, Scalar, Tree, TreeFault};
 use pres_write::{
     Basic, Draft, Items, Kept, Moment, Op, Outcome, Placement, Puts, Transaction, Unconditional,
-    WriteFault, apply, apply_all, apply_owned, copy_writes,
+    WriteFault, apply, apply_all, copy_writes,
 };
 use serde_json::Value;
 use std::alloc::Global;
@@ -134,11 +134,21 @@ fn left_together(alloc: Global, op: &Op) -> Result<String, Fail> {
     left_by_writes(alloc, tree, applied)
 }
 
+// The same of a copy that is resolved by its parts.
 fn left_moved(alloc: Global, op: &Op) -> Result<String, Fail> {
-    let writes = writes_of(alloc, op)?.into_vec();
+    let copied = op.copy(alloc)?;
     let mut tree = Tree::empty();
-    let applied = apply_owned(alloc, &mut tree, Items::of(writes));
-    left_by_writes(alloc, tree, applied)
+    match copied.resolve_owned(alloc, &tree, Moment::at(5))? {
+        Outcome::Wrote(writes) => {
+            let applied = apply_all(alloc, &mut tree, writes);
+            left_by_writes(alloc, tree, applied)
+        }
+        Outcome::Stale(held) => {
+            drop(held);
+            drop(tree);
+            Err("stale")?
+        }
+    }
 }
 
 // The tree that the operation leaves, which each way to apply its writes has to leave.

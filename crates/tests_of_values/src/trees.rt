@@ -91,7 +91,13 @@ fn relation(path: &Path, other: &Path) -> &'static str {
 
 fn joined(alloc: Global, path: &Path, other: &Path) -> Result<String, Fail> {
     match path.join(alloc, other) {
-        Ok(whole) => said_of(alloc, &whole),
+        Ok(whole) => {
+            let moved = path.join_owned(alloc, other.copy(alloc)?)?;
+            if moved != whole {
+                return Err("the moved keys made another path")?;
+            }
+            said_of(alloc, &whole)
+        }
         Err(fault) => refusal(alloc, fault),
     }
 }
@@ -178,9 +184,16 @@ fn json_text(alloc: Global, value: Value) -> Result<String, Fail> {
     Ok(text?)
 }
 
+// The text of the value, by its JSON value and as it is written at once.
 fn printed(alloc: Global, tree: &Tree) -> Result<String, Fail> {
     let value = tree.to_value(alloc)?;
-    json_text(alloc, value)
+    let text = json_text(alloc, value)?;
+    let mut bytes = Vec::new(alloc);
+    tree.print(alloc, &mut bytes)?;
+    if bytes.as_slice() != text.as_bytes() {
+        return Err("the value is written as another text")?;
+    }
+    Ok(text)
 }
 
 // The text of the value, which is to equal the other one.
@@ -396,6 +409,12 @@ const VALUES: &str = r#"[1,null,2] => {"0":1,"2":2}
 {"a/":null,"b":1.5} => 4 BadKey
 [1,2,1.5,3,4,5,6,7,8,9,18446744073709551615] => 7 Range"#;
 
+// Of 16 and of 17 bytes too: a text keeps up to 16 in itself.
+const TEXTS: &str = "a-b a/b => a-b a/b true true a-b
+0123456789abcdef 0123456789abcdefg => 0123456789abcdef 0123456789abcdefg true true 0123456789abcdef
+0123456789abcdefg 0123456789abcdef => 0123456789abcdefg 0123456789abcdef false true 0123456789abcdefg
+0123456789abcdefg 0123456789abcdefg => 0123456789abcdefg 0123456789abcdefg false false 0123456789abcdefg";
+
 const WRITES: &str = r#"/a 1;/a/b null => {"a":1} 1 object 1 1
 /a 1;/a/b null;/a/b true => {"a":{"b":true}} 2 object object {"b":true}
 /a 1;/a/b null;/a/b true;/a/b {} => null 0 nothing nothing null"#;
@@ -413,7 +432,7 @@ fn small_and_large_objects(rt: HostRuntime) -> Result<(), Fail> {
 
 #[test]
 fn texts_are_compared_by_their_bytes(rt: HostRuntime) -> Result<(), Fail> {
-    let wrong = wrong_in(rt.alloc(), Table::Texts, "a-b a/b => a-b a/b true true a-b")?;
+    let wrong = wrong_in(rt.alloc(), Table::Texts, TEXTS)?;
     assert_eq!(rt; wrong.as_str(), "");
     Ok(())
 }

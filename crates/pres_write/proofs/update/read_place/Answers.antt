@@ -12,6 +12,7 @@ use Rattle.pres_tree.specs.Rows.{Rows, Fits}
 use Rattle.pres_write.specs.declared.draft.Slot.{Slot}
 use Rattle.pres_write.specs.Drafts.{slot_reading}
 use Rattle.pres_write.specs.OpForms.{place_fault}
+use Rattle.pres_tree.proofs.Texts.{path_append}
 use Rattle.pres_write.proofs.Members.{refused_by}
 use Rattle.pres_write.proofs.update.read_place.Goals as goal
 
@@ -30,14 +31,12 @@ deep p name d sound h =
     named p name d sound
     ∙ ap (λ b. cond b (Some TooDeep) (fault_of slot_reading (max_depth + 1 - (length p + length (segments name))) d)) (above (length p + length (segments name)) h)
 
--- a path that is whole is no fault
-there : (p : Path) (name : List ℕ) (d : Data) (whole : Path) → path_fault name ≡ None → whole ≡ p ++ segments name → IsPath whole → place_fault p name d ≡ fault_of slot_reading (levels_below whole) d
-there p name d whole sound is path =
-    let joined : length whole ≡ length p + length (segments name) = ap length is ∙ length-append p (segments name) in
-    let small : nat_lt max_depth (length p + length (segments name)) ≡ false = subst (λ n. nat_lt max_depth n ≡ false) joined (not_above (length whole) path.0) in
+-- a place that isn't too deep is as wrong as its draft
+there : (p : Path) (name : List ℕ) (d : Data) → path_fault name ≡ None → length p + length (segments name) ≤ max_depth
+    → place_fault p name d ≡ fault_of slot_reading (max_depth + 1 - (length p + length (segments name))) d
+there p name d sound few =
     named p name d sound
-    ∙ ap (λ b. cond b (Some TooDeep) (fault_of slot_reading (max_depth + 1 - (length p + length (segments name))) d)) small
-    ∙ ap (λ n. fault_of slot_reading (max_depth + 1 - n) d) (sym joined)
+    ∙ ap (λ b. cond b (Some TooDeep) (fault_of slot_reading (max_depth + 1 - (length p + length (segments name))) d)) (not_above (length p + length (segments name)) few)
 
 abbrev Read : Path → List ℕ → Data → Path × Rows Slot → Type 0
 Read p name d place = (place_fault p name d ≡ None) × (place ≡ (segments name, rows_of slot_reading d))
@@ -57,18 +56,17 @@ returns-in_err-place-clause-read c =
     ] in
     refused_by (Read p name d) (Refused p name d) c.from_residual.result e c.from_residual.ensures bad
 
-pub returns-in_err-whole-clause-read : goal.returns-in_err-whole-clause-read
-returns-in_err-whole-clause-read c =
+-- the keys of both
+keys : (n m : ℕ) (p place : Path) (name : List ℕ) → n ≡ length p → m ≡ length place → place ≡ segments name → n + m ≡ length p + length (segments name)
+keys n m p place name first second is = λ i. first i + (second ∙ ap length is) i
+
+pub returns-then-depth-gt-MAX_DEPTH-clause-read : goal.returns-then-depth-gt-MAX_DEPTH-clause-read
+returns-then-depth-gt-MAX_DEPTH-clause-read c =
     let p = c.args.path.now in
     let name = c.args.name.now in
-    let d = view c.args.value.now in
-    let e = c.in_err-whole.field-0.0 in
     let place = c.in_ok-place.ensures.path in
-    let bad : Refused p name d e = elim c.in_err-whole.ensures.err [
-      | inl is ↦ inr (deep p name d place.1 (subst (λ q. max_depth < length p + length q) place.0 (c.in_err-whole.ensures.deep.0 (ap Err is))) ∙ ap Some (sym is))
-      | inr memory ↦ inl memory
-    ] in
-    refused_by (Read p name d) (Refused p name d) c.from_residual-in_err-whole.result e c.from_residual-in_err-whole.ensures bad
+    let n = keys c.len.result c.len-2.result p c.in_ok-place.place name c.len.ensures.len c.len-2.ensures.len place.0 in
+    inr (deep p name (view c.args.value.now) place.1 (omega (arith, n, c.if-depth-gt-MAX_DEPTH.true)))
 
 pub returns-in_err-draft-clause-read : goal.returns-in_err-draft-clause-read
 returns-in_err-draft-clause-read c =
@@ -77,11 +75,10 @@ returns-in_err-draft-clause-read c =
     let d = view c.args.value.now in
     let e = c.in_err-draft.field-0.0 in
     let place = c.in_ok-place.ensures.path in
-    let whole = c.in_ok-whole.whole in
-    let is : whole ≡ p ++ segments name = c.in_ok-whole.ensures.path ∙ ap (λ q. p ++ q) place.0 in
+    let n = keys c.len.result c.len-2.result p c.in_ok-place.place name c.len.ensures.len c.len-2.ensures.len place.0 in
     let bad : Refused p name d e = elim c.in_err-draft.ensures.read [
       | inl memory ↦ inl memory
-      | inr fault ↦ inr (there p name d whole place.1 is (subst IsPath c.whole.view_is c.whole.invariant) ∙ fault)
+      | inr fault ↦ inr (there p name d place.1 (omega (arith, n, c.if-depth-gt-MAX_DEPTH.false)) ∙ ap (λ m. fault_of slot_reading (max_depth + 1 - m) d) (sym n) ∙ fault)
     ] in
     refused_by (Read p name d) (Refused p name d) c.from_residual-in_err-draft.result e c.from_residual-in_err-draft.ensures bad
 
@@ -92,12 +89,19 @@ returns-clause-read c =
     let d = view c.args.value.now in
     let place = c.in_ok-place.ensures.path in
     let read = c.in_ok-draft.ensures.read in
-    let is : c.in_ok-whole.whole ≡ p ++ segments name = c.in_ok-whole.ensures.path ∙ ap (λ q. p ++ q) place.0 in (
-      there p name d c.in_ok-whole.whole place.1 is (subst IsPath c.whole.view_is c.whole.invariant) ∙ read.0,
+    let n = keys c.len.result c.len-2.result p c.in_ok-place.place name c.len.ensures.len c.len-2.ensures.len place.0 in (
+      there p name d place.1 (omega (arith, n, c.if-depth-gt-MAX_DEPTH.false)) ∙ ap (λ m. fault_of slot_reading (max_depth + 1 - m) d) (sym n) ∙ read.0,
       λ i. (place.0 i, read.1 i),
     )
 
 pub returns-clause-fits : goal.returns-clause-fits
 returns-clause-fits c =
-    subst (λ q. IsPath q × Fits q c.in_ok-draft.draft) c.in_ok-whole.ensures.path
-    (subst IsPath c.whole.view_is c.whole.invariant, c.in_ok-draft.ensures.fits)
+    let p = c.args.path.now in
+    let q = c.in_ok-place.place in
+    let few : length p + length q ≤ max_depth = omega (arith, c.len.ensures.len, c.len-2.ensures.len, c.if-depth-gt-MAX_DEPTH.false) in
+    let whole : IsPath (p ++ q) = path_append p q c.len.ensures.path c.len-2.ensures.path few in (
+      whole,
+      λ x held.
+          let deep = c.in_ok-draft.ensures.shallow x held in
+          path_append (p ++ q) x whole (omega (arith, deep.0), deep.1) (omega (arith, length-append p q, deep.0, c.len.ensures.len, c.len-2.ensures.len)),
+    )

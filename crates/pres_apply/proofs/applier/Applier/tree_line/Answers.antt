@@ -7,9 +7,8 @@ pub returns-clause-text : goal.returns-clause-text
 returns-clause-text c =
     let tree = c.args.self.now.log.tree in
     let seen : c.tree.result.now ≡ tree = c.tree.ensures ∙ ap (λ (s : State). s.log.tree) c.self.view_is in
-    let bytes = c.as_bytes.ensures.value ∙ c.in_ok-text.ensures ∙ ap value_text seen in
-    joined c.args.out.now.items c.extend_from_slice.new.self.items c.extend_from_slice-2.new.self.items c.extend_from_slice-3.new.self.items
+    joined c.args.out.now.items c.extend_from_slice.new.self.items c.print.new.out.items c.extend_from_slice-2.new.self.items
     (codes "tree ") (value_text tree) (codes "\n")
     c.in_ok-extend_from_slice.ensures.items
-    (c.in_ok-extend_from_slice-2.ensures.items ∙ ap (λ q. c.extend_from_slice.new.self.items ++ q) bytes)
-    c.in_ok-extend_from_slice-3.ensures.items
+    (c.in_ok-print.ensures.ok ∙ ap (λ t. c.extend_from_slice.new.self.items ++ value_text t) seen)
+    c.in_ok-extend_from_slice-2.ensures.items

@@ -7,15 +7,10 @@ use Rattle.pres_write.specs.declared.draft.Slot.{Slot}
 use Rattle.pres_write.specs.Basics.{basic}
 use Rattle.pres_write.specs.Drafts.{settled}
 use Rattle.pres_write.specs.Updates.{FitsBelow, Places, update_writes}
-use Rattle.pres_write.proofs.Overlaps.{overlap-joined, paths_of_writes}
+use Rattle.pres_write.proofs.Overlaps.{overlap-joined, paths_of_writes, writes_more}
 use Rattle.pres_write.proofs.Ordered.{each-middle}
 use Rattle.pres_write.proofs.update.Update.writes.Goals as goal
 use Rattle.pres_write.proofs.update.Update.writes.Goals.{In-Some, After-of}
-
--- the write of one place more
-writes_more : (p : Path) (moment : ℕ) (done : Places) (e : Path × Rows Slot) → update_writes moment (record { path = p; places = done ++ e ∷ [] }) ≡ update_writes moment (record { path = p; places = done }) ++ basic (p ++ e.0) (settled moment e.1) ∷ []
-writes_more p moment [] e = refl
-writes_more p moment (d ∷ done) e = ap (λ ws. basic (p ++ d.0) (settled moment d.1) ∷ ws) (writes_more p moment done e)
 
 pub loop-place-preserved : goal.loop-place-preserved
 loop-place-preserved c =

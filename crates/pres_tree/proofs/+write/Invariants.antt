@@ -1,0 +1,19 @@
+use Rattle.std.proofs.Common.{◌≡◌, ◌+◌, ◌*◌, ◌≤◌, ◌++◌}
+use Rattle.pres_tree.specs.Rows.{height}
+use Rattle.pres_tree.specs.Printing.{members_of, tokens_of_members}
+use Rattle.pres_tree.proofs.Nodes.{tallest}
+use Rattle.pres_tree.proofs.+write.Given as goal
+
+abbrev pub decreases-nested::Nested::write : goal.decreases-nested::Nested::write
+decreases-nested::Nested::write g l = 2 * height l.self.now + 1
+
+abbrev pub decreases-print::write_members : goal.decreases-print::write_members
+decreases-print::write_members g l = 2 * tallest l.children.now.entries
+
+-- what is written and what is left make the whole
+abbrev pub invariant-print::write_members-loop-key : goal.invariant-print::write_members-loop-key
+invariant-print::write_members-loop-key g l =
+    (tallest l.key-iterator ≤ tallest l.children.entries)
+    × (l.out.tokens ++ tokens_of_members (members_of g.L.Leaf.printing l.key-iterator)
+    ≡ l.fn.out.tokens ++ tokens_of_members (members_of g.L.Leaf.printing l.children.entries))
+    × (l.out.before ≡ l.fn.out.before)
