@@ -10,24 +10,15 @@ import sys
 import tempfile
 import time
 
+sys.dont_write_bytecode = True
+from memory import peak_of
+
 TABLE = "CREATE TABLE batch(k INTEGER PRIMARY KEY, moment INTEGER NOT NULL, body TEXT NOT NULL)"
 INSERT = "INSERT INTO batch(k, moment, body) VALUES(?1, ?2, ?3)"
 SELECT = "SELECT k, moment, body FROM batch ORDER BY k"
 
 # What a commit writes and syncs: two pages, each with its header in the log.
 FRAMES = bytes(2 * (24 + 4096))
-
-
-def peak_of(process):
-    """The peak memory of a process that runs, in MB, looked at until it ends: what wait4 tells counts this program too."""
-    peak = 0
-    while True:
-        with open("/proc/%d/status" % process.pid) as status:
-            found = [line for line in status if line.startswith("VmHWM:")]
-        if not found:
-            return peak
-        peak = max(peak, int(found[0].split()[1]) / 1024)
-        time.sleep(0.002)
 
 
 def run(program, *words):
