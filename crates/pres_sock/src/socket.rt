@@ -17,7 +17,7 @@ use tungstenite::{
 pub(crate) type Socket<S, M> = WebSocket<Metered<S>, M>;
 
 // How many bytes a read asks for.
-const READ_SIZE: usize = 4096;
+const READ_SIZE: usize = 1024;
 
 // The most reads that wait for the peer's part of a close.
 const CLOSE_READS: u32 = 20;

@@ -1,6 +1,8 @@
 -- The words of the command line.
-use Rattle.std.specs.Prelude.{◌≡◌, ◌⊎◌, ℕ, true, false, List, Option, Some, [], ◌∷◌, drop, codes, option_map}
-use Rattle.clap.specs.Words.{App, Row, Rule, Shape, Text, first_of, new_app, new_rule, subcommand_of, with_rule, with_subcommand, fault_of}
+use Rattle.std.specs.Prelude.{◌≡◌, ◌⊎◌, ◌<◌, ◌^◌, ℕ, true, false, List, Option, Some, None, [], ◌∷◌, drop, codes, option_map}
+use Rattle.std.specs.Option.{SomeIff}
+use Rattle.std.specs.Str.Parse.{IsNumeral, digits_value, without_leading_plus}
+use Rattle.clap.specs.Words.{App, Row, Rule, Shape, Text, first_of, one_of, new_app, new_rule, subcommand_of, with_rule, with_subcommand, fault_of}
 use Rattle.clap.specs.declared.builder.command.Command.{Command}
 use Rattle.clap.specs.declared.builder.command.Command.TheViews.{out-Command}
 use Rattle.clap.specs.declared.builder.value_parser.ValueParser.TheVariants as parser
@@ -59,15 +61,23 @@ AsksNet words = Names (codes "serve") words ⊎ Names (codes "client") words
 abbrev pub AreTaken : List Text → Type 0
 AreTaken words = fault_of program words ≡ []
 
--- a server is given this address and this file
+-- the number of so many bits that the text's decimal digits tell: none without a text, or where they tell none
+abbrev pub IsReadAs : ℕ → Option Text → Option ℕ → Type 0
+IsReadAs bits None number = number ≡ None
+IsReadAs bits (Some text) number =
+    SomeIff number (IsNumeral 10 (without_leading_plus text) × (digits_value 10 (without_leading_plus text) < 2 ^ bits)) (digits_value 10 (without_leading_plus text))
+
+-- a server is given this address, this file, and how many connections it serves
 abbrev pub IsServed : Serving → List Row → Type 0
 IsServed serving rows = (first_of (codes "ADDRESS") rows ≡ Some serving.address.now)
     × (first_of (codes "FILE") rows ≡ Some serving.file.now)
+    × IsReadAs 32 (one_of (codes "connections") rows) serving.connections
 
--- a client is given this address and this id
+-- a client is given this address, this id and this incarnation
 abbrev pub IsCalled : Calling → List Row → Type 0
 IsCalled calling rows = (first_of (codes "ADDRESS") rows ≡ Some calling.address.now)
     × (first_of (codes "ID") rows ≡ Some calling.id.now)
+    × IsReadAs 64 (one_of (codes "INCARNATION") rows) (Some calling.incarnation)
 
 -- the request is that of the subcommand, with what that is given
 abbrev pub IsAskedBy : Request → Option (Text × List Row) → Type 0

@@ -1,6 +1,10 @@
-use Rattle.std.proofs.Common.{sym, ◌∙◌, codes}
-use Rattle.clap.specs.Words.{found_of}
-use Rattle.clap.proofs.WalkLemmas.{first_value-rows}
+use Rattle.std.proofs.Common.{sym, ap, subst, ◌∙◌, codes, Some}
+use Rattle.std.specs.Str.Parse.{ParsesUnsigned, ExplainsUnsignedError, HasUnsignedDigitsIfOk}
+use Rattle.clap.specs.Matches.{one_text}
+use Rattle.clap.specs.Words.{found_of, one_of, rows_of}
+use Rattle.clap.proofs.WalkLemmas.{first_value-rows, one_text-rows}
+use Rattle.presence.specs.Words.{IsReadAs}
+use Rattle.presence.proofs.Numbers.{read_of}
 use Rattle.presence.proofs.words.client_of.Goals as goal
 
 pub returns : goal.returns
@@ -8,4 +12,8 @@ returns c =
     let found = found_of c.args.given.now in (
       sym (first_value-rows found (codes "ADDRESS")) ∙ sym c.in_ok-get_str.ensures,
       sym (first_value-rows found (codes "ID")) ∙ sym c.in_ok-get_str-2.ensures,
+      subst (IsReadAs 64 (one_of (codes "INCARNATION") (rows_of found))) (c.in_ok-get_one.was ∙ ap Some (sym c.in_ok-new.ensures.1))
+          (subst (λ text. IsReadAs 64 text c.get_one.result) (one_text-rows found (codes "INCARNATION"))
+          (read_of 64 _ c.get_one.result (one_text found (codes "INCARNATION"))
+          (λ t r (h : ParsesUnsigned 64 10 t r × ExplainsUnsignedError 10 t r × HasUnsignedDigitsIfOk t r). h.0) c.get_one.ensures.none c.get_one.ensures.value)),
     )
