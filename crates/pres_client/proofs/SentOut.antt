@@ -34,7 +34,7 @@ use Rattle.pres_mail.specs.Asks.{ask_of}
 use Rattle.pres_client.specs.Clients.{State, start, is_online, is_opening, session_of, base_of, outstanding}
 use Rattle.pres_client.specs.Calls.{refusal, sent_now, after_write, after_call, end_session, with_request, enqueue, outgoing, note, try_of, after_answer, after_listen, after_unlisten}
 use Rattle.pres_client.specs.Receiving as receiving
-use Rattle.pres_client.specs.Receiving.{is_next, fits, fits_write, bring, is_last, first_listen, first_action, first_is_off, after_receive, after_welcome, after_fault, own_fault, ends_session, is_fit, judge_reply, write_outcome, try_outcome, ask_again, action_answered, judge_denied, listen_denied, listen_answered, armed, denied}
+use Rattle.pres_client.specs.Receiving.{is_next, fits, bring, first_listen, first_action, first_is_off, after_receive, after_welcome, after_fault, is_fit, armed}
 use Rattle.pres_client.specs.Steps.{Step, calls, receives, hands_out_sends, hands_out_notices, after, run}
 use Rattle.pres_client.specs.Sends.{Made, none_made, Unnumbered, opening, made_one, wrote_one, answered_one, made_by, made_step, kept_while, made, MayGoOut, StepSends}
 use Rattle.pres_client.proofs.Phases.{opening_off}

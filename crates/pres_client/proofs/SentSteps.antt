@@ -40,7 +40,7 @@ use Rattle.pres_mail.specs.Asks.{ask_of}
 use Rattle.pres_client.specs.Clients.{State, start, is_online, is_opening, session_of, base_of, no_request, no_message}
 use Rattle.pres_client.specs.Calls.{refusal, action_refusal, set_fault, after_call, end_session, with_request, enqueue, after_answer, after_listen, after_unlisten, note}
 use Rattle.pres_client.specs.Receiving as receiving
-use Rattle.pres_client.specs.Receiving.{is_next, fits, fits_write, bring, is_last, first_listen, first_is_off, after_receive, after_welcome, after_fault, own_fault, ends_session, is_fit, judge_reply, write_outcome, try_outcome, ask_again, write_answered, judge_action, judge_denied, judge_snap, judge_off_done, after_push, armed, denied}
+use Rattle.pres_client.specs.Receiving.{is_next, fits, fits_write, bring, is_last, first_is_off, after_receive, after_welcome, after_fault, own_fault, ends_session, is_fit, judge_reply, write_outcome, try_outcome, write_answered, judge_action, judge_denied, judge_snap, judge_off_done, after_push, armed, denied}
 use Rattle.pres_client.specs.Steps.{Step, calls, receives, hands_out_sends, hands_out_notices, after, run}
 use Rattle.pres_client.specs.Sends.{Made, none_made, Unnumbered, opening, made_one, wrote_one, answered_one, made_by, made_step, kept_while, made, SendsHold}
 use Rattle.pres_client.proofs.Phases.{not_open, opening_off}

@@ -19,7 +19,7 @@ use Rattle.pres_mail.specs.declared.watch.Watch.{Watch}
 use Rattle.pres_mail.specs.Watches.{watch_of}
 use Rattle.pres_client.specs.Clients.{State, is_online, is_opening, most_sends}
 use Rattle.pres_client.specs.Receiving as receiving
-use Rattle.pres_client.specs.Receiving.{accepts, is_next, fits, fits_write, bring, is_last, first_listen, first_action, first_is_off, after_receive, after_welcome, after_fault, own_fault, ends_session, is_fit, judge_reply, write_outcome, try_outcome, ask_again, action_answered, judge_denied, listen_denied, listen_answered, armed, denied}
+use Rattle.pres_client.specs.Receiving.{accepts, is_next, fits, fits_write, bring, is_last, first_listen, first_action, first_is_off, after_receive, after_welcome, after_fault, ends_session, judge_reply, action_answered, judge_denied, listen_denied, listen_answered, armed, denied}
 use Rattle.pres_client.specs.Calls.{end_session}
 use Rattle.pres_client.proofs.Welcomes.{few-welcome}
 

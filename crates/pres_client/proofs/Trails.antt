@@ -43,7 +43,7 @@ use Rattle.pres_mail.specs.Queues.{is_on, is_write}
 use Rattle.pres_client.specs.Clients.{State, start, is_online, is_opening, session_of}
 use Rattle.pres_client.specs.Calls.{refusal, after_call, end_session, with_request, enqueue, note, try_of, after_answer, after_listen, after_unlisten}
 use Rattle.pres_client.specs.Receiving as receiving
-use Rattle.pres_client.specs.Receiving.{is_next, fits, fits_write, bring, unfit, is_last, first_listen, first_action, first_is_off, after_receive, after_welcome, after_fault, own_fault, ends_session, is_fit, judge_reply, write_outcome, try_outcome, ask_again, answered, write_answered, action_answered, judge_action, judge_denied, listen_denied, listen_answered, judge_off_done, after_push, armed, denied, tell_live}
+use Rattle.pres_client.specs.Receiving.{is_next, fits, fits_write, bring, unfit, is_last, first_listen, first_action, first_is_off, after_receive, after_welcome, after_fault, own_fault, ends_session, is_fit, judge_reply, write_outcome, try_outcome, ask_again, answered, write_answered, action_answered, judge_denied, listen_denied, listen_answered, judge_off_done, after_push, armed, denied, tell_live}
 use Rattle.pres_client.specs.Steps.{Step, calls, receives, hands_out_sends, hands_out_notices, after, run, IsMessage, IsStep, AreMessages}
 use Rattle.pres_client.specs.Trails.{Trail, nothing, more, listens_to, with_snap, with_message, trail_step, kept_for, trail, ViewsHold}
 use Rattle.pres_client.proofs.Phases.{not_open, opening_off}

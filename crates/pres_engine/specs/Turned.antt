@@ -9,7 +9,6 @@ use Rattle.pres_server.specs.Streams.{answers}
 use Rattle.pres_server.specs.Turns.{Decision, refused, quiet, makes, turn, moment_of, batch_of, state_after, state_heard, IsRefusal, is_made}
 use Rattle.pres_engine.specs.declared.fault.EngineFault.{EngineFault}
 use Rattle.pres_engine.specs.declared.fault.EngineFault.TheVariants as why
-use Rattle.pres_engine.specs.Engines.{Run}
 
 -- the decision is carried out: the server after it, and its answers
 abbrev pub IsDone : Decision → State → ℕ → Input → Option State → List Down → Type 0

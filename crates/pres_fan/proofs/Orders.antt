@@ -5,7 +5,6 @@ use Rattle.std.specs.Cmp.{IsTotalOrder, then_total, on_total, nat_cmp_total, tie
 use Rattle.std.specs.Cmp.Lexicographic.{nat_list_cmp_total, bytes_decides}
 use Rattle.std.specs.FinMap.{IsAntisymmetric, slice_cmp-IsAntisymmetric, nat_cmp-IsAntisymmetric}
 use Rattle.std.proofs.lemmas.Bool.{and_parts, and_from, eqb-true, eq-eqb, false_from_ne_true}
-use Rattle.pres_tree.specs.Paths.{path_cmp, same_path}
 use Rattle.pres_tree.specs.Falls.{path_total, path_same as path_apart}
 use Rattle.pres_tree.proofs.PathOrder.{path_decides}
 use Rattle.pres_ids.specs.Ids.{same_client, same_session, client_cmp}

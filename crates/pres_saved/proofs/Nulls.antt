@@ -1,11 +1,10 @@
 -- What a turn makes holds one null.
 use Rattle.std.proofs.Common.{◌≡◌, ℕ, Bool, List, [], ◌∷◌, ◌++◌, true, false, if◌then◌else◌, refl, sym, ap, subst, ◌∙◌, append-nil, append_assoc}
 use Rattle.pres_tree.specs.declared.scalar.Scalar.{Scalar}
-use Rattle.pres_tree.specs.Rows.{Rows, option_of, rows_in, value_at}
+use Rattle.pres_tree.specs.Rows.{Rows, option_of, value_at}
 use Rattle.pres_tree.specs.Scalars.{same_rows}
 use Rattle.pres_write.specs.declared.op.Op.{Op}
 use Rattle.pres_write.specs.declared.op.Op.TheVariants.{Set, Update, Tx}
-use Rattle.pres_write.specs.declared.outcome.Outcome.{Outcome}
 use Rattle.pres_write.specs.declared.outcome.Outcome.TheVariants.{Wrote, Stale}
 use Rattle.pres_write.specs.Basics.{basic}
 use Rattle.pres_write.specs.Drafts.{settled}

@@ -1,16 +1,15 @@
 -- Why rows are refused, by what going over them came to.
-use Rattle.std.proofs.Common.{refl, sym, ◌∙◌, ap, subst, ◌≡◌, ◌⊎◌, inl, inr, ℕ, ◌+◌, List, [], ◌∷◌, ◌++◌, length, Result, Ok, Err, Some, append-nil, arith}
+use Rattle.std.proofs.Common.{refl, sym, ◌∙◌, ap, subst, ◌≡◌, inl, inr, ◌+◌, List, [], ◌∷◌, length, Result, Ok, Err, Some, append-nil, arith}
 use Rattle.std.specs.Result.{IfErr}
 use Rattle.sqlite.specs.Order.{Row}
-use Rattle.pres_log.specs.declared.entry.Batch.{Batch}
 use Rattle.pres_log.specs.Logs.{Log, number}
 use Rattle.pres_table.specs.declared.fault.SavedFault.{SavedFault}
 use Rattle.pres_table.specs.declared.fault.SavedFault.TheVariants.{Memory, Database, NotOurs, BadRow, Version}
-use Rattle.pres_table.specs.Saved.{Saved, saved_rows, saved_front}
+use Rattle.pres_table.specs.Saved.{Saved, saved_front}
 use Rattle.pres_table.specs.Taking.{TakesAll, GoesOver, MeetsBadRow, IsRefused}
-use Rattle.pres_server.specs.LegalLog.{IsLegal, MayFollow}
+use Rattle.pres_server.specs.LegalLog.{IsLegal}
 use Rattle.pres_saved.specs.Saved.{batch_in, log_after, saved_log, IsOfStore, IsNoServer}
-use Rattle.pres_saved.specs.Taking.{Extends, IsNotTaken, Follows, MayNotFollow, IsNoFollower, IsFirstBad, IsUnread, IsUnserved}
+use Rattle.pres_saved.specs.Taking.{Extends, IsNotTaken, Follows, IsNoFollower, IsUnread, IsUnserved}
 use Rattle.pres_saved.proofs.Counted.{due_is}
 use Rattle.pres_saved.proofs.Reading.{taken_log, log_of_read, stopped_log, log_unread, log_stopped, length_after}
 use Rattle.pres_saved.proofs.Remade.{follows_all, legal_all, first_illegal}

@@ -1,18 +1,18 @@
 -- A server that is made again of saved rows.
-use Rattle.std.proofs.Common.{refl, sym, ◌∙◌, ap, subst, ◌≡◌, ℕ, ◌+◌, List, [], ◌∷◌, ◌++◌, length, Option, Some, None, Result, Ok, Err, append-nil}
+use Rattle.std.proofs.Common.{refl, sym, ◌∙◌, ap, subst, ◌≡◌, ℕ, ◌+◌, List, [], ◌∷◌, ◌++◌, length, Option, Some, None, Ok, append-nil}
 use Rattle.std.proofs.lemmas.List.{append_assoc}
 use Rattle.std.specs.Result.{result_unwrap_or}
 use Rattle.sqlite.specs.Order.{Row}
 use Rattle.pres_log.specs.declared.entry.Batch.{Batch}
 use Rattle.pres_log.specs.Logs.{Log, number}
-use Rattle.pres_table.specs.Saved.{Saved, saved_rows, saved_front}
+use Rattle.pres_table.specs.Saved.{Saved}
 use Rattle.pres_table.specs.Taking.{TakesAll}
 use Rattle.pres_server.specs.LegalLog.{IsLegal, MayFollow}
 use Rattle.pres_server.specs.Replays.{IsFirstIllegal}
 use Rattle.pres_server.proofs.Whole.{legal_after}
 use Rattle.pres_saved.specs.Saved.{batch_in, log_then, log_after, saved_log}
 use Rattle.pres_saved.specs.Taking.{Extends, Follows, IsFirstBad}
-use Rattle.pres_saved.proofs.Reading.{no_err, taken_log, then_log, read_of}
+use Rattle.pres_saved.proofs.Reading.{no_err, then_log, read_of}
 
 -- those that may follow stand behind one another
 pub follows_all : {T : Type 0} (log_of : T → Log) (given : List Saved) (old new : T) → TakesAll (λ before row after. Follows (log_of before) row (log_of after)) given old new

@@ -1,5 +1,5 @@
 -- A turn that isn't done after all.
-use Rattle.std.specs.Prelude.{◌≡◌, List, [], ◌∷◌, ◌++◌}
+use Rattle.std.specs.Prelude.{◌≡◌, [], ◌∷◌, ◌++◌}
 use Rattle.pres_log.specs.Logs.{Log}
 use Rattle.pres_server.specs.Heard.{State, Pending}
 use Rattle.pres_server.specs.Turns.{batch_of}

@@ -1,5 +1,5 @@
 -- Which drafts may be the puts of one operation, as a test and as facts.
-use Rattle.std.proofs.Common.{◌≡◌, ℕ, zero, suc, ◌+◌, ◌<◌, ◌≤◌, List, [], ◌∷◌, length, Bool, true, false, not, ◌&&◌, ◌||◌, T, Some, None, cond, refl, sym, ap, ◌∙◌, arith}
+use Rattle.std.proofs.Common.{◌≡◌, ℕ, zero, suc, ◌+◌, ◌<◌, ◌≤◌, List, [], ◌∷◌, length, Bool, true, false, not, ◌&&◌, ◌||◌, T, refl, sym, ◌∙◌, arith}
 use native.Mathlib.Nat.{suc-add}
 use Rattle.std.proofs.lemmas.Bool.{false≢true}
 use Rattle.std.specs.Prelude.{nat_le, slice_index_or}
@@ -16,7 +16,7 @@ use Rattle.pres_tree.specs.Falls.{path_total}
 use Rattle.pres_tree.specs.Paths.{Path, path_cmp, is_prefix, meet, overlap}
 use Rattle.pres_tree.specs.Rows.{Rows}
 use Rattle.pres_write.specs.declared.draft.Slot.{Slot}
-use Rattle.pres_write.specs.Unconditionals.{ArePuts, may_be_puts, as_puts}
+use Rattle.pres_write.specs.Unconditionals.{ArePuts, may_be_puts}
 use Rattle.pres_write.specs.Updates.{Places, most_places}
 use Rattle.pres_write.proofs.Ordered.{rising_keys}
 use Rattle.pres_write.proofs.Overlaps.{overlap-next}

@@ -1,5 +1,5 @@
 -- What is put next is told, and what a batch answers is told.
-use Rattle.std.proofs.Common.{refl, sym, ◌∙◌, ap, subst, ◌≡◌, List, [], ◌∷◌, ◌++◌, Bool, true, false, cond, append_assoc, append-nil, Option, Some, None, inl, inr, unwrap_or, IfSome}
+use Rattle.std.proofs.Common.{sym, ◌∙◌, ap, subst, ◌≡◌, List, [], ◌∷◌, ◌++◌, true, cond, append_assoc, append-nil, Option, Some, None, inl, inr, unwrap_or, IfSome}
 use Rattle.std.specs.List.{list_any}
 use Rattle.std.proofs.lemmas.Bool.{and_parts}
 use Rattle.pres_ids.specs.declared.id.SessionId.{SessionId}

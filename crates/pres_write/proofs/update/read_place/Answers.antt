@@ -1,4 +1,4 @@
-use Rattle.std.proofs.Common.{◌≡◌, ◌+◌, ◌-◌, ◌<◌, ◌≤◌, ◌++◌, ◌⊎◌, ℕ, List, length, length-append, true, false, cond, None, Some, Err, inl, inr, sym, ap, subst, ◌∙◌, arith}
+use Rattle.std.proofs.Common.{◌≡◌, ◌+◌, ◌-◌, ◌<◌, ◌≤◌, ◌++◌, ◌⊎◌, ℕ, List, length, length-append, true, false, cond, None, Some, inl, inr, sym, ap, ◌∙◌, arith}
 use Rattle.std.proofs.lemmas.Bool.Decides.{nat_tests}
 use Rattle.std.specs.Option.{option_or}
 use Rattle.std.specs.Prelude.{nat_lt}
@@ -7,8 +7,8 @@ use Rattle.serde_json.specs.View.{view}
 use Rattle.pres_tree.specs.declared.fault.TreeFault.{TreeFault}
 use Rattle.pres_tree.specs.declared.fault.TreeFault.TheVariants.{Memory, TooDeep}
 use Rattle.pres_tree.specs.Paths.{Path, IsPath, max_depth, segments, path_fault}
-use Rattle.pres_tree.specs.Reading.{fault_of, levels_below, rows_of}
-use Rattle.pres_tree.specs.Rows.{Rows, Fits}
+use Rattle.pres_tree.specs.Reading.{fault_of, rows_of}
+use Rattle.pres_tree.specs.Rows.{Rows}
 use Rattle.pres_write.specs.declared.draft.Slot.{Slot}
 use Rattle.pres_write.specs.Drafts.{slot_reading}
 use Rattle.pres_write.specs.OpForms.{place_fault}

@@ -1,4 +1,4 @@
-use Rattle.std.proofs.Common.{◌≡◌, ◌∙◌, ap}
+use Rattle.std.proofs.Common.{◌∙◌, ap}
 use Rattle.pres_server.specs.Heard.{State}
 use Rattle.pres_server.specs.Turns.{batch_of}
 use Rattle.tests_of_ring.proofs.Fed.{answered_at}

@@ -1,4 +1,4 @@
-use Rattle.std.proofs.Common.{◌≡◌, ◌∙◌, sym, true, false, not, rules}
+use Rattle.std.proofs.Common.{◌≡◌, ◌∙◌, sym, true, false, rules}
 use Rattle.pres_wire.specs.Messages.{session_for}
 use Rattle.pres_log.specs.Logs.{entries}
 use Rattle.pres_server.specs.Sessions.{is_open}

@@ -1,4 +1,4 @@
-use Rattle.std.proofs.Common.{◌≡◌, ◌∷◌, [], ◌++◌, ◌∙◌, sym, true, ap}
+use Rattle.std.proofs.Common.{◌≡◌, ◌∷◌, [], ◌++◌, true}
 use Rattle.std.proofs.lemmas.Option.{IfSome_then}
 use Rattle.pres_wire.specs.Messages.{session_for}
 use Rattle.pres_ring.specs.Told.{names, those_for}

@@ -1,5 +1,5 @@
-use Rattle.std.proofs.Common.{◌≡◌, ◌∷◌, [], sym, subst}
-use Rattle.pres_ring.specs.Told.{IsToldOf, those_for}
+use Rattle.std.proofs.Common.{◌∷◌, []}
+use Rattle.pres_ring.specs.Told.{those_for}
 use Rattle.pres_ring.proofs.Begins.{told_front}
 use Rattle.tests_of_ring.proofs.run.welcomed.Goals as goal
 

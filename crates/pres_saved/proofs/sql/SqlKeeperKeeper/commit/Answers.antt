@@ -1,4 +1,4 @@
-use Rattle.std.proofs.Common.{◌+◌, subst}
+use Rattle.std.proofs.Common.{subst}
 use Rattle.std.specs.String.{string_bytes}
 use Rattle.pres_ids.specs.Numbers.{IsNumber}
 use Rattle.pres_table.specs.Saved.{Saved}

@@ -3,7 +3,7 @@ use Rattle.std.specs.BTreeMap.{get, insert_entry, Updates}
 use Rattle.pres_tree.specs.Children.{place_of}
 use Rattle.pres_tree.specs.Keys.{key_cmp}
 use Rattle.pres_tree.specs.Stores.{seen, IsSound}
-use Rattle.pres_tree.specs.declared.children.Store.TheVariants.{Few, Many}
+use Rattle.pres_tree.specs.declared.children.Store.TheVariants.{Few}
 use Rattle.pres_tree.proofs.Places.{within, up_to, found_insert, found_old, missing_value, sets, puts, joins, new_insert}
 use Rattle.pres_tree.proofs.children.Store.insert.Goals as goal
 

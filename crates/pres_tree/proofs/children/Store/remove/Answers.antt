@@ -5,7 +5,7 @@ use Rattle.std.specs.BTreeMap.{get_by, is_at, UpdatesBy}
 use Rattle.pres_tree.specs.Children.{place_of}
 use Rattle.pres_tree.specs.Keys.{key_cmp}
 use Rattle.pres_tree.specs.Stores.{seen, IsSound}
-use Rattle.pres_tree.specs.declared.children.Store.TheVariants.{Few, Many}
+use Rattle.pres_tree.specs.declared.children.Store.TheVariants.{Few}
 use Rattle.pres_tree.proofs.Places.{within, found_value, found_remove, rise_remove, missing_value, missing_remove, removes}
 use Rattle.pres_tree.proofs.children.Store.remove.Goals as goal
 

@@ -1,4 +1,4 @@
-use Rattle.std.proofs.Common.{◌≡◌, ◌++◌, ap, ◌∙◌}
+use Rattle.std.proofs.Common.{◌++◌, ap, ◌∙◌}
 use Rattle.json.specs.Print.{print}
 use Rattle.pres_tree.specs.Printing.{json_of}
 use Rattle.pres_tree.proofs.Written.{text_written}

@@ -1,4 +1,4 @@
-use Rattle.std.proofs.Common.{◌≡◌, ◌∷◌, [], ◌++◌, List, ℕ, All, false, map, append_assoc, append-nil, sym, ap, subst, ◌∙◌, refl}
+use Rattle.std.proofs.Common.{◌≡◌, ◌∷◌, [], ◌++◌, List, All, false, map, append_assoc, append-nil, sym, ap, subst, ◌∙◌}
 use Rattle.std.specs.Map.{keys_of}
 use Rattle.pres_tree.specs.Paths.{Path, path_cmp, overlap}
 use Rattle.pres_tree.specs.Rows.{Rows, Fits}
@@ -6,7 +6,7 @@ use Rattle.pres_write.specs.declared.basic.Basic.{Basic}
 use Rattle.pres_write.specs.declared.draft.Slot.{Slot}
 use Rattle.pres_write.specs.Basics.{basic}
 use Rattle.pres_write.specs.Drafts.{settled}
-use Rattle.pres_write.specs.Updates.{FitsBelow, Places, update_writes}
+use Rattle.pres_write.specs.Updates.{FitsBelow, update_writes}
 use Rattle.pres_write.proofs.Overlaps.{overlap-joined, paths_of_writes, writes_more}
 use Rattle.pres_write.proofs.Ordered.{each-middle}
 use Rattle.pres_write.proofs.update.Update.writes.Goals as goal
