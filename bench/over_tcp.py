@@ -15,7 +15,7 @@ import tempfile
 import time
 
 TOP = os.path.dirname(os.path.dirname(os.path.abspath(__file__)))
-PROGRAM = os.path.join(TOP, "crates", "presence", "out", "presence")
+PROGRAM = os.path.join(TOP, "presence")
 
 UPGRADE = (
     b"GET / HTTP/1.1\r\nHost: presence\r\nUpgrade: websocket\r\nConnection: Upgrade\r\n"
@@ -26,10 +26,12 @@ PATIENCE = 60
 
 
 def program_at(path):
-    """The program's whole path, or the end of this run where there is none."""
+    """The program's whole path, once it is built, or the end of this run where there is none."""
+    path = os.path.abspath(path)
     if not os.access(path, os.X_OK):
-        sys.exit("no program at %s: ./presence builds it on its first use" % path)
-    return os.path.abspath(path)
+        sys.exit("no program at %s" % path)
+    subprocess.run([path, "--version"], check=True, stdout=subprocess.DEVNULL)
+    return path
 
 
 def raise_descriptors():
