@@ -36,6 +36,13 @@ void *aligned_alloc(size_t align, size_t size) {
     return refuses() ? NULL : real(align, size);
 }
 
+/* A program with threads ends by this call, and so does one whose functions for its end have run. */
+void _exit(int status) {
+    void (*real)(int) = dlsym(RTLD_NEXT, "_exit");
+    real(calls < refused ? 77 : status);
+    __builtin_unreachable();
+}
+
 __attribute__((destructor)) static void last(void) {
     if (calls < refused) _exit(77);
 }
