@@ -1,5 +1,7 @@
 -- Lines of a text that comes in pieces.
-use Rattle.std.proofs.Common.{◌≡◌, ◌==◌, ℕ, Bool, true, false, List, [], ◌∷◌, ◌++◌, refl, sym, ap, ◌∙◌, append_assoc, append-nil, ◌||◌}
+use Rattle.std.proofs.Common.{◌≡◌, ◌==◌, ◌+◌, ◌<◌, ℕ, zero, suc, Bool, true, false, List, [], ◌∷◌, ◌++◌, length, take, drop, slice_index, refl, sym, ap, ◌∙◌, append_assoc, append-nil, ◌||◌, arith, eqb-true, add-one}
+use Rattle.std.proofs.lemmas.Bool.{false_from_ne_true}
+use Rattle.std.proofs.Math.Seq.{split_at}
 use Rattle.pres_apply.specs.Replies.{State}
 use Rattle.pres_apply.specs.Replies.{reply, next}
 use Rattle.pres_apply.specs.Lines.{lines_of, replies, end_of, IsFeedless, Holds, Takes, Midway, AnswersSome}
@@ -113,9 +115,18 @@ pub feedless_append : (xs ys : List ℕ) → IsFeedless xs → IsFeedless ys →
 unfolding IsFeedless
 feedless_append xs ys h k = list_any-append (λ b. b == 10) xs ys ∙ rw (h, k)
 
-pub feedless_one : (b : ℕ) → (b == 10) ≡ false → IsFeedless (b ∷ [])
+-- what comes before the first line feed
+pub feedless_before : (xs : List ℕ) (k : ℕ) → ((j : ℕ) → j < k → j < length xs → (slice_index xs j == 10) ≡ true → ⊥) → IsFeedless (take k xs)
 unfolding IsFeedless
-feedless_one b e = rw e
+feedless_before xs zero h = refl
+feedless_before [] (suc k) h = refl
+feedless_before (x ∷ xs) (suc k) h = rw (false_from_ne_true (x == 10) (h 0 (omega arith) (omega arith)), feedless_before xs k (λ j m l. h (suc j) (omega arith) (omega arith)))
+
+-- a text, cut at a line feed
+pub cut_at_feed : (xs : List ℕ) (k : ℕ) → k < length xs → (slice_index xs k == 10) ≡ true → xs ≡ take k xs ++ 10 ∷ drop (k + 1) xs
+cut_at_feed xs k l e =
+    let feed : slice_index xs k ≡ 10 = eqb-true (slice_index xs k) 10 e in
+    split_at xs k 0 l ∙ ap (λ b. take k xs ++ b ∷ drop (suc k) xs) feed ∙ ap (λ n. take k xs ++ 10 ∷ drop n xs) (sym (add-one k))
 
 -- a line, then a line feed
 pub lines_line : (line more : List ℕ) → IsFeedless line → lines_of (line ++ 10 ∷ more) ≡ line ∷ lines_of more

@@ -7,6 +7,7 @@ ghost use Rattle.pres_tree.specs.Rows.{rows_in};
 ghost use Rattle.pres_apply.specs.Faults.{EndsAt};
 
 use crate::faults::{LineFault, RunFault};
+use itoa::Buffer;
 use pres_log::{Fault, Plain};
 use pres_tree::{Tree, TreeFault};
 use pres_write::{Kept, MAX_SAFE_INTEGER, Moment, Op, WriteFault};
@@ -81,8 +82,10 @@ impl Applier {
             Err(Fault::Spent) => return Err(RunFault::Spent),
             Err(_) => return Err(RunFault::Memory),
         };
-        let line = kept_line(self.alloc, number.get(), &kept)?;
-        out.extend_from_slice(&line)?;
+        match kept {
+            Kept::Wrote => wrote_line(number.get(), out)?,
+            Kept::Stale(held) => stale_line(self.alloc, number.get(), &held, out)?,
+        }
         Ok(())
     }
 
@@ -113,22 +116,30 @@ impl Applier {
     }
 }
 
-// The line that replies to an operation that was carried out.
-fn kept_line(alloc: Global, number: u64, kept: &Kept) -> Result<Vec<u8>, AllocError>
-    ensures { IfOk result (λ line. line.items ≡ kept_line number kept.now) }
+// Adds the line that replies to an operation that wrote.
+fn wrote_line(number: u64, out: &mut Vec<u8>) -> Result<(), AllocError>
+    ensures ok { OnOk result (out.new.items ≡ out.old.items ++ kept_line number Kept.Wrote) }
+    ensures err { OnErr result (out.new.items ≡ out.old.items) }
 {
-    match kept {
-        Kept::Wrote => {
-            let text = format!(in alloc; "{number} wrote\n")?;
-            Ok(text.into_bytes())
-        }
-        Kept::Stale(held) => stale_line(alloc, number, held),
+    let before = out.len();
+    out.extend_from_slice(Buffer::new().format(number).as_bytes())?;
+    if out.extend_from_slice(b" wrote\n").is_err() {
+        out.truncate(before);
+        return Err(AllocError);
     }
+    Ok(())
 }
 
-// The line that replies to a transaction that met another value.
-fn stale_line(alloc: Global, number: u64, held: &Option<Tree>) -> Result<Vec<u8>, AllocError>
-    ensures { IfOk result (λ line. line.items ≡ kept_line number (Kept.Stale held.now)) }
+// Adds the line that replies to a transaction that met another value.
+fn stale_line(
+    alloc: Global,
+    number: u64,
+    held: &Option<Tree>,
+    out: &mut Vec<u8>,
+) -> Result<(), AllocError>
+    ensures ok { OnOk result
+        (out.new.items ≡ out.old.items ++ kept_line number (Kept.Stale held.now)) }
+    ensures err { OnErr result (out.new.items ≡ out.old.items) }
 {
     let text = format!(in alloc; "{number} stale ")?;
     let mut line = text.into_bytes();
@@ -137,7 +148,8 @@ fn stale_line(alloc: Global, number: u64, held: &Option<Tree>) -> Result<Vec<u8>
         None => line.extend_from_slice(b"null")?,
     }
     line.push(b'\n')?;
-    Ok(line)
+    out.extend_from_slice(&line)?;
+    Ok(())
 }
 
 // The JSON value that a line is.

@@ -8,6 +8,7 @@ ghost use Rattle.pres_apply.specs.Lines.{AnswersSome, Holds, IsFeedless, Takes};
 use crate::applier::Applier;
 use crate::faults::{LineFault, RunFault};
 use crate::pending::Pending;
+use memchr::memchr;
 use std::alloc::Global;
 
 /// What the lines so far have made, and the line that has come so far.
@@ -109,10 +110,6 @@ fn split_line(bytes: &[u8]) -> Option<(&[u8], &[u8])>
     ensures { MatchOption result (IsFeedless bytes.now) (λ p. IsFeedless p.0.now
         × (bytes.now ≡ p.0.now ++ 10 ∷ p.1.now)) }
 {
-    for (i, byte) in bytes.iter().enumerate() {
-        if *byte == b'\n' {
-            return Some((&bytes[..i], &bytes[i + 1..]));
-        }
-    }
-    None
+    let end = memchr(b'\n', bytes)?;
+    Some((&bytes[..end], &bytes[end + 1..]))
 }

@@ -1,12 +1,7 @@
-//! The presence server's command line.
+//! The presence server: the command line, over the process's words and streams.
 #![tactic(auto)]
 
-mod program;
-#[cfg(test)]
-mod tests;
-mod words;
-
-use crate::program::{explain_unread, presence_run};
+use pres_command::{explain_unread, presence_run};
 use std::alloc::AllocError;
 use std::net::{Net, TcpListener, TcpStream};
 use std::process::ExitCode;

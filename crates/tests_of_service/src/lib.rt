@@ -1,9 +1,12 @@
-//! Tests of a server that is kept in a file, and of its clients, over the public calls of
-//! `pres_service`. They stand in a crate of their own, since a crate with tests is proved twice.
+//! Tests of a server that is kept in a file, of its clients, and of the command line, over the public
+//! calls of `pres_service` and `pres_command`. They stand in a crate of their own, since a crate with
+//! tests is proved twice.
 #![tactic(auto)]
 
 #[cfg(test)]
 mod board;
+#[cfg(test)]
+mod command;
 #[cfg(test)]
 mod files;
 #[cfg(test)]

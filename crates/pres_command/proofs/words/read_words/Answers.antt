@@ -5,8 +5,8 @@ use Rattle.clap.specs.Walk.{Text}
 use Rattle.clap.specs.Takes.{takes}
 use Rattle.std.specs.Prelude.{unwrap_or}
 use Rattle.std.proofs.lemmas.Option.{none-some}
-use Rattle.presence.proofs.Asked.{asked_is_apply, asked_is_taken, parsed_is_taken}
-use Rattle.presence.proofs.words.read_words.Goals as goal
+use Rattle.pres_command.proofs.Asked.{asked_is_apply, asked_is_taken, parsed_is_taken}
+use Rattle.pres_command.proofs.words.read_words.Goals as goal
 
 -- what `?` passes up
 passed : {T E : Type 0} (r : Result T E) (e : E) (P : T → Type 0) (Q : E → Type 0) → IsErrAnd r (λ y. y ≡ e) → Q e → MatchResult r P Q

@@ -3,9 +3,9 @@ use Rattle.std.specs.Str.Parse.{ParsesUnsigned, ExplainsUnsignedError, HasUnsign
 use Rattle.clap.specs.Matches.{one_text}
 use Rattle.clap.specs.Words.{found_of, one_of, rows_of}
 use Rattle.clap.proofs.WalkLemmas.{first_value-rows, one_text-rows}
-use Rattle.presence.specs.Words.{IsReadAs}
-use Rattle.presence.proofs.Numbers.{read_of}
-use Rattle.presence.proofs.words.client_of.Goals as goal
+use Rattle.pres_command.specs.Words.{IsReadAs}
+use Rattle.pres_command.proofs.Numbers.{read_of}
+use Rattle.pres_command.proofs.words.client_of.Goals as goal
 
 pub returns : goal.returns
 returns c =

@@ -3,8 +3,8 @@
 ghost use Rattle.std.specs.Prelude.{◌≡◌, ◌⊎◌, ◌≢◌, map};
 ghost use Rattle.clap.specs.Words.{kind_of};
 ghost use Rattle.pres_apply.specs.Lines.{Finished, Stopped};
-ghost use Rattle.presence.specs.Statuses.{IsStatus};
-ghost use Rattle.presence.specs.Words.{AreTaken, AsksApply, AsksNet};
+ghost use Rattle.pres_command.specs.Statuses.{IsStatus};
+ghost use Rattle.pres_command.specs.Words.{AreTaken, AsksApply, AsksNet};
 
 use crate::words::{Calling, Request, read_words};
 use clap::Error;

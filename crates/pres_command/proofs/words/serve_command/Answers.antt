@@ -2,8 +2,8 @@ use Rattle.std.proofs.Common.{rules, ap₂, ◌∙◌, ◌≡◌, Some, codes}
 use Rattle.std.specs.Prelude.{◌||◌}
 use Rattle.std.proofs.lemmas.Result.{IfOk-weaker}
 use Rattle.clap.specs.Words.{app_of, new_app, new_rule, rule_of, with_rule}
-use Rattle.presence.specs.Words.{HasNoGlobals, needed, up_to}
-use Rattle.presence.proofs.words.serve_command.Goals as goal
+use Rattle.pres_command.specs.Words.{HasNoGlobals, needed, up_to}
+use Rattle.pres_command.proofs.words.serve_command.Goals as goal
 
 pub returns : goal.returns
 returns c =

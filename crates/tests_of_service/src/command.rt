@@ -1,4 +1,6 @@
-use crate::program::presence_run;
+//! Command lines, and the statuses they come to.
+
+use pres_command::presence_run;
 use std::io;
 use std::io::{Read, Write};
 use std::net::{Net, TcpListener, TcpStream};

@@ -14,7 +14,7 @@ use Rattle.clap.specs.declared.parser.matches.SubCommand.{SubCommand}
 use Rattle.clap.proofs.OnLiterals.{clap_on_literals}
 use Rattle.clap.specs.Words.{fault_of, is_simple_and_free}
 use Rattle.clap.specs.declared.error.kind.ErrorKind.TheVariants as kind
-use Rattle.presence.specs.Words.{AreTaken, AsksApply, program}
+use Rattle.pres_command.specs.Words.{AreTaken, AsksApply, program}
 
 pub simple : is_simple program ≡ true
 unfolding clap_on_literals

@@ -1,8 +1,8 @@
 use Rattle.std.proofs.Common.{rules, ap, ap₂, ◌∙◌, ◌≡◌, codes}
 use Rattle.std.proofs.lemmas.Result.{IfOk-weaker}
 use Rattle.clap.specs.Words.{App, app_of, new_app, with_subcommand}
-use Rattle.presence.specs.Words.{apply_shape, on_top, serve_shape}
-use Rattle.presence.proofs.words.command.Goals as goal
+use Rattle.pres_command.specs.Words.{apply_shape, on_top, serve_shape}
+use Rattle.pres_command.proofs.words.command.Goals as goal
 
 abbrev base : App
 base = record (new_app (codes "presence")) { top = on_top (new_app (codes "presence")).top }

@@ -1,7 +1,7 @@
 use Rattle.std.proofs.Common.{sym, subst, inr, refl}
 use Rattle.pres_apply.specs.Lines.{Stopped}
 use Rattle.pres_apply.proofs.Going.{stopped_none}
-use Rattle.presence.proofs.program.presence_run.Goals as goal
+use Rattle.pres_command.proofs.program.presence_run.Goals as goal
 
 pub returns-in-Err-clause-memory : goal.returns-in-Err-clause-memory
 returns-in-Err-clause-memory g c = λ _ is.

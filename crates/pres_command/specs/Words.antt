@@ -6,10 +6,10 @@ use Rattle.clap.specs.Words.{App, Row, Rule, Shape, Text, first_of, one_of, new_
 use Rattle.clap.specs.declared.builder.command.Command.{Command}
 use Rattle.clap.specs.declared.builder.command.Command.TheViews.{out-Command}
 use Rattle.clap.specs.declared.builder.value_parser.ValueParser.TheVariants as parser
-use Rattle.presence.specs.declared.words.Calling.{Calling}
-use Rattle.presence.specs.declared.words.Request.{Request}
+use Rattle.pres_command.specs.declared.words.Calling.{Calling}
+use Rattle.pres_command.specs.declared.words.Request.{Request}
 use Rattle.pres_service.specs.declared.serve.Serving.{Serving}
-use Rattle.presence.specs.declared.words.Request.TheVariants.{Apply, Serve, Client}
+use Rattle.pres_command.specs.declared.words.Request.TheVariants.{Apply, Serve, Client}
 
 -- ---- the program and its subcommands
 

@@ -3,7 +3,7 @@ use Rattle.std.proofs.Common.{◌≡◌, ℕ, List, Option, Some, None, Result, 
 use Rattle.std.specs.Str.Parse.{ParsesUnsigned}
 use Rattle.clap.specs.Walk.{Text}
 use Rattle.clap.specs.Words.{ReadsOne}
-use Rattle.presence.specs.Words.{IsReadAs}
+use Rattle.pres_command.specs.Words.{IsReadAs}
 
 -- what is read of a text by its digits
 pub read_of : {E : Type 0} (bits : ℕ) (gives : List ℕ → Result ℕ E → Type 0) (number : Option ℕ) (text : Option Text)

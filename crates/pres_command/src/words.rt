@@ -3,8 +3,8 @@
 ghost use Rattle.std.specs.Prelude.{◌≡◌, Some, IfOk, IfSome, MatchResult, codes, map};
 ghost use Rattle.clap.specs.Words.{app_of, found_of, kind_of, rows_of, subcommand_of};
 ghost use Rattle.clap.specs.declared.error.kind.ErrorKind.TheVariants.{OutOfMemory};
-ghost use Rattle.presence.specs.Words.{AreTaken, AsksApply, HasNoGlobals, IsAskedBy, IsCalled, IsServed};
-ghost use Rattle.presence.specs.Words.{apply_shape, client_shape, program, serve_shape};
+ghost use Rattle.pres_command.specs.Words.{AreTaken, AsksApply, HasNoGlobals, IsAskedBy, IsCalled, IsServed};
+ghost use Rattle.pres_command.specs.Words.{apply_shape, client_shape, program, serve_shape};
 
 use clap::builder::ValueParser;
 use clap::error::ErrorKind;

@@ -1,0 +1,8 @@
+//! The command line: its words, what each of them runs, and the exit statuses.
+#![tactic(auto)]
+
+mod program;
+mod words;
+
+pub use program::{explain_unread, presence_run};
+pub use words::{Calling, Request, read_words};
