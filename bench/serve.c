@@ -1,7 +1,9 @@
 // The load of bench/serve: one thread over epoll, with raw frames whose mask is 0. Each use prints one line NAME=NUMBER ..
 //
-//   load write KIND PORT CLIENTS SECONDS   clients with one write in flight each; KIND: presence, redis, mqtt or etcd
+//   load write KIND PORT CLIENTS SECONDS   clients with one write in flight each; KIND: presence, redis, mqtt, etcd or loop
 //   load sync FILE append|place SECONDS    the disk alone: 200 bytes behind the file's end, or 8 KiB over old ones, synced
+//   load loop FILE append                  says its port, and serves one connection after the other: each message is 200 bytes
+//                                          behind the file's end, synced, and then answered
 //   load push PORT LISTENERS WRITES        writes at random moments: how long until each listener has them
 //   load flood PORT LISTENERS SECONDS      one writer, one write in flight: how many pushes came, and in order
 //   load killed PORT ROUNDS process|reset  how long until a watcher knows that a client was killed
@@ -358,6 +360,7 @@ static const Kind kinds[] = {
     {"redis", dial, redis_ask, redis_answered},
     {"mqtt", mqtt_open, mqtt_ask, mqtt_answered},
     {"etcd", dial, etcd_ask, etcd_answered},
+    {"loop", dial, redis_ask, redis_answered},
 };
 
 static const Kind *kind_of(const char *name) {
@@ -412,6 +415,37 @@ static void time_syncs(const char *file, int is_append, double seconds) {
     print_times("", &times);
     puts("");
     unlink(file);
+}
+
+// ---- the least that a server does
+
+static void serve_connection(int peer, int fd, off_t *at) {
+    static char asked[4096], kept[200];
+    int yes = 1;
+    setsockopt(peer, IPPROTO_TCP, TCP_NODELAY, &yes, sizeof yes);
+    while (recv(peer, asked, sizeof asked, 0) > 0) {
+        if (pwrite(fd, kept, sizeof kept, *at) < 0 || fdatasync(fd)) die("fdatasync");
+        *at += sizeof kept;
+        if (send(peer, "+OK\r\n", 5, MSG_NOSIGNAL) < 0) break;
+    }
+    close(peer);
+}
+
+static void serve_in_a_loop(const char *file) {
+    struct sockaddr_in own = {.sin_family = AF_INET, .sin_addr.s_addr = htonl(INADDR_LOOPBACK)};
+    socklen_t len = sizeof own;
+    int listener = socket(AF_INET, SOCK_STREAM, 0), fd = open(file, O_RDWR | O_CREAT | O_TRUNC, 0600);
+    off_t at = 0;
+    if (fd < 0) die(file);
+    if (bind(listener, (struct sockaddr *)&own, len) || listen(listener, 8)) die("listen");
+    if (getsockname(listener, (struct sockaddr *)&own, &len)) die("getsockname");
+    printf("port=%d\n", ntohs(own.sin_port));
+    fflush(stdout);
+    for (;;) {
+        int peer = accept(listener, NULL, NULL);
+        if (peer < 0) die("accept");
+        serve_connection(peer, fd, &at);
+    }
 }
 
 // ---- listeners
@@ -636,6 +670,7 @@ int main(int count, char **words) {
     port = atoi(words[is_write ? 3 : 2]);
     if (is_write) time_writes(kind_of(words[2]), atoi(words[4]), atof(words[5]));
     else if (!strcmp(use, "sync") && count == 5) time_syncs(words[2], !strcmp(words[3], "append"), atof(words[4]));
+    else if (!strcmp(use, "loop") && count == 4) serve_in_a_loop(words[2]);
     else if (!strcmp(use, "push") && count == 5) time_pushes(atoi(words[3]), atoi(words[4]));
     else if (!strcmp(use, "flood") && count == 5) time_flood(atoi(words[3]), atof(words[4]));
     else if (!strcmp(use, "killed") && count == 5) time_killed(atoi(words[3]), !strcmp(words[4], "process"));
