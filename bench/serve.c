@@ -1,9 +1,10 @@
 // The load of bench/serve: one thread over epoll, with raw frames whose mask is 0. Each use prints one line NAME=NUMBER ..
 //
-//   load write KIND PORT CLIENTS SECONDS   clients with one write in flight each; KIND: presence, redis, mqtt, etcd or loop
+//   load write KIND PORT CLIENTS SECONDS   clients with one write in flight each; KIND: presence, redis, mqtt,
+//                                          etcd, loop_append or loop_place
 //   load sync FILE append|place SECONDS    the disk alone: 200 bytes behind the file's end, or 8 KiB over old ones, synced
-//   load loop FILE append                  says its port, and serves one connection after the other: each message is 200 bytes
-//                                          behind the file's end, synced, and then answered
+//   load loop FILE append|place            says its port, and serves one connection after the other: each message is written
+//                                          so, synced, and then answered
 //   load push PORT LISTENERS WRITES        writes at random moments: how long until each listener has them
 //   load flood PORT LISTENERS SECONDS      one writer, one write in flight: how many pushes came, and in order
 //   load killed PORT ROUNDS process|reset  how long until a watcher knows that a client was killed
@@ -360,7 +361,8 @@ static const Kind kinds[] = {
     {"redis", dial, redis_ask, redis_answered},
     {"mqtt", mqtt_open, mqtt_ask, mqtt_answered},
     {"etcd", dial, etcd_ask, etcd_answered},
-    {"loop", dial, redis_ask, redis_answered},
+    {"loop_append", dial, redis_ask, redis_answered},
+    {"loop_place", dial, redis_ask, redis_answered},
 };
 
 static const Kind *kind_of(const char *name) {
@@ -395,20 +397,37 @@ static void time_writes(const Kind *kind, int clients, double seconds) {
 
 // ---- the disk alone
 
-static void time_syncs(const char *file, int is_append, double seconds) {
-    static char bytes[2 * (24 + 4096)]; // what a commit of one row writes: two pages, each with its header
-    size_t len = is_append ? 200 : sizeof bytes, length = 512 * sizeof bytes, at = 0;
-    int fd = open(file, O_RDWR | O_CREAT | O_TRUNC, 0600);
-    if (fd < 0) die(file);
-    for (size_t i = 0; !is_append && i < 512; i++)
-        if (write(fd, bytes, sizeof bytes) < 0) die("write");
-    if (fsync(fd)) die("fsync");
+// A file that is written to and synced: behind its end, or in turn over old places.
+typedef struct {
+    int fd;
+    size_t len, length, at; // of a write, of all places, of the next write
+} Kept;
+
+static char kept_bytes[2 * (24 + 4096)]; // what a commit of one row writes: two pages, each with its header
+
+static Kept kept_in(const char *file, const char *way) {
+    int is_append = !strcmp(way, "append");
+    Kept kept = {open(file, O_RDWR | O_CREAT | O_TRUNC, 0600), is_append ? 200 : sizeof kept_bytes, 0, 0};
+    if (kept.fd < 0) die(file);
+    for (int i = 0; !is_append && i < 512; i++, kept.length += kept.len)
+        if (write(kept.fd, kept_bytes, kept.len) < 0) die("write");
+    if (fsync(kept.fd)) die("fsync");
+    return kept;
+}
+
+static void keep(Kept *kept) {
+    if (pwrite(kept->fd, kept_bytes, kept->len, kept->at) < 0 || fdatasync(kept->fd)) die("fdatasync");
+    kept->at += kept->len;
+    if (kept->length) kept->at %= kept->length;
+}
+
+static void time_syncs(const char *file, const char *way, double seconds) {
+    Kept kept = kept_in(file, way);
     Times times = {0};
     double start = now(), spent;
     while ((spent = now() - start) < seconds) {
         double sent = now();
-        if (pwrite(fd, bytes, len, at) < 0 || fdatasync(fd)) die("fdatasync");
-        at = is_append ? at + len : (at + len) % length;
+        keep(&kept);
         note(&times, now() - sent);
     }
     printf("count=%zu rate=%.1f ", times.count, times.count / spent);
@@ -419,24 +438,22 @@ static void time_syncs(const char *file, int is_append, double seconds) {
 
 // ---- the least that a server does
 
-static void serve_connection(int peer, int fd, off_t *at) {
-    static char asked[4096], kept[200];
+static void serve_connection(int peer, Kept *kept) {
+    static char asked[4096];
     int yes = 1;
     setsockopt(peer, IPPROTO_TCP, TCP_NODELAY, &yes, sizeof yes);
     while (recv(peer, asked, sizeof asked, 0) > 0) {
-        if (pwrite(fd, kept, sizeof kept, *at) < 0 || fdatasync(fd)) die("fdatasync");
-        *at += sizeof kept;
+        keep(kept);
         if (send(peer, "+OK\r\n", 5, MSG_NOSIGNAL) < 0) break;
     }
     close(peer);
 }
 
-static void serve_in_a_loop(const char *file) {
+static void serve_in_a_loop(const char *file, const char *way) {
     struct sockaddr_in own = {.sin_family = AF_INET, .sin_addr.s_addr = htonl(INADDR_LOOPBACK)};
     socklen_t len = sizeof own;
-    int listener = socket(AF_INET, SOCK_STREAM, 0), fd = open(file, O_RDWR | O_CREAT | O_TRUNC, 0600);
-    off_t at = 0;
-    if (fd < 0) die(file);
+    int listener = socket(AF_INET, SOCK_STREAM, 0);
+    Kept kept = kept_in(file, way);
     if (bind(listener, (struct sockaddr *)&own, len) || listen(listener, 8)) die("listen");
     if (getsockname(listener, (struct sockaddr *)&own, &len)) die("getsockname");
     printf("port=%d\n", ntohs(own.sin_port));
@@ -444,7 +461,7 @@ static void serve_in_a_loop(const char *file) {
     for (;;) {
         int peer = accept(listener, NULL, NULL);
         if (peer < 0) die("accept");
-        serve_connection(peer, fd, &at);
+        serve_connection(peer, &kept);
     }
 }
 
@@ -669,8 +686,8 @@ int main(int count, char **words) {
     int is_write = !strcmp(use, "write") && count == 6;
     port = atoi(words[is_write ? 3 : 2]);
     if (is_write) time_writes(kind_of(words[2]), atoi(words[4]), atof(words[5]));
-    else if (!strcmp(use, "sync") && count == 5) time_syncs(words[2], !strcmp(words[3], "append"), atof(words[4]));
-    else if (!strcmp(use, "loop") && count == 4) serve_in_a_loop(words[2]);
+    else if (!strcmp(use, "sync") && count == 5) time_syncs(words[2], words[3], atof(words[4]));
+    else if (!strcmp(use, "loop") && count == 4) serve_in_a_loop(words[2], words[3]);
     else if (!strcmp(use, "push") && count == 5) time_pushes(atoi(words[3]), atoi(words[4]));
     else if (!strcmp(use, "flood") && count == 5) time_flood(atoi(words[3]), atof(words[4]));
     else if (!strcmp(use, "killed") && count == 5) time_killed(atoi(words[3]), !strcmp(words[4], "process"));
