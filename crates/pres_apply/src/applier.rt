@@ -1,6 +1,6 @@
 //! What the lines of operations do, and what is answered to each.
 
-ghost use Rattle.std.specs.Prelude.{◌≡◌, ◌++◌, OnOk, OnErr, IfOk, IfErr, option_map, string_bytes};
+ghost use Rattle.std.specs.Prelude.{◌≡◌, ◌++◌, OnOk, OnErr, IfOk, IfErr, option_map, string_bytes, take, length};
 ghost use Rattle.serde_json.specs.View.{view};
 ghost use Rattle.pres_apply.specs.Replies.{start, refuse, carry_out, taken, tree_line, value_text, kept_line, data_of, moment_in};
 ghost use Rattle.pres_tree.specs.Rows.{rows_in};
@@ -141,14 +141,32 @@ fn stale_line(
         (out.new.items ≡ out.old.items ++ kept_line number (Kept.Stale held.now)) }
     ensures err { OnErr result (out.new.items ≡ out.old.items) }
 {
-    let text = format!(in alloc; "{number} stale ")?;
-    let mut line = text.into_bytes();
-    match held {
-        Some(tree) => tree.print(alloc, &mut line)?,
-        None => line.extend_from_slice(b"null")?,
+    let start = out.len();
+    let put = put_stale(alloc, number, held, out);
+    if put.is_err() {
+        out.truncate(start);
     }
-    line.push(b'\n')?;
-    out.extend_from_slice(&line)?;
+    put
+}
+
+// Adds that line; where memory is refused, a beginning of it may stay.
+fn put_stale(
+    alloc: Global,
+    number: u64,
+    held: &Option<Tree>,
+    out: &mut Vec<u8>,
+) -> Result<(), AllocError>
+    ensures ok { OnOk result
+        (out.new.items ≡ out.old.items ++ kept_line number (Kept.Stale held.now)) }
+    ensures before { OnErr result (take (length out.old.items) out.new.items ≡ out.old.items) }
+{
+    out.extend_from_slice(Buffer::new().format(number).as_bytes())?;
+    out.extend_from_slice(b" stale ")?;
+    match held {
+        Some(tree) => tree.print(alloc, out)?,
+        None => out.extend_from_slice(b"null")?,
+    }
+    out.push(b'\n')?;
     Ok(())
 }
 
