@@ -1,16 +1,15 @@
 //! Inputs that can't be read to their end, and outputs that take no more.
 
 use crate::streams::{Clogs, Drops, End, answers, ended};
-use std::test::Fail;
 
 const SET_A: &str = r#"{"now":1000,"op":"set","path":"/a","value":1}"#;
 
 const SET_AB: &str = r#"{"now":1001,"op":"set","path":"/a/b","value":2}"#;
 
 #[test]
-fn stops_where_a_read_fails(rt: HostRuntime) -> Result<(), Fail> {
+fn stops_where_a_read_fails(rt: HostRuntime) {
     let alloc = rt.alloc();
-    let text = format!(in alloc; "{SET_A}\nx\n{SET_AB}")?;
+    let text = format!(in alloc; "{SET_A}\nx\n{SET_AB}").expect(&rt, "memory");
     for (length, output) in [
         (0, ""),
         (SET_A.len(), ""),
@@ -26,13 +25,12 @@ fn stops_where_a_read_fails(rt: HostRuntime) -> Result<(), Fail> {
             "at {length}"
         );
     }
-    Ok(())
 }
 
 #[test]
-fn stops_where_a_write_fails(rt: HostRuntime) -> Result<(), Fail> {
+fn stops_where_a_write_fails(rt: HostRuntime) {
     let alloc = rt.alloc();
-    let text = format!(in alloc; "{SET_A}\n{SET_AB}\n")?;
+    let text = format!(in alloc; "{SET_A}\n{SET_AB}\n").expect(&rt, "memory");
     for (writes, wanted, end) in [
         (0, "", End::Early),
         (1, "1 wrote\n", End::Early),
@@ -54,5 +52,4 @@ fn stops_where_a_write_fails(rt: HostRuntime) -> Result<(), Fail> {
             "after {writes} writes"
         );
     }
-    Ok(())
 }

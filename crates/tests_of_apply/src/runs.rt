@@ -1,7 +1,6 @@
 //! Inputs and what is answered to them.
 
 use crate::streams::{Drops, End, answers};
-use std::test::Fail;
 
 const SET_A: &str = r#"{"now":1000,"op":"set","path":"/a","value":1}"#;
 
@@ -10,10 +9,10 @@ const SET_AB: &str = r#"{"now":1001,"op":"set","path":"/a/b","value":2}"#;
 const REMOVE_AB: &str = r#"{"now":1002,"op":"remove","path":"/a/b"}"#;
 
 #[test]
-fn answers_inputs(rt: HostRuntime) -> Result<(), Fail> {
+fn answers_inputs(rt: HostRuntime) {
     let alloc = rt.alloc();
-    let worked = format!(in alloc; "{SET_A}\n{SET_AB}\n{REMOVE_AB}\n")?;
-    let unended = format!(in alloc; "\n\n{SET_A}\n\n{SET_AB}")?;
+    let worked = format!(in alloc; "{SET_A}\n{SET_AB}\n{REMOVE_AB}\n").expect(&rt, "memory");
+    let unended = format!(in alloc; "\n\n{SET_A}\n\n{SET_AB}").expect(&rt, "memory");
     for (input, output, end) in [
         ("", "tree null\n", End::Taken),
         ("\n\n", "tree null\n", End::Taken),
@@ -76,11 +75,10 @@ x
             "by bytes: {input}"
         );
     }
-    Ok(())
 }
 
 #[test]
-fn takes_or_refuses_lines(rt: HostRuntime) -> Result<(), Fail> {
+fn takes_or_refuses_lines(rt: HostRuntime) {
     let alloc = rt.alloc();
     for (line, output, end) in [
         (
@@ -158,11 +156,10 @@ fn takes_or_refuses_lines(rt: HostRuntime) -> Result<(), Fail> {
             End::Refused
         )
     );
-    Ok(())
 }
 
 #[test]
-fn keeps_to_its_bounds(rt: HostRuntime) -> Result<(), Fail> {
+fn keeps_to_its_bounds(rt: HostRuntime) {
     let alloc = rt.alloc();
     let rest = r#","value":null}"#;
     for (part, count, pad, output, end) in [
@@ -179,15 +176,16 @@ fn keeps_to_its_bounds(rt: HostRuntime) -> Result<(), Fail> {
             End::Refused,
         ),
     ] {
-        let path = part.repeat(alloc, count)?;
-        let line = format!(in alloc; r#"{{"now":1,"op":"set","path":"{path}"{rest}"#)?;
-        let spaces = " ".repeat(alloc, usize::saturating_sub(pad, line.len()))?;
-        let text = format!(in alloc; "{line}{spaces}\n")?;
+        let path = part.repeat(alloc, count).expect(&rt, "memory");
+        let line = format!(in alloc; r#"{{"now":1,"op":"set","path":"{path}"{rest}"#);
+        let line = line.expect(&rt, "memory");
+        let short = usize::saturating_sub(pad, line.len());
+        let spaces = " ".repeat(alloc, short).expect(&rt, "memory");
+        let text = format!(in alloc; "{line}{spaces}\n").expect(&rt, "memory");
         let mut input = text.as_bytes();
         assert!(rt;
             answers(alloc, &mut input, output, end),
             "{part} {count} {pad}"
         );
     }
-    Ok(())
 }

@@ -11,8 +11,8 @@ use pres_server::{
 };
 use pres_write::Draft;
 use serde_json::Value;
-use std::alloc::{AllocError, Global};
-use std::test::Fail;
+use std::alloc::Global;
+use std::process::Abort;
 
 // Two clients.
 #[derive(Drop)]
@@ -22,17 +22,16 @@ struct Pair {
 }
 
 // A client that begins the incarnation.
-fn client(alloc: Global, name: &str, incarnation: u64) -> Result<Client, Fail> {
-    let id = ClientId::parse(alloc, name)?;
-    let incarnation = Number::new(incarnation).ok_or("no number")?;
-    Ok(Client::new(alloc, id, incarnation))
+fn client(rt: &impl Abort, alloc: Global, name: &str, incarnation: u64) -> Client {
+    let id = ClientId::parse(alloc, name).expect(rt, "a client's name");
+    let incarnation = Number::new(incarnation).expect(rt, "a number");
+    Client::new(alloc, id, incarnation)
 }
 
 // The client receives the message of the text.
-fn receive(alloc: Global, client: &mut Client, text: &str) -> Result<(), Fail> {
-    let message = Down::decode(alloc, text)?;
-    client.receive(message)?;
-    Ok(())
+fn receive(rt: &impl Abort, alloc: Global, client: &mut Client, text: &str) {
+    let message = Down::decode(alloc, text).expect(rt, "a message");
+    client.receive(message).expect(rt, "memory");
 }
 
 impl Pair {
@@ -46,150 +45,141 @@ impl Pair {
     }
 
     // An answer comes to its client, through its text.
-    fn deliver(&mut self, alloc: Global, answer: &Down) -> Result<(), Fail> {
-        let session = answer.session().ok_or("no session")?;
-        let name = session.client.copy(alloc)?;
-        let text = answer.encode(alloc)?;
-        receive(alloc, self.named(name.text()), text.as_str())
+    fn deliver(&mut self, rt: &impl Abort, alloc: Global, answer: &Down) {
+        let session = answer.session().expect(rt, "a session");
+        let name = session.client.copy(alloc).expect(rt, "memory");
+        let text = answer.encode(alloc).expect(rt, "memory");
+        receive(rt, alloc, self.named(name.text()), text.as_str());
     }
 
     // All answers to a message come to their clients.
-    fn deliver_all(&mut self, alloc: Global, answers: &[Down], up: &Up) -> Result<(), Fail> {
+    fn deliver_all(&mut self, rt: &impl Abort, alloc: Global, answers: &[Down], up: &Up) {
         for answer in answers {
-            let named = named_for(alloc, answer, up)?;
-            let delivered = self.deliver(alloc, &named);
+            let named = named_for(rt, alloc, answer, up);
+            self.deliver(rt, alloc, &named);
             drop(named);
-            delivered?;
-        }
-        Ok(())
-    }
-}
-
-// The server with something, where that was made.
-fn with<T: Drop, E: Into<Fail>>(server: Server, made: Result<T, E>) -> Result<(Server, T), Fail> {
-    match made {
-        Ok(made) => Ok((server, made)),
-        Err(refused) => {
-            drop(server);
-            Err(refused.into())
         }
     }
 }
 
 // The server after an input, and what it answers.
-fn turn(alloc: Global, server: Server, input: Input) -> Result<(Server, Items<Down>), Fail> {
+fn turn(rt: &impl Abort, alloc: Global, server: Server, input: Input) -> (Server, Items<Down>) {
     match server.prepare(input, Moment::at(1000)) {
-        Ok(Turn::Busy(busy)) => Ok(busy.done()?),
-        Ok(Turn::Quiet(server, answers)) => Ok((server, answers)),
+        Ok(Turn::Busy(busy)) => busy.done().expect(rt, "memory"),
+        Ok(Turn::Quiet(server, answers)) => (server, answers),
         Err((fault, server)) => {
             let session = None;
             let code = fault.code();
-            with(server, Items::one(alloc, Down::Fault { session, code }))
+            let answers = Items::one(alloc, Down::Fault { session, code });
+            (server, answers.expect(rt, "memory"))
         }
     }
 }
 
 // The message through its text.
-fn through_text(alloc: Global, up: &Up) -> Result<Input, Fail> {
-    let text = up.encode(alloc)?;
-    Ok(Input::Up(Up::decode(alloc, text.as_str())?))
+fn through_text(rt: &impl Abort, alloc: Global, up: &Up) -> Input {
+    let text = up.encode(alloc).expect(rt, "memory");
+    Input::Up(Up::decode(alloc, text.as_str()).expect(rt, "a message"))
 }
 
 // The answer to a message of the session: a Fault names it.
-fn named_for(alloc: Global, answer: &Down, up: &Up) -> Result<Down, AllocError> {
+fn named_for(rt: &impl Abort, alloc: Global, answer: &Down, up: &Up) -> Down {
     match answer {
         Down::Fault { code, .. } => {
-            let session = Some(up.session().copy(alloc)?);
-            Ok(Down::Fault {
+            let session = Some(up.session().copy(alloc).expect(rt, "memory"));
+            Down::Fault {
                 session,
                 code: *code,
-            })
+            }
         }
-        _ => answer.copy(alloc),
+        _ => answer.copy(alloc).expect(rt, "memory"),
     }
 }
 
 // The server after the message, through its text.
-fn handed_over(alloc: Global, server: Server, pair: &mut Pair, up: &Up) -> Result<Server, Fail> {
-    let (server, input) = with(server, through_text(alloc, up))?;
-    let (server, answers) = turn(alloc, server, input)?;
-    let delivered = pair.deliver_all(alloc, answers.as_slice(), up);
-    let (server, ()) = with(server, delivered)?;
-    Ok(server)
+fn handed_over(rt: &impl Abort, alloc: Global, server: Server, pair: &mut Pair, up: &Up) -> Server {
+    let input = through_text(rt, alloc, up);
+    let (server, answers) = turn(rt, alloc, server, input);
+    pair.deliver_all(rt, alloc, answers.as_slice(), up);
+    drop(answers);
+    server
 }
 
 // The server after the messages.
 fn hand_over(
+    rt: &impl Abort,
     alloc: Global,
     mut server: Server,
     pair: &mut Pair,
     sends: &[Up],
-) -> Result<Server, Fail> {
+) -> Server {
     for up in sends {
-        server = handed_over(alloc, server, pair, up)?;
+        server = handed_over(rt, alloc, server, pair, up);
     }
-    Ok(server)
+    server
 }
 
 // The session of the client.
-fn session_of(alloc: Global, client: &Client) -> Result<SessionId, Fail> {
-    let session = client.session().ok_or("no session")?;
-    Ok(session.copy(alloc)?)
+fn session_of(rt: &impl Abort, alloc: Global, client: &Client) -> SessionId {
+    let session = client.session().expect(rt, "a session");
+    session.copy(alloc).expect(rt, "memory")
 }
 
 // The server after the message, whose answer nobody hears.
-fn unheard(alloc: Global, server: Server, up: &Up) -> Result<Server, Fail> {
-    let (server, input) = with(server, through_text(alloc, up))?;
-    let (server, _) = turn(alloc, server, input)?;
-    Ok(server)
+fn unheard(rt: &impl Abort, alloc: Global, server: Server, up: &Up) -> Server {
+    let input = through_text(rt, alloc, up);
+    let (server, answers) = turn(rt, alloc, server, input);
+    drop(answers);
+    server
 }
 
 // The server after the client's messages and the loss of its connection. It hears no answer.
-fn dropped(alloc: Global, server: Server, client: &mut Client) -> Result<Server, Fail> {
-    let (mut server, session) = with(server, session_of(alloc, client))?;
+fn dropped(rt: &impl Abort, alloc: Global, mut server: Server, client: &mut Client) -> Server {
+    let session = session_of(rt, alloc, client);
     for up in client.take_sends().as_slice() {
-        server = unheard(alloc, server, up)?;
+        server = unheard(rt, alloc, server, up);
     }
-    let (server, _) = turn(alloc, server, Input::Lost(session))?;
-    let (server, ()) = with(server, client.lost())?;
-    Ok(server)
+    let (server, answers) = turn(rt, alloc, server, Input::Lost(session));
+    drop(answers);
+    client.lost().expect(rt, "memory");
+    server
 }
 
 // The server after the messages of both clients, and after those that their answers ask for.
-fn carry(alloc: Global, mut server: Server, pair: &mut Pair) -> Result<Server, Fail> {
+fn carry(rt: &impl Abort, alloc: Global, mut server: Server, pair: &mut Pair) -> Server {
     for _ in 0..2 {
         let sends = pair.alice.take_sends();
-        server = hand_over(alloc, server, pair, sends.as_slice())?;
+        server = hand_over(rt, alloc, server, pair, sends.as_slice());
         let sends = pair.bob.take_sends();
-        server = hand_over(alloc, server, pair, sends.as_slice())?;
+        server = hand_over(rt, alloc, server, pair, sends.as_slice());
     }
-    Ok(server)
+    server
 }
 
 // The JSON of a text.
-fn json(alloc: Global, text: &str) -> Result<Value, Fail> {
-    Ok(Value::from_str(alloc, text)?)
+fn json(rt: &impl Abort, alloc: Global, text: &str) -> Value {
+    Value::from_str(alloc, text).expect(rt, "JSON")
 }
 
 // The draft of a text.
-fn draft(alloc: Global, text: &str) -> Result<Draft, Fail> {
-    let value = json(alloc, text)?;
+fn draft(rt: &impl Abort, alloc: Global, text: &str) -> Draft {
+    let value = json(rt, alloc, text);
     let draft = Draft::from_value(alloc, &value);
     drop(value);
-    Ok(draft?)
+    draft.expect(rt, "a value")
 }
 
 // The value as a text.
-fn tree_text(alloc: Global, tree: &Tree) -> Result<String, AllocError> {
-    let value = tree.to_value(alloc)?;
+fn tree_text(rt: &impl Abort, alloc: Global, tree: &Tree) -> String {
+    let value = tree.to_value(alloc).expect(rt, "memory");
     let text = value.to_string(alloc);
     drop(value);
-    text
+    text.expect(rt, "memory")
 }
 
 // A notice in words.
-fn notice_text(alloc: Global, notice: &Notice) -> Result<String, AllocError> {
-    match notice {
+fn notice_text(rt: &impl Abort, alloc: Global, notice: &Notice) -> String {
+    let text = match notice {
         Notice::Done { request, number } => {
             let number = number.get();
             format!(in alloc; "done {request} at {number}")
@@ -199,7 +189,7 @@ fn notice_text(alloc: Global, notice: &Notice) -> Result<String, AllocError> {
             attempt,
             value,
         } => {
-            let value = tree_text(alloc, value)?;
+            let value = tree_text(rt, alloc, value);
             format!(in alloc; "ask {request} try {attempt} of {value}")
         }
         Notice::TooManyTries { request } => format!(in alloc; "too many tries {request}"),
@@ -208,153 +198,156 @@ fn notice_text(alloc: Global, notice: &Notice) -> Result<String, AllocError> {
         Notice::ActionLost { request } => format!(in alloc; "lost {request}"),
         Notice::Value { number, value, .. } => {
             let number = number.get();
-            let value = tree_text(alloc, value)?;
+            let value = tree_text(rt, alloc, value);
             format!(in alloc; "value {value} at {number}")
         }
-        Notice::Connected(true) => format!(in alloc; "online"),
-        Notice::Connected(false) => format!(in alloc; "offline"),
+        Notice::Connected(true) => String::from_str(alloc, "online"),
+        Notice::Connected(false) => String::from_str(alloc, "offline"),
         Notice::Denied { request, .. } => format!(in alloc; "denied {request}"),
         Notice::Faulted(code) => {
             let code = code.number();
             format!(in alloc; "fault {code}")
         }
-    }
+    };
+    text.expect(rt, "memory")
 }
 
 // The notices in words.
-fn notices_text(alloc: Global, notices: &[Notice]) -> Result<String, AllocError> {
+fn notices_text(rt: &impl Abort, alloc: Global, notices: &[Notice]) -> String {
     let mut text = String::new(alloc);
     for notice in notices {
         if !text.is_empty() {
-            text.push_str(", ")?;
+            text.push_str(", ").expect(rt, "memory");
         }
-        text.push_str(notice_text(alloc, notice)?.as_str())?;
+        text.push_str(notice_text(rt, alloc, notice).as_str())
+            .expect(rt, "memory");
     }
-    Ok(text)
+    text
 }
 
 // The messages as texts.
-fn sends_text(alloc: Global, sends: &[Up]) -> Result<String, Fail> {
+fn sends_text(rt: &impl Abort, alloc: Global, sends: &[Up]) -> String {
     let mut text = String::new(alloc);
     for up in sends {
-        text.push_str(up.encode(alloc)?.as_str())?;
+        text.push_str(up.encode(alloc).expect(rt, "memory").as_str())
+            .expect(rt, "memory");
     }
-    Ok(text)
+    text
 }
 
 // What is shown of the path.
-fn view_text(alloc: Global, client: &Client, path: &str) -> Result<String, Fail> {
-    let path = Path::parse(alloc, path)?;
+fn view_text(rt: &impl Abort, alloc: Global, client: &Client, path: &str) -> String {
+    let path = Path::parse(alloc, path).expect(rt, "a path");
     let Some((number, value)) = client.view(&path) else {
-        return Ok(String::from_str(alloc, "nothing")?);
+        return String::from_str(alloc, "nothing").expect(rt, "memory");
     };
-    let value = tree_text(alloc, value)?;
-    Ok(format!(in alloc; "{value} at {number}")?)
+    let value = tree_text(rt, alloc, value);
+    format!(in alloc; "{value} at {number}").expect(rt, "memory")
 }
 
 // A refusal in words.
-fn refused(alloc: Global, fault: ClientFault) -> Result<String, Fail> {
+fn refused(rt: &impl Abort, alloc: Global, fault: ClientFault) -> String {
     let number = fault.number();
-    Ok(format!(in alloc; "refused {number}")?)
+    format!(in alloc; "refused {number}").expect(rt, "memory")
 }
 
 // ---- calls of texts
 
 // A path and the draft at it, of a text such as `/a 1`.
-fn placed(alloc: Global, given: &str) -> Result<(Path, Draft), Fail> {
-    let (path, value) = given.split_once(' ').ok_or("no value")?;
-    let path = Path::parse(alloc, path)?;
-    let draft = draft(alloc, value)?;
-    Ok((path, draft))
+fn placed(rt: &impl Abort, alloc: Global, given: &str) -> (Path, Draft) {
+    let (path, value) = given.split_once(' ').expect(rt, "a value");
+    let path = Path::parse(alloc, path).expect(rt, "a path");
+    let draft = draft(rt, alloc, value);
+    (path, draft)
 }
 
 // Drafts at places, of a text such as `/a 1;/b 2`.
-fn all_placed(alloc: Global, given: &str) -> Result<Vec<(Path, Draft)>, Fail> {
+fn all_placed(rt: &impl Abort, alloc: Global, given: &str) -> Vec<(Path, Draft)> {
     let mut places = Vec::new(alloc);
     for place in given.split(';') {
-        places.push(placed(alloc, place)?)?;
+        places.push(placed(rt, alloc, place)).expect(rt, "memory");
     }
-    Ok(places)
+    places
 }
 
 // The same below a path, which comes first.
-fn below(alloc: Global, given: &str) -> Result<(Path, Vec<(Path, Draft)>), Fail> {
-    let (path, places) = given.split_once(' ').ok_or("no places")?;
-    let path = Path::parse(alloc, path)?;
-    let places = all_placed(alloc, places)?;
-    Ok((path, places))
+fn below(rt: &impl Abort, alloc: Global, given: &str) -> (Path, Vec<(Path, Draft)>) {
+    let (path, places) = given.split_once(' ').expect(rt, "places");
+    let path = Path::parse(alloc, path).expect(rt, "a path");
+    let places = all_placed(rt, alloc, places);
+    (path, places)
 }
 
 // The answer to a transaction.
-fn answer_of(alloc: Global, value: &str) -> Result<Answer, Fail> {
+fn answer_of(rt: &impl Abort, alloc: Global, value: &str) -> Answer {
     match value {
-        "abort" => Ok(Answer::Abort),
-        _ => Ok(Answer::New(draft(alloc, value)?)),
+        "abort" => Answer::Abort,
+        _ => Answer::New(draft(rt, alloc, value)),
     }
 }
 
 // The call that answers a transaction.
-fn answering(alloc: Global, given: &str) -> Result<Call, Fail> {
-    let (request, value) = given.split_once(' ').ok_or("no value")?;
-    let request = request.parse()?;
-    Ok(Call::Answer(request, answer_of(alloc, value)?))
+fn answering(rt: &impl Abort, alloc: Global, given: &str) -> Call {
+    let (request, value) = given.split_once(' ').expect(rt, "a value");
+    let request = request.parse().expect(rt, "a number");
+    Call::Answer(request, answer_of(rt, alloc, value))
 }
 
 // The call with a path alone.
-fn at_path(word: &str, path: Path) -> Result<Call, Fail> {
+fn at_path(rt: &impl Abort, word: &str, path: Path) -> Call {
     match word {
-        "remove" => Ok(Call::Remove(path)),
-        "transact" => Ok(Call::Transact(path)),
-        "leave_null" => Ok(Call::OnDisconnectRemove(path)),
-        "cancel" => Ok(Call::OnDisconnectCancel(path)),
-        "listen" => Ok(Call::Listen(path)),
-        "unlisten" => Ok(Call::Unlisten(path)),
-        _ => Err("no such call")?,
+        "remove" => Call::Remove(path),
+        "transact" => Call::Transact(path),
+        "leave_null" => Call::OnDisconnectRemove(path),
+        "cancel" => Call::OnDisconnectCancel(path),
+        "listen" => Call::Listen(path),
+        "unlisten" => Call::Unlisten(path),
+        _ => panic!(rt; "no such call"),
     }
 }
 
 // The call with what it is given.
-fn call_with(alloc: Global, word: &str, given: &str) -> Result<Call, Fail> {
+fn call_with(rt: &impl Abort, alloc: Global, word: &str, given: &str) -> Call {
     match word {
         "set" => {
-            let (path, draft) = placed(alloc, given)?;
-            Ok(Call::Set(path, draft))
+            let (path, draft) = placed(rt, alloc, given);
+            Call::Set(path, draft)
         }
         "leave" => {
-            let (path, draft) = placed(alloc, given)?;
-            Ok(Call::OnDisconnectSet(path, draft))
+            let (path, draft) = placed(rt, alloc, given);
+            Call::OnDisconnectSet(path, draft)
         }
         "update" => {
-            let (path, places) = below(alloc, given)?;
-            Ok(Call::Update(path, places))
+            let (path, places) = below(rt, alloc, given);
+            Call::Update(path, places)
         }
         "leave_update" => {
-            let (path, places) = below(alloc, given)?;
-            Ok(Call::OnDisconnectUpdate(path, places))
+            let (path, places) = below(rt, alloc, given);
+            Call::OnDisconnectUpdate(path, places)
         }
-        "answer" => answering(alloc, given),
-        _ => at_path(word, Path::parse(alloc, given)?),
+        "answer" => answering(rt, alloc, given),
+        _ => at_path(rt, word, Path::parse(alloc, given).expect(rt, "a path")),
     }
 }
 
 // The call that is given nothing.
-fn bare_call(word: &str) -> Result<Call, Fail> {
+fn bare_call(rt: &impl Abort, word: &str) -> Call {
     match word {
-        "online" => Ok(Call::GoOnline),
-        "offline" => Ok(Call::GoOffline),
-        "lost" => Ok(Call::Lost),
-        "resend" => Ok(Call::Resend),
-        "beat" => Ok(Call::Beat),
-        _ => Err("no such call")?,
+        "online" => Call::GoOnline,
+        "offline" => Call::GoOffline,
+        "lost" => Call::Lost,
+        "resend" => Call::Resend,
+        "beat" => Call::Beat,
+        _ => panic!(rt; "no such call"),
     }
 }
 
 // What the client answers the call: its request, nothing, or its refusal.
-fn made(alloc: Global, client: &mut Client, call: Call) -> Result<String, Fail> {
+fn made(rt: &impl Abort, alloc: Global, client: &mut Client, call: Call) -> String {
     match client.make(call) {
-        Ok(Some(request)) => Ok(format!(in alloc; "{request}")?),
-        Ok(None) => Ok(String::new(alloc)),
-        Err(fault) => refused(alloc, fault),
+        Ok(Some(request)) => format!(in alloc; "{request}").expect(rt, "memory"),
+        Ok(None) => String::new(alloc),
+        Err(fault) => refused(rt, alloc, fault),
     }
 }
 
@@ -362,116 +355,123 @@ fn made(alloc: Global, client: &mut Client, call: Call) -> Result<String, Fail> 
 
 // Whether the client has a session, how many of its messages have no answer, and how many the next
 // call makes at the most.
-fn state_text(alloc: Global, client: &Client) -> Result<String, AllocError> {
+fn state_text(rt: &impl Abort, alloc: Global, client: &Client) -> String {
     let word = if client.connected() { "open" } else { "closed" };
     let waiting = client.unanswered();
     let most = client.most_sends();
-    format!(in alloc; "{word}, {waiting} unanswered, at most {most} to send")
+    format!(in alloc; "{word}, {waiting} unanswered, at most {most} to send").expect(rt, "memory")
 }
 
 // What a client says that is given something.
-fn said_with(alloc: Global, client: &mut Client, word: &str, given: &str) -> Result<String, Fail> {
+fn said_with(
+    rt: &impl Abort,
+    alloc: Global,
+    client: &mut Client,
+    word: &str,
+    given: &str,
+) -> String {
     match word {
-        "view" => view_text(alloc, client, given),
+        "view" => view_text(rt, alloc, client, given),
         "receive" => {
-            receive(alloc, client, given)?;
-            Ok(String::new(alloc))
+            receive(rt, alloc, client, given);
+            String::new(alloc)
         }
-        _ => made(alloc, client, call_with(alloc, word, given)?),
+        _ => made(rt, alloc, client, call_with(rt, alloc, word, given)),
     }
 }
 
 // What a client says.
-fn said(alloc: Global, client: &mut Client, word: &str) -> Result<String, Fail> {
+fn said(rt: &impl Abort, alloc: Global, client: &mut Client, word: &str) -> String {
     match word {
-        "notices" => Ok(notices_text(alloc, client.take_notices().as_slice())?),
-        "sends" => sends_text(alloc, client.take_sends().as_slice()),
-        "state" => Ok(state_text(alloc, client)?),
-        _ => made(alloc, client, bare_call(word)?),
+        "notices" => notices_text(rt, alloc, client.take_notices().as_slice()),
+        "sends" => sends_text(rt, alloc, client.take_sends().as_slice()),
+        "state" => state_text(rt, alloc, client),
+        _ => made(rt, alloc, client, bare_call(rt, word)),
     }
 }
 
 // What a client says to a step.
-fn called(alloc: Global, client: &mut Client, text: &str) -> Result<String, Fail> {
+fn called(rt: &impl Abort, alloc: Global, client: &mut Client, text: &str) -> String {
     match text.split_once(' ') {
-        Some((word, given)) => said_with(alloc, client, word, given),
-        None => said(alloc, client, text),
+        Some((word, given)) => said_with(rt, alloc, client, word, given),
+        None => said(rt, alloc, client, text),
     }
 }
 
 // The value that the server holds at the path.
-fn value(alloc: Global, server: &Server, path: &str) -> Result<String, Fail> {
-    let path = Path::parse(alloc, path)?;
+fn value(rt: &impl Abort, alloc: Global, server: &Server, path: &str) -> String {
+    let path = Path::parse(alloc, path).expect(rt, "a path");
     match server.value_at(&path) {
-        Some(tree) => Ok(tree_text(alloc, tree)?),
-        None => Ok(String::from_str(alloc, "null")?),
+        Some(tree) => tree_text(rt, alloc, tree),
+        None => String::from_str(alloc, "null").expect(rt, "memory"),
     }
 }
 
 // Alice begins the incarnation.
-fn restart(alloc: Global, pair: &mut Pair, number: &str) -> Result<String, Fail> {
-    pair.alice = client(alloc, "alice", number.parse()?)?;
-    Ok(String::new(alloc))
+fn restart(rt: &impl Abort, alloc: Global, pair: &mut Pair, number: &str) -> String {
+    pair.alice = client(rt, alloc, "alice", number.parse().expect(rt, "a number"));
+    String::new(alloc)
 }
 
 // The server after a step, and what is said.
 fn step(
+    rt: &impl Abort,
     alloc: Global,
     server: Server,
     pair: &mut Pair,
     text: &str,
-) -> Result<(Server, String), Fail> {
+) -> (Server, String) {
     match text.split_once(' ') {
         Some(("value", path)) => {
-            let said = value(alloc, &server, path);
-            with(server, said)
+            let said = value(rt, alloc, &server, path);
+            (server, said)
         }
         Some(("drop", name)) => {
-            let server = dropped(alloc, server, pair.named(name))?;
-            Ok((server, String::new(alloc)))
+            let server = dropped(rt, alloc, server, pair.named(name));
+            (server, String::new(alloc))
         }
-        Some(("restart", number)) => with(server, restart(alloc, pair, number)),
-        Some((name, text)) => with(server, called(alloc, pair.named(name), text)),
-        None => Ok((carry(alloc, server, pair)?, String::new(alloc))),
+        Some(("restart", number)) => (server, restart(rt, alloc, pair, number)),
+        Some((name, text)) => (server, called(rt, alloc, pair.named(name), text)),
+        None => (carry(rt, alloc, server, pair), String::new(alloc)),
     }
 }
 
 // Notes the step, if it says something else than is wanted.
-fn noted(wrong: &mut String, case: &str, said: &str, wanted: &str) -> Result<(), AllocError> {
+fn noted(rt: &impl Abort, wrong: &mut String, case: &str, said: &str, wanted: &str) {
     if said != wanted {
-        wrong.push_str(case)?;
-        wrong.push_str(" => ")?;
-        wrong.push_str(said)?;
-        wrong.push('\n')?;
+        wrong.push_str(case).expect(rt, "memory");
+        wrong.push_str(" => ").expect(rt, "memory");
+        wrong.push_str(said).expect(rt, "memory");
+        wrong.push('\n').expect(rt, "memory");
     }
-    Ok(())
 }
 
 // The server after the line, and what is wrong with it, if it says something else than it must.
 fn line(
+    rt: &impl Abort,
     alloc: Global,
     server: Server,
     pair: &mut Pair,
     wrong: &mut String,
     text: &str,
-) -> Result<Server, Fail> {
+) -> Server {
     let (case, wanted) = text.split_once(" => ").unwrap_or((text, ""));
-    let (server, said) = step(alloc, server, pair, case)?;
-    let (server, ()) = with(server, noted(wrong, case, said.as_str(), wanted))?;
-    Ok(server)
+    let (server, said) = step(rt, alloc, server, pair, case);
+    noted(rt, wrong, case, said.as_str(), wanted);
+    server
 }
 
 // The steps of the run that say something else than they must, each with that.
-pub(crate) fn wrong_in(alloc: Global, run: &str) -> Result<String, Fail> {
+pub(crate) fn wrong_in(rt: &impl Abort, alloc: Global, run: &str) -> String {
     let mut pair = Pair {
-        alice: client(alloc, "alice", 1)?,
-        bob: client(alloc, "bob", 1)?,
+        alice: client(rt, alloc, "alice", 1),
+        bob: client(rt, alloc, "bob", 1),
     };
     let mut server = Server::new(alloc);
     let mut wrong = String::new(alloc);
     for text in run.split('\n') {
-        server = line(alloc, server, &mut pair, &mut wrong, text)?;
+        server = line(rt, alloc, server, &mut pair, &mut wrong, text);
     }
     drop(server);
-    Ok(wrong)
+    wrong
 }

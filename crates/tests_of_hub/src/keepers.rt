@@ -4,8 +4,8 @@ use pres_body::print_entries;
 use pres_hub::{Keeper, MemKeeper};
 use pres_saved::SavedFault;
 use pres_server::{Batch, Path, Server, Tree};
-use std::alloc::{AllocError, Global};
-use std::test::Fail;
+use std::alloc::Global;
+use std::process::Abort;
 
 /// Keeps in memory, but for the commits at chosen places, counted from 0, which it refuses.
 #[derive(Drop)]
@@ -58,45 +58,43 @@ impl Keeper for Refusing {
 }
 
 // Adds the bodies of the batches, each on a line of its own.
-fn add_bodies(alloc: Global, text: &mut String, batches: &[Batch]) -> Result<(), AllocError> {
+fn add_bodies(rt: &impl Abort, alloc: Global, text: &mut String, batches: &[Batch]) {
     for batch in batches {
-        let body = print_entries(alloc, batch.entries())?;
-        text.push_str(body.as_str())?;
-        text.push('\n')?;
+        let body = print_entries(alloc, batch.entries()).expect(rt, "memory");
+        text.push_str(body.as_str()).expect(rt, "memory");
+        text.push('\n').expect(rt, "memory");
     }
-    Ok(())
 }
 
 /// The bodies of the keeper's batches, each on a line of its own.
-pub(crate) fn log_text<K: Keeper>(alloc: Global, keeper: &mut K) -> Result<String, Fail> {
-    let batches = keeper.batches()?;
+pub(crate) fn log_text<K: Keeper>(rt: &impl Abort, alloc: Global, keeper: &mut K) -> String {
+    let batches = keeper.batches().expect(rt, "rows");
     let mut text = String::new(alloc);
-    let added = add_bodies(alloc, &mut text, &batches);
+    add_bodies(rt, alloc, &mut text, &batches);
     drop(batches);
-    added?;
-    Ok(text)
-}
-
-fn text_of(alloc: Global, tree: &Tree) -> Result<String, AllocError> {
-    let value = tree.to_value(alloc)?;
-    let text = value.to_string(alloc);
-    drop(value);
     text
 }
 
+fn text_of(rt: &impl Abort, alloc: Global, tree: &Tree) -> String {
+    let value = tree.to_value(alloc).expect(rt, "memory");
+    let text = value.to_string(alloc);
+    drop(value);
+    text.expect(rt, "memory")
+}
+
 // The value of the server's tree.
-fn root_text(alloc: Global, server: &Server) -> Result<String, Fail> {
-    let root = Path::parse(alloc, "/")?;
+fn root_text(rt: &impl Abort, alloc: Global, server: &Server) -> String {
+    let root = Path::parse(alloc, "/").expect(rt, "a path");
     match server.value_at(&root) {
-        Some(tree) => Ok(text_of(alloc, tree)?),
-        None => Ok(String::from_str(alloc, "null")?),
+        Some(tree) => text_of(rt, alloc, tree),
+        None => String::from_str(alloc, "null").expect(rt, "memory"),
     }
 }
 
 /// The value of the tree that the keeper's batches make.
-pub(crate) fn tree_text<K: Keeper>(alloc: Global, keeper: &mut K) -> Result<String, Fail> {
-    let server = keeper.server()?;
-    let text = root_text(alloc, &server);
+pub(crate) fn tree_text<K: Keeper>(rt: &impl Abort, alloc: Global, keeper: &mut K) -> String {
+    let server = keeper.server().expect(rt, "rows");
+    let text = root_text(rt, alloc, &server);
     drop(server);
     text
 }

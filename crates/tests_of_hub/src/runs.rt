@@ -3,7 +3,6 @@
 use crate::keepers::Refusing;
 use crate::scene::run;
 use pres_hub::MemKeeper;
-use std::test::Fail;
 
 const REFUSED: &str = r#"1000 join alice => 1
 1000 say alice {"m":"op","n":1,"op":{"op":"set","path":"/a","value":1},"q":1,"s":["alice",1,1]} => the database failed
@@ -93,79 +92,72 @@ const MARKED_LOG: &str = r#"[{"e":"open","s":["bob",1,1]}]
 
 // A refused message is taken when it comes again, and a refused end is carried out by a tick.
 #[test]
-fn refused_commits_leave_the_core(rt: HostRuntime) -> Result<(), Fail> {
+fn refused_commits_leave_the_core(rt: HostRuntime) {
     let keeper = Refusing::at(rt.alloc(), &[1, 3]);
-    let (told, keeper) = run(rt.alloc(), keeper, REFUSED)?;
+    let (told, keeper) = run(&rt, rt.alloc(), keeper, REFUSED);
     drop(keeper);
     assert_eq!(rt; told.wrong.as_str(), "");
     assert_eq!(rt; told.counts, (3, 2, 0, Some(2)));
     assert_eq!(rt; told.log.as_str(), REFUSED_LOG);
-    Ok(())
 }
 
 // Alice comes before Bob.
 #[test]
-fn a_tick_ends_marked_sessions_in_order(rt: HostRuntime) -> Result<(), Fail> {
+fn a_tick_ends_marked_sessions_in_order(rt: HostRuntime) {
     let keeper = Refusing::at(rt.alloc(), &[2, 3]);
-    let (told, keeper) = run(rt.alloc(), keeper, MARKED)?;
+    let (told, keeper) = run(&rt, rt.alloc(), keeper, MARKED);
     drop(keeper);
     assert_eq!(rt; told.wrong.as_str(), "");
     assert_eq!(rt; told.counts, (4, 2, 0, Some(2)));
     assert_eq!(rt; told.log.as_str(), MARKED_LOG);
-    Ok(())
 }
 
 #[test]
-fn a_tick_ends_who_was_silent_for_a_lease(rt: HostRuntime) -> Result<(), Fail> {
-    let (told, keeper) = run(rt.alloc(), MemKeeper::new(rt.alloc()), LEASE)?;
+fn a_tick_ends_who_was_silent_for_a_lease(rt: HostRuntime) {
+    let (told, keeper) = run(&rt, rt.alloc(), MemKeeper::new(rt.alloc()), LEASE);
     drop(keeper);
     assert_eq!(rt; told.wrong.as_str(), "");
     assert_eq!(rt; told.counts, (2, 1, 0, Some(1)));
-    Ok(())
 }
 
 #[test]
-fn messages_are_kept_back_in_order(rt: HostRuntime) -> Result<(), Fail> {
-    let (told, keeper) = run(rt.alloc(), MemKeeper::new(rt.alloc()), KEPT_BACK)?;
+fn messages_are_kept_back_in_order(rt: HostRuntime) {
+    let (told, keeper) = run(&rt, rt.alloc(), MemKeeper::new(rt.alloc()), KEPT_BACK);
     drop(keeper);
     assert_eq!(rt; told.wrong.as_str(), "");
     assert_eq!(rt; told.counts, (2, 1, 0, Some(1)));
-    Ok(())
 }
 
 // Who takes nothing is ended in the call that fills the ring, and what was put stays to be taken.
 #[test]
-fn slow_readers_are_ended(rt: HostRuntime) -> Result<(), Fail> {
-    let (told, keeper) = run(rt.alloc(), MemKeeper::new(rt.alloc()), SLOW)?;
+fn slow_readers_are_ended(rt: HostRuntime) {
+    let (told, keeper) = run(&rt, rt.alloc(), MemKeeper::new(rt.alloc()), SLOW);
     drop(keeper);
     assert_eq!(rt; told.wrong.as_str(), "");
     assert_eq!(rt; told.counts, (266, 264, 0, Some(264)));
     assert_eq!(rt; told.log.lines().nth(261).unwrap_or(""), SLOW_END);
     assert_eq!(rt; told.tree.as_str(), r#"{"a":260,"b":true}"#);
-    Ok(())
 }
 
 #[test]
-fn readers_in_time_stay(rt: HostRuntime) -> Result<(), Fail> {
-    let (told, keeper) = run(rt.alloc(), MemKeeper::new(rt.alloc()), IN_TIME)?;
+fn readers_in_time_stay(rt: HostRuntime) {
+    let (told, keeper) = run(&rt, rt.alloc(), MemKeeper::new(rt.alloc()), IN_TIME);
     drop(keeper);
     assert_eq!(rt; told.wrong.as_str(), "");
     assert_eq!(rt; told.counts, (263, 261, 0, Some(261)));
-    Ok(())
 }
 
 // What was answered stays in the log, and sessions whose ends were refused are ended first.
 #[test]
-fn open_sessions_are_ended_at_the_start(rt: HostRuntime) -> Result<(), Fail> {
+fn open_sessions_are_ended_at_the_start(rt: HostRuntime) {
     let keeper = Refusing::at(rt.alloc(), &[3, 4]);
-    let (told, keeper) = run(rt.alloc(), keeper, LEFT_OPEN)?;
+    let (told, keeper) = run(&rt, rt.alloc(), keeper, LEFT_OPEN);
     assert_eq!(rt; told.wrong.as_str(), "");
     assert_eq!(rt; told.counts, (3, 3, 0, Some(3)));
     drop(told);
-    let (told, keeper) = run(rt.alloc(), keeper, STARTED_OVER)?;
+    let (told, keeper) = run(&rt, rt.alloc(), keeper, STARTED_OVER);
     drop(keeper);
     assert_eq!(rt; told.wrong.as_str(), "");
     assert_eq!(rt; told.counts, (5, 0, 0, Some(0)));
     assert_eq!(rt; told.log.as_str(), STARTED_OVER_LOG);
-    Ok(())
 }

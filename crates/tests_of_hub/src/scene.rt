@@ -6,12 +6,11 @@ ghost use Rattle.pres_log.specs.declared.fault.Fault.{Fault};
 use crate::keepers::{log_text, tree_text};
 use pres_exchange::Outbox;
 use pres_hub::{Core, HubFault, Keeper, NoBell, Parting, Report, Seat};
-use pres_ids::IdFault;
 use pres_server::{ClientId, Moment, Number, SessionId, Stamp, Up, Why};
-use std::alloc::{AllocError, Global};
+use std::alloc::Global;
 use std::marker::Brand;
+use std::process::Abort;
 use std::sync::ledger::{Blank, Ledger};
-use std::test::Fail;
 
 /// A seat, and the end from which its messages are taken.
 pub(crate) struct Place<L: Ledger> {
@@ -52,69 +51,69 @@ pub(crate) struct Told {
 }
 
 /// The first session of the client.
-pub(crate) fn session(alloc: Global, client: &str) -> Result<SessionId, IdFault> {
+pub(crate) fn session(rt: &impl Abort, alloc: Global, client: &str) -> SessionId {
     let stamp = Stamp {
         incarnation: Number::first(),
         attempt: Number::first(),
     };
-    Ok(SessionId::of(ClientId::parse(alloc, client)?, stamp))
+    let client = ClientId::parse(alloc, client).expect(rt, "a client's name");
+    SessionId::of(client, stamp)
 }
 
 /// The text of the next message, where there is one to take.
-pub(crate) fn next_text(alloc: Global, outbox: &mut Outbox) -> Option<Result<String, AllocError>> {
+pub(crate) fn next_text(rt: &impl Abort, alloc: Global, outbox: &mut Outbox) -> Option<String> {
     let message = outbox.take()?;
     let text = message.encode(alloc);
     drop(message);
-    Some(text)
-}
-
-// The refusal in words.
-fn fault_text(alloc: Global, fault: &HubFault) -> Result<String, AllocError> {
-    format!(in alloc; "{fault}")
+    Some(text.expect(rt, "memory"))
 }
 
 // The number, or the refusal in words.
-fn answer_text(alloc: Global, answer: &Result<u64, HubFault>) -> Result<String, AllocError> {
-    match answer {
-        Ok(number) => format!(in alloc; "{number}"),
-        Err(fault) => fault_text(alloc, fault),
-    }
+fn answer_text(rt: &impl Abort, alloc: Global, answer: &Result<u64, HubFault>) -> String {
+    let text = match answer {
+        Ok(number) => number.to_string(alloc),
+        Err(fault) => fault.to_string(alloc),
+    };
+    text.expect(rt, "memory")
 }
 
 // What the seat made, and why its end was refused, where it was.
-fn parting_text<L: Ledger>(alloc: Global, parting: &Parting<L>) -> Result<String, AllocError> {
+fn parting_text<L: Ledger>(rt: &impl Abort, alloc: Global, parting: &Parting<L>) -> String {
     let made = parting.made();
-    match parting.fault() {
+    let text = match parting.fault() {
         Some(fault) => format!(in alloc; "made {made}, {fault}"),
         None => format!(in alloc; "made {made}, no fault"),
-    }
+    };
+    text.expect(rt, "memory")
 }
 
 // How many messages are taken, at most so many, and the last of them.
-fn taken(alloc: Global, outbox: &mut Outbox, most: u64) -> Result<String, AllocError> {
+fn taken(rt: &impl Abort, alloc: Global, outbox: &mut Outbox, most: u64) -> String {
     let mut count: u64 = 0;
-    let mut last = String::from_str(alloc, "none")?;
+    let mut last = String::from_str(alloc, "none").expect(rt, "memory");
     for _ in 0..most {
-        let Some(text) = next_text(alloc, outbox) else {
+        let Some(text) = next_text(rt, alloc, outbox) else {
             break;
         };
         count = count.saturating_add(1);
-        last = text?;
+        last = text;
     }
-    format!(in alloc; "{count}, the last {last}")
+    format!(in alloc; "{count}, the last {last}").expect(rt, "memory")
 }
 
 // The text of the write number n of Alice, which sets `/a` to n.
-fn set(alloc: Global, n: u64) -> Result<String, AllocError> {
-    format!(in alloc;
+fn set_text(rt: &impl Abort, alloc: Global, n: u64) -> String {
+    let text = format!(in alloc;
         r#"{{"m":"op","n":{n},"op":{{"op":"set","path":"/a","value":{n}}},"q":{n},"s":["alice",1,1]}}"#
-    )
+    );
+    text.expect(rt, "memory")
 }
 
 // The first and the last number of a range.
-fn range(words: &str) -> Result<(u64, u64), Fail> {
-    let (first, last) = words.split_once(' ').ok_or("no range")?;
-    Ok((first.parse()?, last.parse()?))
+fn range(rt: &impl Abort, words: &str) -> (u64, u64) {
+    let (first, last) = words.split_once(' ').expect(rt, "a range");
+    let first = first.parse().expect(rt, "a number");
+    (first, last.parse().expect(rt, "a number"))
 }
 
 // What the message answers at the place.
@@ -156,8 +155,8 @@ impl<L: Ledger, K: Keeper + Drop> Scene<L, K> {
     }
 
     // What a join answers: the number that the seat was told of.
-    fn join(&mut self, client: &str, now: Moment) -> Result<String, Fail> {
-        let session = session(self.alloc, client)?;
+    fn join(&mut self, rt: &impl Abort, client: &str, now: Moment) -> String {
+        let session = session(rt, self.alloc, client);
         let joined = self.core.join(&session, now);
         drop(session);
         let answer = match joined {
@@ -169,100 +168,96 @@ impl<L: Ledger, K: Keeper + Drop> Scene<L, K> {
             }
             Err(fault) => Err(fault),
         };
-        Ok(answer_text(self.alloc, &answer)?)
+        answer_text(rt, self.alloc, &answer)
     }
 
     // What a message answers.
-    fn say(&mut self, client: &str, text: &str, now: Moment) -> Result<String, Fail> {
-        let up = Up::decode(self.alloc, text)?;
+    fn say(&mut self, rt: &impl Abort, client: &str, text: &str, now: Moment) -> String {
+        let up = Up::decode(self.alloc, text).expect(rt, "a message");
         let said = match client {
             "bob" => say_at(&mut self.core, &mut self.bob, up, now),
             _ => say_at(&mut self.core, &mut self.alice, up, now),
         };
-        match said {
-            Some(answer) => Ok(answer_text(self.alloc, &answer)?),
-            None => Err("no seat")?,
-        }
+        answer_text(rt, self.alloc, &said.expect(rt, "a seat"))
     }
 
     // Alice's write number n, behind which her messages are taken.
-    fn set(&mut self, n: u64, now: Moment) -> Result<String, Fail> {
-        let text = set(self.alloc, n)?;
-        let answer = self.say("alice", text.as_str(), now)?;
-        drop(self.take("alice", 9)?);
-        Ok(answer)
+    fn set(&mut self, rt: &impl Abort, n: u64, now: Moment) -> String {
+        let text = set_text(rt, self.alloc, n);
+        let answer = self.say(rt, "alice", text.as_str(), now);
+        drop(self.take(rt, "alice", 9));
+        answer
     }
 
     // Alice's writes with the numbers from the first to the last one. What the last one answers.
-    fn sets(&mut self, words: &str, now: Moment) -> Result<String, Fail> {
-        let (first, last) = range(words)?;
+    fn sets(&mut self, rt: &impl Abort, words: &str, now: Moment) -> String {
+        let (first, last) = range(rt, words);
         let mut answer = String::new(self.alloc);
         for n in first..=last {
-            answer = self.set(n, now)?;
+            answer = self.set(rt, n, now);
         }
-        Ok(answer)
+        answer
     }
 
     // How many messages are taken, and the last of them.
-    fn take(&mut self, client: &str, most: u64) -> Result<String, Fail> {
+    fn take(&mut self, rt: &impl Abort, client: &str, most: u64) -> String {
         let alloc = self.alloc;
         match self.place(client) {
-            Some(place) => Ok(taken(alloc, &mut place.outbox, most)?),
-            None => Err("no seat")?,
+            Some(place) => taken(rt, alloc, &mut place.outbox, most),
+            None => panic!(rt; "no seat"),
         }
     }
 
     // What the end of the client's seat answers: what it made, and the refusal where there is one.
-    fn leave(&mut self, client: &str, now: Moment) -> Result<String, Fail> {
+    fn leave(&mut self, rt: &impl Abort, client: &str, now: Moment) -> String {
         let place = self.place(client).take();
         let Some(parting) = vacate(&mut self.core, place, now) else {
-            return Err("no seat")?;
+            panic!(rt; "no seat");
         };
-        let text = parting_text(self.alloc, &parting);
-        self.partings.push(parting)?;
-        Ok(text?)
+        let text = parting_text(rt, self.alloc, &parting);
+        self.partings.push(parting).expect(rt, "memory");
+        text
     }
 
-    fn tick(&mut self, now: Moment) -> Result<String, Fail> {
+    fn tick(&mut self, rt: &impl Abort, now: Moment) -> String {
         let answer = self.core.tick(now);
-        Ok(answer_text(self.alloc, &answer)?)
+        answer_text(rt, self.alloc, &answer)
     }
 
     // What a step answers: a moment, a word and what it is about.
-    fn step(&mut self, step: &str) -> Result<String, Fail> {
-        let (millis, call) = step.split_once(' ').ok_or("no moment")?;
-        let now = Moment::at(millis.parse()?);
+    fn step(&mut self, rt: &impl Abort, step: &str) -> String {
+        let (millis, call) = step.split_once(' ').expect(rt, "a moment");
+        let now = Moment::at(millis.parse().expect(rt, "a number"));
         let (word, rest) = call.split_once(' ').unwrap_or((call, ""));
         let (client, more) = rest.split_once(' ').unwrap_or((rest, ""));
         match word {
-            "join" => self.join(client, now),
-            "say" => self.say(client, more, now),
-            "sets" => self.sets(rest, now),
-            "take" => self.take(client, more.parse()?),
-            "lost" => self.leave(client, now),
-            "tick" => self.tick(now),
-            _ => Err("no such step")?,
+            "join" => self.join(rt, client, now),
+            "say" => self.say(rt, client, more, now),
+            "sets" => self.sets(rt, rest, now),
+            "take" => self.take(rt, client, more.parse().expect(rt, "a number")),
+            "lost" => self.leave(rt, client, now),
+            "tick" => self.tick(rt, now),
+            _ => panic!(rt; "no such step"),
         }
     }
 
     // Carries out the step of a line. Where it answers something else, its answer is added.
-    fn check(&mut self, line: &str, wrong: &mut String) -> Result<(), Fail> {
-        let (step, wanted) = line.split_once(" => ").ok_or("nothing is wanted")?;
-        let answer = self.step(step)?;
+    fn check(&mut self, rt: &impl Abort, line: &str, wrong: &mut String) {
+        let (step, wanted) = line.split_once(" => ").expect(rt, "an answer");
+        let answer = self.step(rt, step);
         if answer.as_str() != wanted {
-            let line = format!(in self.alloc; "{step} => {answer}\n")?;
-            wrong.push_str(line.as_str())?;
+            let line = format!(in self.alloc; "{step} => {answer}\n").expect(rt, "memory");
+            wrong.push_str(line.as_str()).expect(rt, "memory");
         }
-        Ok(())
     }
 
     // The steps that answer something else, each with what it answers.
-    fn wrong_in(&mut self, lines: &str) -> Result<String, Fail> {
+    fn wrong_in(&mut self, rt: &impl Abort, lines: &str) -> String {
         let mut wrong = String::new(self.alloc);
         for line in lines.lines() {
-            self.check(line, &mut wrong)?;
+            self.check(rt, line, &mut wrong);
         }
-        Ok(wrong)
+        wrong
     }
 
     // Ends the run: what was counted, and the keeper. Whoever still has a place loses it first.
@@ -291,12 +286,13 @@ impl<L: Ledger, K: Keeper + Drop> Scene<L, K> {
 }
 
 // The steps over what the keeper holds, with a ledger that the caller picks.
-fn run_with<L: Ledger, K: Keeper + Drop>(
+fn run_with<L: Ledger, K: Keeper + Drop, R: Abort>(
+    rt: &R,
     alloc: Global,
     blank: Blank,
     keeper: K,
     lines: &String,
-) -> Result<(String, Counts, K), Fail>
+) -> (String, Counts, K)
     requires name { blank.name ≡ L.name }
     requires parts { blank.parts ≡ L.parts }
     requires whole { blank.parts ≡ 2 ^ 53 }
@@ -304,10 +300,7 @@ fn run_with<L: Ledger, K: Keeper + Drop>(
 {
     let core = match Core::<L, K, NoBell>::start(alloc, blank, keeper, Moment::at(0)) {
         Ok(core) => core,
-        Err((fault, keeper)) => {
-            drop(keeper);
-            return Err(fault)?;
-        }
+        Err((fault, _)) => panic!(rt; "{fault}"),
     };
     let mut scene = Scene {
         alloc,
@@ -316,34 +309,31 @@ fn run_with<L: Ledger, K: Keeper + Drop>(
         bob: None,
         partings: Vec::new(alloc),
     };
-    let wrong = scene.wrong_in(lines.as_str());
+    let wrong = scene.wrong_in(rt, lines.as_str());
     let (counts, keeper) = scene.finish();
-    Ok((wrong?, counts, keeper))
+    (wrong, counts, keeper)
 }
 
 /// The steps over what the keeper holds. A step is a moment, a call and, behind ` => `, what it
 /// answers.
-pub(crate) fn run<K: Keeper + Drop>(
+pub(crate) fn run<K: Keeper + Drop, R: Abort>(
+    rt: &R,
     alloc: Global,
     keeper: K,
     lines: &str,
-) -> Result<(Told, K), Fail>
+) -> (Told, K)
     requires { K.ready keeper }
 {
-    let lines = String::from_str(alloc, lines)?;
-    let (wrong, counts, mut keeper) = run_with::<Brand, K>(
-        alloc,
-        Blank::new(1 << 53),
-        keeper,
-        &lines,
-    )?;
-    let log = log_text(alloc, &mut keeper)?;
-    let tree = tree_text(alloc, &mut keeper)?;
+    let lines = String::from_str(alloc, lines).expect(rt, "memory");
+    let blank = Blank::new(1 << 53);
+    let (wrong, counts, mut keeper) = run_with::<Brand, K, R>(rt, alloc, blank, keeper, &lines);
+    let log = log_text(rt, alloc, &mut keeper);
+    let tree = tree_text(rt, alloc, &mut keeper);
     let told = Told {
         wrong,
         counts,
         log,
         tree,
     };
-    Ok((told, keeper))
+    (told, keeper)
 }

@@ -1,15 +1,15 @@
 //! A server's run, and the ring of a session that gets what the run answered it.
 
-ghost use Rattle.std.specs.Prelude.{◌≡◌, ◌∷◌, [], IfOk, IfSome};
+ghost use Rattle.std.specs.Prelude.{◌≡◌, ◌∷◌, [], IfSome};
 ghost use Rattle.pres_wire.specs.Messages.{session_for};
 ghost use Rattle.pres_ring.specs.Told.{IsToldOf, names, those_for};
 ghost use Rattle.tests_of_ring.specs.Runs.{IsAnswered, IsFed};
 
 use pres_ring::{Feed, Outbox, open};
 use pres_server::{Busy, Down, Input, Moment, Server, SessionId, Turn, Up};
-use std::alloc::{AllocError, Global};
+use std::alloc::Global;
 use std::collections::VecDeque;
-use std::test::Fail;
+use std::process::Abort;
 
 /// A server, and all that it has answered.
 #[derive(Drop)]
@@ -28,52 +28,44 @@ pub(crate) fn start(alloc: Global) -> Run {
 }
 
 // The run after the commit.
-fn done(busy: Busy, mut answers: Vec<Down>) -> Result<Run, Fail>
+fn done(rt: &impl Abort, busy: Busy, mut answers: Vec<Down>) -> Run
     requires { IsAnswered busy.state.log answers.items }
 {
     // it ensures that the log with the batch is legal
     let _ = busy.batch();
-    let (server, more) = busy.done()?;
+    let (server, more) = busy.done().expect(rt, "memory");
     let mut more = more.into_vec();
-    answers.append(&mut more)?;
-    Ok(Run { server, answers })
-}
-
-// The message of a text, where there is memory for both.
-fn said(alloc: Global, text: Result<String, AllocError>) -> Result<Up, Fail> {
-    Ok(Up::decode(alloc, text?.as_str())?)
+    answers.append(&mut more).expect(rt, "memory");
+    Run { server, answers }
 }
 
 /// The run with one message more to the server.
-pub(crate) fn turn(alloc: Global, run: Run, text: Result<String, AllocError>) -> Result<Run, Fail> {
-    let up = match said(alloc, text) {
-        Ok(up) => up,
-        Err(fail) => {
-            drop(run);
-            return Err(fail);
-        }
-    };
+pub(crate) fn turn(rt: &impl Abort, alloc: Global, run: Run, text: &str) -> Run {
+    let up = Up::decode(alloc, text).expect(rt, "a message");
     let Run { server, answers } = run;
     match server.prepare(Input::Up(up), Moment::at(1000)) {
-        Ok(Turn::Busy(busy)) => done(busy, answers),
-        Ok(Turn::Quiet(_, _)) => Err("quiet")?,
-        Err(_) => Err("refused")?,
+        Ok(Turn::Busy(busy)) => done(rt, busy, answers),
+        Ok(Turn::Quiet(_, _)) => panic!(rt; "quiet"),
+        Err(_) => panic!(rt; "refused"),
     }
 }
 
 /// The texts of the answers for the session.
 pub(crate) fn texts_for(
+    rt: &impl Abort,
     alloc: Global,
     run: &Run,
     session: &SessionId,
-) -> Result<Vec<String>, Fail> {
+) -> Vec<String> {
     let mut texts = Vec::new(alloc);
     for message in &run.answers {
         if is_for(message, session) {
-            texts.push(message.encode(alloc)?)?;
+            texts
+                .push(message.encode(alloc).expect(rt, "memory"))
+                .expect(rt, "memory");
         }
     }
-    Ok(texts)
+    texts
 }
 
 // Whether the message is for the session.
@@ -119,30 +111,27 @@ pub(crate) struct Ends {
 
 // A ring for the session with its Welcome.
 fn welcomed(
+    rt: &impl Abort,
     alloc: Global,
     session: &SessionId,
     welcome: Down,
     rest: VecDeque<Down>,
-) -> Result<Ends, AllocError>
+) -> Ends
     requires { IsToldOf session.now (welcome ∷ those_for session.now rest.items) }
-    ensures { IfOk result (λ e. IsFed e.feed e.rest.items) }
+    ensures { IsFed result.feed result.rest.items }
 {
-    let Ok(opening) = open(alloc, session) else {
-        drop(welcome);
-        drop(rest);
-        return Err(AllocError);
-    };
+    let opening = open(alloc, session).expect(rt, "memory");
     let (feed, outbox) = opening.welcome(welcome);
-    Ok(Ends { feed, outbox, rest })
+    Ends { feed, outbox, rest }
 }
 
 /// The ring of a session whose Welcome is the first answer of the run.
-pub(crate) fn ends_for(alloc: Global, run: Run, session: &SessionId) -> Result<Ends, Fail>
-    ensures { IfOk result (λ e. IsFed e.feed e.rest.items) }
+pub(crate) fn ends_for(rt: &impl Abort, alloc: Global, run: Run, session: &SessionId) -> Ends
+    ensures { IsFed result.feed result.rest.items }
 {
     match first_for(run, session) {
-        Some((welcome, rest)) => Ok(welcomed(alloc, session, welcome, rest)?),
-        None => Err("no Welcome")?,
+        Some((welcome, rest)) => welcomed(rt, alloc, session, welcome, rest),
+        None => panic!(rt; "no Welcome"),
     }
 }
 

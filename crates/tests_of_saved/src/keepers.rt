@@ -1,127 +1,124 @@
 //! Runs of keepers, over a database in memory and in memory alone.
 
 use crate::turns::step;
-use crate::words::{note, refused, run_sql, said, with};
+use crate::words::{note, refused, run_sql, said};
 use pres_saved::{Keeper, MemKeeper, SqlKeeper};
 use sqlite::{Alter, Connection, Row, params};
 use std::alloc::Global;
-use std::test::Fail;
+use std::process::Abort;
 
 // The columns of a row of batches.
-fn columns(alloc: Global, row: &Row) -> Result<String, Fail> {
-    let number: i64 = row.get(0)?;
-    let moment: i64 = row.get(1)?;
-    let body: String = row.get(2)?;
-    Ok(format!(in alloc; "({number}, {moment}, {body})")?)
+fn columns(rt: &impl Abort, alloc: Global, row: &Row) -> String {
+    let number: i64 = row.get(0).expect(rt, "a number");
+    let moment: i64 = row.get(1).expect(rt, "a moment");
+    let body: String = row.get(2).expect(rt, "a text");
+    format!(in alloc; "({number}, {moment}, {body})").expect(rt, "memory")
 }
 
 // The connection, and the row of batches with the number, as another program reads it.
 fn row<S: Alter + Drop>(
+    rt: &impl Abort,
     alloc: Global,
     mut connection: Connection<S>,
     number: &str,
-) -> Result<(Connection<S>, String), Fail> {
-    let Ok(number) = number.parse::<i64>() else {
-        drop(connection);
-        return Err("no number")?;
-    };
+) -> (Connection<S>, String) {
+    let number: i64 = number.parse().expect(rt, "a number");
     let statement = "SELECT k, moment, body FROM batch WHERE k = ?1";
     let text = match connection.query_row(statement, params![number]) {
-        Ok(row) => columns(alloc, &row),
-        Err(_) => said(alloc, "no row"),
+        Ok(row) => columns(rt, alloc, &row),
+        Err(_) => said(rt, alloc, "no row"),
     };
-    with(connection, text)
+    (connection, text)
 }
 
 // The connection after the tables were made, and what that answered.
 fn created<S: Alter + Drop>(
+    rt: &impl Abort,
     alloc: Global,
     connection: Connection<S>,
-) -> Result<(Connection<S>, String), Fail> {
+) -> (Connection<S>, String) {
     if !connection.is_autocommit() {
-        drop(connection);
-        return Err("a transaction is open")?;
+        panic!(rt; "a transaction is open");
     }
     match SqlKeeper::create(alloc, connection) {
-        Ok(keeper) => with(keeper.into_connection(), said(alloc, "created")),
-        Err((fault, connection)) => with(connection, refused(alloc, fault)),
+        Ok(keeper) => (keeper.into_connection(), said(rt, alloc, "created")),
+        Err((fault, connection)) => (connection, refused(rt, alloc, fault)),
     }
 }
 
 // The connection after a step of the keeper over it, and what that said.
 pub(crate) fn stepped<S: Alter + Drop>(
+    rt: &impl Abort,
     alloc: Global,
     connection: Connection<S>,
     call: &str,
-) -> Result<(Connection<S>, String), Fail> {
+) -> (Connection<S>, String) {
     if !connection.is_autocommit() {
-        drop(connection);
-        return Err("a transaction is open")?;
+        panic!(rt; "a transaction is open");
     }
     match SqlKeeper::open(alloc, connection) {
         Ok(keeper) => {
             let mut keeper = keeper;
-            let text = step(alloc, &mut keeper, call);
-            with(keeper.into_connection(), text)
+            let text = step(rt, alloc, &mut keeper, call);
+            (keeper.into_connection(), text)
         }
-        Err((fault, connection)) => with(connection, refused(alloc, fault)),
+        Err((fault, connection)) => (connection, refused(rt, alloc, fault)),
     }
 }
 
 // The connection after a step: `create`, `sql` and another program's statement, `row` and its
 // number, or a step of the keeper over it.
 fn after<S: Alter + Drop>(
+    rt: &impl Abort,
     alloc: Global,
     connection: Connection<S>,
     call: &str,
-) -> Result<(Connection<S>, String), Fail> {
+) -> (Connection<S>, String) {
     if call == "create" {
-        return created(alloc, connection);
+        return created(rt, alloc, connection);
     }
     match call.split_once(' ') {
-        Some(("sql", statement)) => run_sql(alloc, connection, statement),
-        Some(("row", number)) => row(alloc, connection, number),
-        _ => stepped(alloc, connection, call),
+        Some(("sql", statement)) => run_sql(rt, alloc, connection, statement),
+        Some(("row", number)) => row(rt, alloc, connection, number),
+        _ => stepped(rt, alloc, connection, call),
     }
 }
 
 // The connection after the line's step, which is noted where it says something else.
 fn tried<S: Alter + Drop>(
+    rt: &impl Abort,
     alloc: Global,
     connection: Connection<S>,
     line: &str,
     wrong: &mut String,
-) -> Result<Connection<S>, Fail> {
-    let Some((call, wanted)) = line.split_once(" => ") else {
-        drop(connection);
-        return Err("nothing is wanted")?;
-    };
-    let (connection, text) = after(alloc, connection, call)?;
-    let (connection, ()) = with(connection, note(alloc, call, text.as_str(), wanted, wrong))?;
-    Ok(connection)
+) -> Connection<S> {
+    let (call, wanted) = line.split_once(" => ").expect(rt, "an answer");
+    let (connection, text) = after(rt, alloc, connection, call);
+    note(rt, alloc, call, text.as_str(), wanted, wrong);
+    connection
 }
 
 // The steps over a new database that say something else, each with that.
-fn wrong_in_database(alloc: Global, lines: &str) -> Result<String, Fail> {
-    let mut connection = Connection::open_in_memory(alloc)?;
+fn wrong_in_database(rt: &impl Abort, alloc: Global, lines: &str) -> String {
+    let mut connection = Connection::open_in_memory(alloc).expect(rt, "a database");
     let mut wrong = String::new(alloc);
     for line in lines.lines() {
-        connection = tried(alloc, connection, line, &mut wrong)?;
+        connection = tried(rt, alloc, connection, line, &mut wrong);
     }
     drop(connection);
-    Ok(wrong)
+    wrong
 }
 
 // The same over a keeper in memory.
-fn wrong_in_memory(alloc: Global, lines: &str) -> Result<String, Fail> {
+fn wrong_in_memory(rt: &impl Abort, alloc: Global, lines: &str) -> String {
     let mut keeper = MemKeeper::new(alloc);
     let mut wrong = String::new(alloc);
     for line in lines.lines() {
-        let (call, wanted) = line.split_once(" => ").ok_or("nothing is wanted")?;
-        let text = step(alloc, &mut keeper, call)?;
-        note(alloc, call, text.as_str(), wanted, &mut wrong)?;
+        let (call, wanted) = line.split_once(" => ").expect(rt, "an answer");
+        let text = step(rt, alloc, &mut keeper, call);
+        note(rt, alloc, call, text.as_str(), wanted, &mut wrong);
     }
-    Ok(wrong)
+    wrong
 }
 
 const FAULTS: &str = r#"server => NotOurs
@@ -176,27 +173,25 @@ server => 5 entries, {"x":7}
 server => 5 entries, {"x":7}"#;
 
 // The lines behind the making of the tables.
-fn with_tables(alloc: Global, lines: &str) -> Result<String, Fail> {
-    Ok(format!(in alloc; "create => created\n{lines}")?)
+fn with_tables(rt: &impl Abort, alloc: Global, lines: &str) -> String {
+    format!(in alloc; "create => created\n{lines}").expect(rt, "memory")
 }
 
 #[test]
-fn batches_are_kept_in_a_database(rt: HostRuntime) -> Result<(), Fail> {
+fn batches_are_kept_in_a_database(rt: HostRuntime) {
     for lines in [FAULTS, SUPERSEDED] {
-        let wrong = wrong_in_database(rt.alloc(), lines)?;
+        let wrong = wrong_in_database(&rt, rt.alloc(), lines);
         assert_eq!(rt; wrong.as_str(), "");
     }
-    Ok(())
 }
 
 #[test]
-fn servers_are_made_anew(rt: HostRuntime) -> Result<(), Fail> {
+fn servers_are_made_anew(rt: HostRuntime) {
     for lines in [TWICE, RESTARTED] {
-        let wrong = wrong_in_memory(rt.alloc(), lines)?;
+        let wrong = wrong_in_memory(&rt, rt.alloc(), lines);
         assert_eq!(rt; wrong.as_str(), "");
-        let lines = with_tables(rt.alloc(), lines)?;
-        let wrong = wrong_in_database(rt.alloc(), lines.as_str())?;
+        let lines = with_tables(&rt, rt.alloc(), lines);
+        let wrong = wrong_in_database(&rt, rt.alloc(), lines.as_str());
         assert_eq!(rt; wrong.as_str(), "");
     }
-    Ok(())
 }

@@ -1,23 +1,24 @@
 //! Runs of the table of saved rows, in memory. A run is a text of lines, each a call and what it
 //! must answer; a line `sql STATEMENT` is another program's, which has the database for itself.
 
-use crate::words::{note, refused, run_sql, said, with};
+use crate::words::{note, refused, run_sql, said};
 use pres_ids::Number;
 use pres_table::{SavedFault, SavedRow, Table, Take};
 use pres_write::{MAX_SAFE_INTEGER, Moment};
 use sqlite::{Alter, Connection};
 use std::alloc::Global;
-use std::test::Fail;
+use std::process::Abort;
 
 // The rows, each as its moment and its text.
-fn listed(alloc: Global, rows: &[SavedRow]) -> Result<String, Fail> {
-    let mut text = said(alloc, "rows")?;
+fn listed(rt: &impl Abort, alloc: Global, rows: &[SavedRow]) -> String {
+    let mut text = said(rt, alloc, "rows");
     for row in rows {
         let moment = row.moment.millis();
-        text.push_str(format!(in alloc; ", {moment} ")?.as_str())?;
-        text.push_str(row.body.as_str())?;
+        let part = format!(in alloc; ", {moment} ").expect(rt, "memory");
+        text.push_str(part.as_str()).expect(rt, "memory");
+        text.push_str(row.body.as_str()).expect(rt, "memory");
     }
-    Ok(text)
+    text
 }
 
 // Takes rows until one says `stop`.
@@ -44,142 +45,143 @@ impl Take for Until {
 }
 
 // Adds the row of a moment and a text.
-fn append<S: Alter + Drop>(alloc: Global, table: &mut Table<S>, row: &str) -> Result<String, Fail> {
-    let (millis, body) = row.split_once(' ').ok_or("no text")?;
-    let millis: u64 = millis.parse()?;
+fn append<S: Alter + Drop>(
+    rt: &impl Abort,
+    alloc: Global,
+    table: &mut Table<S>,
+    row: &str,
+) -> String {
+    let (millis, body) = row.split_once(' ').expect(rt, "a text");
+    let millis: u64 = millis.parse().expect(rt, "a number");
     if millis > MAX_SAFE_INTEGER {
-        return Err("no moment")?;
+        panic!(rt; "no moment");
     }
     match table.append(Moment::at(millis), body) {
-        Ok(()) => said(alloc, "appended"),
-        Err(fault) => refused(alloc, fault),
+        Ok(()) => said(rt, alloc, "appended"),
+        Err(fault) => refused(rt, alloc, fault),
     }
 }
 
-fn load<S: Alter + Drop>(alloc: Global, table: &mut Table<S>) -> Result<String, Fail> {
+fn load<S: Alter + Drop>(rt: &impl Abort, alloc: Global, table: &mut Table<S>) -> String {
     match table.load(alloc) {
-        Ok(rows) => listed(alloc, rows.as_slice()),
-        Err(fault) => refused(alloc, fault),
+        Ok(rows) => listed(rt, alloc, rows.as_slice()),
+        Err(fault) => refused(rt, alloc, fault),
     }
 }
 
 // What was taken, and how it ended.
-fn each<S: Alter + Drop>(alloc: Global, table: &mut Table<S>) -> Result<String, Fail> {
+fn each<S: Alter + Drop>(rt: &impl Abort, alloc: Global, table: &mut Table<S>) -> String {
     let mut until = Until {
         taken: String::new(alloc),
     };
     let ended = match table.each(alloc, &mut until) {
-        Ok(()) => said(alloc, "all")?,
-        Err(fault) => refused(alloc, fault)?,
+        Ok(()) => said(rt, alloc, "all"),
+        Err(fault) => refused(rt, alloc, fault),
     };
-    until.taken.push_str(ended.as_str())?;
-    Ok(until.taken)
+    until.taken.push_str(ended.as_str()).expect(rt, "memory");
+    until.taken
 }
 
 // What the table answers to the call.
 fn answer<S: Alter + Drop>(
+    rt: &impl Abort,
     alloc: Global,
     table: &mut Table<S>,
     call: &str,
-) -> Result<String, Fail> {
+) -> String {
     let (word, rest) = call.split_once(' ').unwrap_or((call, ""));
     match word {
-        "open" => said(alloc, "found"),
-        "append" => append(alloc, table, rest),
-        "load" => load(alloc, table),
-        "each" => each(alloc, table),
-        _ => Err("no such call")?,
+        "open" => said(rt, alloc, "found"),
+        "append" => append(rt, alloc, table, rest),
+        "load" => load(rt, alloc, table),
+        "each" => each(rt, alloc, table),
+        _ => panic!(rt; "no such call"),
     }
 }
 
 // The connection after the tables were made, and what that answered.
 fn created<S: Alter + Drop>(
+    rt: &impl Abort,
     alloc: Global,
     connection: Connection<S>,
-) -> Result<(Connection<S>, String), Fail> {
+) -> (Connection<S>, String) {
     if !connection.is_autocommit() {
-        drop(connection);
-        return Err("a transaction is open")?;
+        panic!(rt; "a transaction is open");
     }
     match Table::create(connection) {
-        Ok(table) => with(table.into_connection(), said(alloc, "created")),
-        Err((fault, connection)) => with(connection, refused(alloc, fault)),
+        Ok(table) => (table.into_connection(), said(rt, alloc, "created")),
+        Err((fault, connection)) => (connection, refused(rt, alloc, fault)),
     }
 }
 
 // The connection after a call on the table that is found, and what that answered.
 fn called<S: Alter + Drop>(
+    rt: &impl Abort,
     alloc: Global,
     connection: Connection<S>,
     call: &str,
-) -> Result<(Connection<S>, String), Fail> {
+) -> (Connection<S>, String) {
     if !connection.is_autocommit() {
-        drop(connection);
-        return Err("a transaction is open")?;
+        panic!(rt; "a transaction is open");
     }
     match Table::open(connection) {
         Ok(table) => {
             let mut table = table;
-            let text = answer(alloc, &mut table, call);
-            with(table.into_connection(), text)
+            let text = answer(rt, alloc, &mut table, call);
+            (table.into_connection(), text)
         }
-        Err((fault, connection)) => with(connection, refused(alloc, fault)),
+        Err((fault, connection)) => (connection, refused(rt, alloc, fault)),
     }
 }
 
 fn step<S: Alter + Drop>(
+    rt: &impl Abort,
     alloc: Global,
     connection: Connection<S>,
     call: &str,
-) -> Result<(Connection<S>, String), Fail> {
+) -> (Connection<S>, String) {
     if call == "create" {
-        return created(alloc, connection);
+        return created(rt, alloc, connection);
     }
     match call.strip_prefix("sql ") {
-        Some(statement) => run_sql(alloc, connection, statement),
-        None => called(alloc, connection, call),
+        Some(statement) => run_sql(rt, alloc, connection, statement),
+        None => called(rt, alloc, connection, call),
     }
 }
 
 // The connection after the line's call.
 fn tried<S: Alter + Drop>(
+    rt: &impl Abort,
     alloc: Global,
     connection: Connection<S>,
     line: &str,
     wrong: &mut String,
-) -> Result<Connection<S>, Fail> {
-    let Some((call, wanted)) = line.split_once(" => ") else {
-        drop(connection);
-        return Err("no answer")?;
-    };
-    let (connection, text) = step(alloc, connection, call)?;
-    match note(alloc, call, text.as_str(), wanted, wrong) {
-        Ok(()) => Ok(connection),
-        Err(fail) => {
-            drop(connection);
-            Err(fail)
-        }
-    }
+) -> Connection<S> {
+    let (call, wanted) = line.split_once(" => ").expect(rt, "an answer");
+    let (connection, text) = step(rt, alloc, connection, call);
+    note(rt, alloc, call, text.as_str(), wanted, wrong);
+    connection
 }
 
 // The calls that answer something else, each with that.
 fn wrong_in<S: Alter + Drop>(
+    rt: &impl Abort,
     alloc: Global,
     mut connection: Connection<S>,
     lines: &str,
-) -> Result<String, Fail> {
+) -> String {
     let mut wrong = String::new(alloc);
     for line in lines.lines() {
-        connection = tried(alloc, connection, line, &mut wrong)?;
+        connection = tried(rt, alloc, connection, line, &mut wrong);
     }
     drop(connection);
-    Ok(wrong)
+    wrong
 }
 
 // The same in a new database.
-fn wrong_from_nothing(alloc: Global, lines: &str) -> Result<String, Fail> {
-    let connection = Connection::open_in_memory(alloc)?;
-    wrong_in(alloc, connection, lines)
+fn wrong_from_nothing(rt: &impl Abort, alloc: Global, lines: &str) -> String {
+    let connection = Connection::open_in_memory(alloc).expect(rt, "a database");
+    wrong_in(rt, alloc, connection, lines)
 }
 
 const KEPT: &str = r#"open => NotOurs
@@ -229,21 +231,19 @@ sql INSERT INTO batch(k, moment, body) VALUES(-1, 1, 'g') => run
 load => BadRow 1"#;
 
 #[test]
-fn rows_are_kept_in_order(rt: HostRuntime) -> Result<(), Fail> {
-    let wrong = wrong_from_nothing(rt.alloc(), KEPT)?;
+fn rows_are_kept_in_order(rt: HostRuntime) {
+    let wrong = wrong_from_nothing(&rt, rt.alloc(), KEPT);
     assert_eq!(rt; wrong.as_str(), "");
-    Ok(())
 }
 
 #[test]
-fn bad_rows_are_told(rt: HostRuntime) -> Result<(), Fail> {
-    let wrong = wrong_from_nothing(rt.alloc(), BAD)?;
+fn bad_rows_are_told(rt: HostRuntime) {
+    let wrong = wrong_from_nothing(&rt, rt.alloc(), BAD);
     assert_eq!(rt; wrong.as_str(), "");
-    Ok(())
 }
 
 #[test]
-fn faults_are_numbered(rt: HostRuntime) -> Result<(), Fail> {
+fn faults_are_numbered(rt: HostRuntime) {
     let bad = SavedFault::BadRow(Number::first());
     let numbers = (
         SavedFault::Memory.number(),
@@ -253,7 +253,6 @@ fn faults_are_numbered(rt: HostRuntime) -> Result<(), Fail> {
         SavedFault::Version.number(),
     );
     assert_eq!(rt; numbers, (1, 2, 3, 4, 5));
-    let text = bad.to_string(rt.alloc())?;
+    let text = bad.to_string(rt.alloc()).expect(&rt, "memory");
     assert_eq!(rt; text.as_str(), "row 1 is bad");
-    Ok(())
 }

@@ -5,12 +5,12 @@
 ghost use Rattle.std.specs.Prelude.{IsTrue};
 
 use crate::turns::{listed, turn};
-use crate::words::{refused, said, with};
+use crate::words::{refused, said};
 use pres_saved::{Keeper, SqlKeeper};
 use sqlite::{Alter, Connection, FileStore, Files, Options};
 use sqlite_disk::{Crash, Disk, Fuse, Memory};
 use std::alloc::Global;
-use std::test::Fail;
+use std::process::Abort;
 
 // The turns of a run, each with its batch.
 const TURNS: &str =
@@ -41,55 +41,55 @@ fn options() -> Options {
 }
 
 // The batches of so many turns.
-fn batches(alloc: Global, count: usize) -> Result<String, Fail> {
-    let mut text = said(alloc, "batches")?;
+fn batches(rt: &impl Abort, alloc: Global, count: usize) -> String {
+    let mut text = said(rt, alloc, "batches");
     for line in TURNS.lines().take(count) {
-        let (_, batch) = line.split_once(" => ").ok_or("no batch")?;
-        text.push_str(", ")?;
-        text.push_str(batch)?;
+        let (_, batch) = line.split_once(" => ").expect(rt, "a batch");
+        text.push_str(", ").expect(rt, "memory");
+        text.push_str(batch).expect(rt, "memory");
     }
-    Ok(text)
+    text
 }
 
 // Makes the turns, up to the first that the keeper refuses, and reads them.
-fn kept<K: Keeper>(alloc: Global, keeper: &mut K) -> Result<Ran, Fail> {
+fn kept<K: Keeper>(rt: &impl Abort, alloc: Global, keeper: &mut K) -> Ran {
     let mut commits: usize = 0;
     for line in TURNS.lines() {
-        let (case, _) = line.split_once(" => ").ok_or("no batch")?;
-        let text = turn(alloc, keeper, case, false)?;
+        let (case, _) = line.split_once(" => ").expect(rt, "a batch");
+        let text = turn(rt, alloc, keeper, case, false);
         if text.as_str() == "Database" {
-            return Ok(Ran {
+            return Ran {
                 created: true,
                 commits,
                 stopped: true,
-            });
+            };
         }
         commits = commits.saturating_add(1);
     }
-    let text = listed(alloc, keeper)?;
-    Ok(Ran {
+    let text = listed(rt, alloc, keeper);
+    Ran {
         created: true,
         commits,
         stopped: text.as_str() == "Database",
-    })
+    }
 }
 
 // A whole run over a new database.
 fn run<S: Alter + Drop>(
+    rt: &impl Abort,
     alloc: Global,
     connection: Connection<S>,
-) -> Result<(Connection<S>, Ran), Fail> {
+) -> (Connection<S>, Ran) {
     if !connection.is_autocommit() {
-        drop(connection);
-        return Err("a transaction is open")?;
+        panic!(rt; "a transaction is open");
     }
     match SqlKeeper::create(alloc, connection) {
         Ok(keeper) => {
             let mut keeper = keeper;
-            let ran = kept(alloc, &mut keeper);
-            with(keeper.into_connection(), ran)
+            let ran = kept(rt, alloc, &mut keeper);
+            (keeper.into_connection(), ran)
         }
-        Err((_, connection)) => Ok((connection, NOT_OPENED)),
+        Err((_, connection)) => (connection, NOT_OPENED),
     }
 }
 
@@ -108,116 +108,116 @@ fn closed<D: Disk + Drop>(connection: Connection<FileStore<D>>, ran: Ran) -> (Fi
 }
 
 // What a run over these files, which hold nothing, leaves in them.
-fn left<D: Disk + Drop>(alloc: Global, files: Files<D>) -> Result<(Files<D>, Ran), Fail>
+fn left<D: Disk + Drop>(rt: &impl Abort, alloc: Global, files: Files<D>) -> (Files<D>, Ran)
     requires log { IsTrue (D.Disk.is_usable files.log) }
     requires db { IsTrue (D.Disk.is_usable files.db) }
 {
     match Connection::open_files(alloc, files, options()) {
         Ok(connection) => {
-            let (connection, ran) = run(alloc, connection)?;
-            Ok(closed(connection, ran))
+            let (connection, ran) = run(rt, alloc, connection);
+            closed(connection, ran)
         }
-        Err((_, left)) => Ok((left.into_files(), NOT_OPENED)),
+        Err((_, left)) => (left.into_files(), NOT_OPENED),
     }
 }
 
 // The batches and how many entries their server has.
-fn read<K: Keeper>(alloc: Global, keeper: &mut K) -> Result<String, Fail> {
-    let text = listed(alloc, keeper)?;
+fn read<K: Keeper>(rt: &impl Abort, alloc: Global, keeper: &mut K) -> String {
+    let text = listed(rt, alloc, keeper);
     match keeper.server() {
         Ok(server) => {
             let number = server.number();
             drop(server);
-            Ok(format!(in alloc; "{text}, server {number}")?)
+            format!(in alloc; "{text}, server {number}").expect(rt, "memory")
         }
-        Err(fault) => refused(alloc, fault),
+        Err(fault) => refused(rt, alloc, fault),
     }
 }
 
 // What is found in a database.
-fn found<S: Alter + Drop>(alloc: Global, connection: Connection<S>) -> Result<String, Fail> {
+fn found<S: Alter + Drop>(rt: &impl Abort, alloc: Global, connection: Connection<S>) -> String {
     if !connection.is_autocommit() {
-        drop(connection);
-        return Err("a transaction is open")?;
+        panic!(rt; "a transaction is open");
     }
     match SqlKeeper::open(alloc, connection) {
         Ok(keeper) => {
             let mut keeper = keeper;
-            let text = read(alloc, &mut keeper);
+            let text = read(rt, alloc, &mut keeper);
             drop(keeper);
             text
         }
         Err((fault, connection)) => {
             drop(connection);
-            refused(alloc, fault)
+            refused(rt, alloc, fault)
         }
     }
 }
 
 // What is found in the files once the machine comes back, which loses what wasn't synced.
-fn reopened<D: Crash + Drop>(alloc: Global, mut files: Files<D>) -> Result<String, Fail> {
+fn reopened<D: Crash + Drop>(rt: &impl Abort, alloc: Global, mut files: Files<D>) -> String {
     files.log.crash();
     files.db.crash();
     match Connection::open_files(alloc, files, options()) {
-        Ok(connection) => found(alloc, connection),
+        Ok(connection) => found(rt, alloc, connection),
         Err((_, left)) => {
             drop(left);
-            said(alloc, "not opened")
+            said(rt, alloc, "not opened")
         }
     }
 }
 
 // A file of these bytes, all of them synced.
-fn synced(alloc: Global, bytes: &[u8]) -> Result<Fuse<Memory>, Fail> {
+fn synced(rt: &impl Abort, alloc: Global, bytes: &[u8]) -> Fuse<Memory> {
     let mut memory = Memory::new(alloc);
-    memory.write_at(0, bytes)?;
-    memory.sync()?;
-    Ok(Fuse::new(memory, u64::MAX))
+    memory.write_at(0, bytes).expect(rt, "memory");
+    memory.sync().expect(rt, "memory");
+    Fuse::new(memory, u64::MAX)
 }
 
 // The files with all that was written, as after the death of the process alone.
 fn with_all_written(
+    rt: &impl Abort,
     alloc: Global,
     files: &Files<Fuse<Memory>>,
-) -> Result<Files<Fuse<Memory>>, Fail> {
-    let log = synced(alloc, files.log.inner().bytes())?;
-    let db = synced(alloc, files.db.inner().bytes())?;
-    Ok(Files { log, db })
+) -> Files<Fuse<Memory>> {
+    let log = synced(rt, alloc, files.log.inner().bytes());
+    let db = synced(rt, alloc, files.db.inner().bytes());
+    Files { log, db }
 }
 
 // What a run came to whose files fail after so many calls, and what is found afterwards.
-fn one(alloc: Global, calls: (u64, u64), loses: bool) -> Result<(String, Ran), Fail> {
+fn one(rt: &impl Abort, alloc: Global, calls: (u64, u64), loses: bool) -> (String, Ran) {
     let files = Files {
         log: Fuse::new(Memory::new(alloc), calls.0),
         db: Fuse::new(Memory::new(alloc), calls.1),
     };
-    let (files, ran) = left(alloc, files)?;
+    let (files, ran) = left(rt, alloc, files);
     if loses {
-        return Ok((reopened(alloc, files)?, ran));
+        return (reopened(rt, alloc, files), ran);
     }
-    let files = with_all_written(alloc, &files)?;
-    Ok((reopened(alloc, files)?, ran))
+    let files = with_all_written(rt, alloc, &files);
+    (reopened(rt, alloc, files), ran)
 }
 
 // What is to be found after so many commits.
-fn wanted(alloc: Global, commits: usize) -> Result<String, Fail> {
-    let batches = batches(alloc, commits)?;
-    Ok(format!(in alloc; "{batches}, server {commits}")?)
+fn wanted(rt: &impl Abort, alloc: Global, commits: usize) -> String {
+    let batches = batches(rt, alloc, commits);
+    format!(in alloc; "{batches}, server {commits}").expect(rt, "memory")
 }
 
 // Whether what was found after a run is right, in a word.
-fn verdict(alloc: Global, found: &str, ran: Ran) -> Result<&'static str, Fail> {
+fn verdict(rt: &impl Abort, alloc: Global, found: &str, ran: Ran) -> &'static str {
     if found == "NotOurs" && !ran.created {
-        return Ok("none");
+        return "none";
     }
-    if found == wanted(alloc, ran.commits)?.as_str() {
-        return Ok("without");
+    if found == wanted(rt, alloc, ran.commits).as_str() {
+        return "without";
     }
-    let more = wanted(alloc, ran.commits.saturating_add(1))?;
+    let more = wanted(rt, alloc, ran.commits.saturating_add(1));
     if ran.created && ran.stopped && found == more.as_str() {
-        return Ok("with");
+        return "with";
     }
-    Ok("wrong")
+    "wrong"
 }
 
 // What all runs with a stop came to.
@@ -230,21 +230,25 @@ struct Seen {
 }
 
 // Counts a run by the word on it.
-fn count(alloc: Global, seen: &mut Seen, calls: (u64, u64), word: &str) -> Result<(), Fail> {
+fn count(rt: &impl Abort, alloc: Global, seen: &mut Seen, calls: (u64, u64), word: &str) {
     match word {
         "none" => seen.none = seen.none.saturating_add(1),
         "without" => seen.without = seen.without.saturating_add(1),
         "with" => seen.with = seen.with.saturating_add(1),
         _ => seen
             .wrong
-            .push_str(format!(in alloc; "{} {}, ", calls.0, calls.1)?.as_str())?,
+            .push_str(
+                format!(in alloc; "{} {}, ", calls.0, calls.1)
+                    .expect(rt, "memory")
+                    .as_str(),
+            )
+            .expect(rt, "memory"),
     }
-    Ok(())
 }
 
 // What the runs with stops at each call on one of the files came to, up to the first run without
 // a stop, which is to find all that it kept.
-fn stops(alloc: Global, on_log: bool, loses: bool) -> Result<Seen, Fail> {
+fn stops(rt: &impl Abort, alloc: Global, on_log: bool, loses: bool) -> Seen {
     let mut seen = Seen {
         none: 0,
         without: 0,
@@ -257,35 +261,33 @@ fn stops(alloc: Global, on_log: bool, loses: bool) -> Result<Seen, Fail> {
         } else {
             (u64::MAX, number)
         };
-        let (found, ran) = one(alloc, calls, loses)?;
-        let word = verdict(alloc, found.as_str(), ran)?;
+        let (found, ran) = one(rt, alloc, calls, loses);
+        let word = verdict(rt, alloc, found.as_str(), ran);
         if ran.stopped || word == "wrong" {
-            count(alloc, &mut seen, calls, word)?;
+            count(rt, alloc, &mut seen, calls, word);
         }
         if !ran.stopped {
-            return Ok(seen);
+            return seen;
         }
     }
-    Err("no run without a stop")?
+    panic!(rt; "no run without a stop")
 }
 
 #[test]
-fn stops_of_the_log_leave_what_was_committed(rt: HostRuntime) -> Result<(), Fail> {
-    let seen = stops(rt.alloc(), true, true)?;
+fn stops_of_the_log_leave_what_was_committed(rt: HostRuntime) {
+    let seen = stops(&rt, rt.alloc(), true, true);
     assert_eq!(rt; seen.wrong.as_str(), "");
     assert!(rt; seen.none > 0 && seen.without > 0);
-    let seen = stops(rt.alloc(), true, false)?;
+    let seen = stops(&rt, rt.alloc(), true, false);
     assert_eq!(rt; seen.wrong.as_str(), "");
     assert!(rt; seen.none > 0 && seen.without > 0 && seen.with > 0);
-    Ok(())
 }
 
 #[test]
-fn stops_of_the_database_leave_what_was_committed(rt: HostRuntime) -> Result<(), Fail> {
+fn stops_of_the_database_leave_what_was_committed(rt: HostRuntime) {
     for loses in [true, false] {
-        let seen = stops(rt.alloc(), false, loses)?;
+        let seen = stops(&rt, rt.alloc(), false, loses);
         assert_eq!(rt; seen.wrong.as_str(), "");
         assert!(rt; seen.none > 0 && seen.without > 0);
     }
-    Ok(())
 }

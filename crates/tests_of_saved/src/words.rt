@@ -4,55 +4,47 @@
 use pres_table::SavedFault;
 use sqlite::{Alter, Connection};
 use std::alloc::Global;
-use std::test::Fail;
+use std::process::Abort;
 
-pub(crate) fn said(alloc: Global, word: &str) -> Result<String, Fail> {
-    Ok(String::from_str(alloc, word)?)
-}
-
-// The value with what came beside it, where that was made.
-pub(crate) fn with<T: Drop, U>(value: T, beside: Result<U, Fail>) -> Result<(T, U), Fail> {
-    match beside {
-        Ok(beside) => Ok((value, beside)),
-        Err(fail) => {
-            drop(value);
-            Err(fail)
-        }
-    }
+pub(crate) fn said(rt: &impl Abort, alloc: Global, word: &str) -> String {
+    String::from_str(alloc, word).expect(rt, "memory")
 }
 
 // The name of the refusal, with the number of a bad row.
-pub(crate) fn refused(alloc: Global, fault: SavedFault) -> Result<String, Fail> {
-    let mut text = said(alloc, fault.name())?;
-    if let SavedFault::BadRow(number) = fault {
-        text.push_str(format!(in alloc; " {number}")?.as_str())?;
-    }
-    Ok(text)
+pub(crate) fn refused(rt: &impl Abort, alloc: Global, fault: SavedFault) -> String {
+    let name = fault.name();
+    let text = match &fault {
+        SavedFault::BadRow(number) => format!(in alloc; "{name} {number}"),
+        _ => String::from_str(alloc, name),
+    };
+    text.expect(rt, "memory")
 }
 
 // The connection after another program's statement, which has the database for itself.
 pub(crate) fn run_sql<S: Alter + Drop>(
+    rt: &impl Abort,
     alloc: Global,
     mut connection: Connection<S>,
     statement: &str,
-) -> Result<(Connection<S>, String), Fail> {
+) -> (Connection<S>, String) {
     let word = match connection.execute(statement, &[]) {
         Ok(_) => "run",
         Err(_) => "not run",
     };
-    with(connection, said(alloc, word))
+    (connection, said(rt, alloc, word))
 }
 
 // Notes the step where it says something else.
 pub(crate) fn note(
+    rt: &impl Abort,
     alloc: Global,
     step: &str,
     text: &str,
     wanted: &str,
     wrong: &mut String,
-) -> Result<(), Fail> {
+) {
     if text != wanted {
-        wrong.push_str(format!(in alloc; "{step} => {text}\n")?.as_str())?;
+        let part = format!(in alloc; "{step} => {text}\n").expect(rt, "memory");
+        wrong.push_str(part.as_str()).expect(rt, "memory");
     }
-    Ok(())
 }

@@ -1,8 +1,8 @@
 //! Runs of a server in which sessions leave what is to be done at their end, and fall silent.
 
 use crate::turns::{wrong_in, wrong_in_all};
-use std::alloc::{AllocError, Global};
-use std::test::Fail;
+use std::alloc::Global;
+use std::process::Abort;
 
 const CANCELLED_CHILD: &str = r#"1000 {"m":"hello","s":["alice",1,1]}
 => {"m":"welcome","ops":0,"s":["alice",1,1],"z":1}
@@ -205,7 +205,7 @@ const ENDS: [(&str, &str); 6] = [
 ];
 
 // A run in which alice leaves a value and her session is ended.
-fn ending(alloc: Global, end: &str, wanted: &str) -> Result<String, AllocError> {
+fn ending(rt: &impl Abort, alloc: Global, end: &str, wanted: &str) -> String {
     format!(in alloc;
         r#"1000 {{"m":"hello","s":["alice",1,1]}}
 => {{"m":"welcome","ops":0,"s":["alice",1,1],"z":1}}
@@ -216,16 +216,17 @@ fn ending(alloc: Global, end: &str, wanted: &str) -> Result<String, AllocError> 
 see 70000 {end}
 => {wanted}"#
     )
+    .expect(rt, "memory")
 }
 
 // What is wrong in the run of an end.
-fn wrong_in_ending(alloc: Global, end: &str, wanted: &str) -> Result<String, Fail> {
-    let run = ending(alloc, end, wanted)?;
-    wrong_in(alloc, run.as_str())
+fn wrong_in_ending(rt: &impl Abort, alloc: Global, end: &str, wanted: &str) -> String {
+    let run = ending(rt, alloc, end, wanted);
+    wrong_in(rt, alloc, run.as_str())
 }
 
 // A message that leaves a value at a place of its own, and its answer.
-fn leaving(alloc: Global, q: u64) -> Result<String, AllocError> {
+fn leaving(rt: &impl Abort, alloc: Global, q: u64) -> String {
     let (place, z) = (q.saturating_sub(1), q.saturating_add(1));
     format!(in alloc;
         r#"1000 {{"m":"left","op":{{"op":"set","path":"/p/{place}","value":1}},"q":{q},"s":["alice",1,1]}}
@@ -233,6 +234,7 @@ fn leaving(alloc: Global, q: u64) -> Result<String, AllocError> {
 
 "#
     )
+    .expect(rt, "memory")
 }
 
 const OPENING: &str = r#"1000 {"m":"hello","s":["alice",1,1]}
@@ -260,17 +262,18 @@ value /p/256
 => null"#;
 
 // A run in which alice leaves as many rows as she may, and one more.
-fn leavings(alloc: Global, rows: u64) -> Result<String, Fail> {
-    let mut run = String::from_str(alloc, OPENING)?;
+fn leavings(rt: &impl Abort, alloc: Global, rows: u64) -> String {
+    let mut run = String::from_str(alloc, OPENING).expect(rt, "memory");
     for q in 1..=rows {
-        run.push_str(leaving(alloc, q)?.as_str())?;
+        run.push_str(leaving(rt, alloc, q).as_str())
+            .expect(rt, "memory");
     }
-    run.push_str(ONE_TOO_MANY)?;
-    Ok(run)
+    run.push_str(ONE_TOO_MANY).expect(rt, "memory");
+    run
 }
 
 #[test]
-fn what_is_left_is_done_at_the_end(rt: HostRuntime) -> Result<(), Fail> {
+fn what_is_left_is_done_at_the_end(rt: HostRuntime) {
     let runs = [
         CANCELLED_CHILD,
         CANCELLED_BELOW_A_SCALAR,
@@ -279,32 +282,28 @@ fn what_is_left_is_done_at_the_end(rt: HostRuntime) -> Result<(), Fail> {
         TIMESTAMP_AND_REMOVAL,
         ORDER,
     ];
-    let wrong = wrong_in_all(rt.alloc(), &runs)?;
+    let wrong = wrong_in_all(&rt, rt.alloc(), &runs);
     assert_eq!(rt; wrong.as_str(), "");
-    Ok(())
 }
 
 #[test]
-fn silent_sessions_end(rt: HostRuntime) -> Result<(), Fail> {
+fn silent_sessions_end(rt: HostRuntime) {
     let runs = [LEASE, BEATS, FIRST_CLIENT_ENDS_FIRST];
-    let wrong = wrong_in_all(rt.alloc(), &runs)?;
+    let wrong = wrong_in_all(&rt, rt.alloc(), &runs);
     assert_eq!(rt; wrong.as_str(), "");
-    Ok(())
 }
 
 #[test]
-fn each_end_pays_what_was_left(rt: HostRuntime) -> Result<(), Fail> {
+fn each_end_pays_what_was_left(rt: HostRuntime) {
     for (end, wanted) in ENDS {
-        let wrong = wrong_in_ending(rt.alloc(), end, wanted)?;
+        let wrong = wrong_in_ending(&rt, rt.alloc(), end, wanted);
         assert_eq!(rt; wrong.as_str(), "", "at {end}");
     }
-    Ok(())
 }
 
 #[test]
-fn so_many_rows_may_be_left(rt: HostRuntime) -> Result<(), Fail> {
-    let run = leavings(rt.alloc(), 256)?;
-    let wrong = wrong_in(rt.alloc(), run.as_str())?;
+fn so_many_rows_may_be_left(rt: HostRuntime) {
+    let run = leavings(&rt, rt.alloc(), 256);
+    let wrong = wrong_in(&rt, rt.alloc(), run.as_str());
     assert_eq!(rt; wrong.as_str(), "");
-    Ok(())
 }

@@ -10,7 +10,7 @@ use pres_tree::Path;
 use pres_wire::{ClientId, Number, SessionId, Stamp};
 use pres_write::Basic;
 use std::alloc::Global;
-use std::test::Fail;
+use std::process::Abort;
 
 // What a line of a table is about.
 #[derive(Clone, Copy)]
@@ -19,139 +19,150 @@ enum Table {
     Rooms,
 }
 
-fn number(text: &str) -> Result<Number, Fail> {
-    Ok(Number::new(text.parse()?).ok_or("no number")?)
+fn number(rt: &impl Abort, text: &str) -> Number {
+    Number::new(text.parse().expect(rt, "a number")).expect(rt, "a number")
 }
 
 // The session of a text as `alice/1.2`.
-fn session_of(alloc: Global, text: &str) -> Result<SessionId, Fail> {
-    let (client, stamp) = text.split_once('/').ok_or("no stamp")?;
-    let (incarnation, attempt) = stamp.split_once('.').ok_or("no attempt")?;
+fn session_of(rt: &impl Abort, alloc: Global, text: &str) -> SessionId {
+    let (client, stamp) = text.split_once('/').expect(rt, "a stamp");
+    let (incarnation, attempt) = stamp.split_once('.').expect(rt, "an attempt");
     let stamp = Stamp {
-        incarnation: number(incarnation)?,
-        attempt: number(attempt)?,
+        incarnation: number(rt, incarnation),
+        attempt: number(rt, attempt),
     };
-    Ok(SessionId::of(ClientId::parse(alloc, client)?, stamp))
+    SessionId::of(
+        ClientId::parse(alloc, client).expect(rt, "a client's name"),
+        stamp,
+    )
 }
 
 // A session and a path behind it.
-fn listener(alloc: Global, text: &str) -> Result<(SessionId, Path), Fail> {
-    let (session, path) = text.split_once(' ').ok_or("no path")?;
-    Ok((session_of(alloc, session)?, Path::parse(alloc, path)?))
+fn listener(rt: &impl Abort, alloc: Global, text: &str) -> (SessionId, Path) {
+    let (session, path) = text.split_once(' ').expect(rt, "a path");
+    (
+        session_of(rt, alloc, session),
+        Path::parse(alloc, path).expect(rt, "a path"),
+    )
 }
 
-fn act(alloc: Global, listeners: &mut Listeners, action: &str) -> Result<(), Fail> {
+fn act(rt: &impl Abort, alloc: Global, listeners: &mut Listeners, action: &str) {
     match action.split_once(' ') {
         Some(("on", text)) => {
-            let (session, path) = listener(alloc, text)?;
-            listeners.on(alloc, &session, path)?;
+            let (session, path) = listener(rt, alloc, text);
+            listeners.on(alloc, &session, path).expect(rt, "memory");
         }
         Some(("off", text)) => {
-            let (session, path) = listener(alloc, text)?;
+            let (session, path) = listener(rt, alloc, text);
             listeners.off(&session, &path);
         }
-        Some(("drop", text)) => listeners.drop_session(&session_of(alloc, text)?),
-        _ => Err("no action")?,
+        Some(("drop", text)) => listeners.drop_session(&session_of(rt, alloc, text)),
+        _ => panic!(rt; "no action"),
     }
-    Ok(())
 }
 
 // Who listens after the actions.
-fn acted(alloc: Global, actions: &str) -> Result<Listeners, Fail> {
+fn acted(rt: &impl Abort, alloc: Global, actions: &str) -> Listeners {
     let mut listeners = Listeners::new(alloc);
     for action in actions.split("; ") {
-        act(alloc, &mut listeners, action)?;
+        act(rt, alloc, &mut listeners, action);
     }
-    Ok(listeners)
+    listeners
 }
 
 // Writes that remove at these places.
-fn writes_at(alloc: Global, paths: &str) -> Result<Vec<Basic>, Fail> {
+fn writes_at(rt: &impl Abort, alloc: Global, paths: &str) -> Vec<Basic> {
     let mut writes = Vec::new(alloc);
     for path in paths.split(", ") {
-        writes.push(Basic::new(Path::parse(alloc, path)?, None)?)?;
+        let path = Path::parse(alloc, path).expect(rt, "a path");
+        let write = Basic::new(path, None).expect(rt, "a write");
+        writes.push(write).expect(rt, "memory");
     }
-    Ok(writes)
+    writes
 }
 
 // A session with its touched places.
-fn printed(alloc: Global, row: &Touched) -> Result<String, Fail> {
-    let mut text = row.session().to_string(alloc)?;
+fn printed(rt: &impl Abort, alloc: Global, row: &Touched) -> String {
+    let mut text = row.session().to_string(alloc).expect(rt, "memory");
     for path in row.paths() {
-        let path = path.text(alloc)?;
-        text.push_str(format!(in alloc; " {path}")?.as_str())?;
+        let path = path.text(alloc).expect(rt, "memory");
+        let part = format!(in alloc; " {path}").expect(rt, "memory");
+        text.push_str(part.as_str()).expect(rt, "memory");
     }
-    Ok(text)
+    text
 }
 
 // Whom writes at the places touch.
-fn touched(alloc: Global, listeners: &Listeners, paths: &str) -> Result<String, Fail> {
-    let writes = writes_at(alloc, paths)?;
+fn touched(rt: &impl Abort, alloc: Global, listeners: &Listeners, paths: &str) -> String {
+    let writes = writes_at(rt, alloc, paths);
     let mut text = String::new(alloc);
-    for row in &listeners.touched(alloc, writes.as_slice())? {
-        let row = printed(alloc, row)?;
-        text.push_str(format!(in alloc; "[{row}]")?.as_str())?;
+    for row in &listeners
+        .touched(alloc, writes.as_slice())
+        .expect(rt, "memory")
+    {
+        let row = printed(rt, alloc, row);
+        let part = format!(in alloc; "[{row}]").expect(rt, "memory");
+        text.push_str(part.as_str()).expect(rt, "memory");
     }
-    Ok(text)
+    text
 }
 
-fn touches(alloc: Global, case: &str) -> Result<String, Fail> {
-    let (actions, paths) = case.split_once("; write ").ok_or("no write")?;
-    let listeners = acted(alloc, actions)?;
-    touched(alloc, &listeners, paths)
+fn touches(rt: &impl Abort, alloc: Global, case: &str) -> String {
+    let (actions, paths) = case.split_once("; write ").expect(rt, "a write");
+    let listeners = acted(rt, alloc, actions);
+    touched(rt, alloc, &listeners, paths)
 }
 
 // The session `a/1.1` listens to so many places.
-fn filled(alloc: Global, places: u64) -> Result<Listeners, Fail> {
+fn filled(rt: &impl Abort, alloc: Global, places: u64) -> Listeners {
     let mut listeners = Listeners::new(alloc);
     for place in 1..=places {
-        let action = format!(in alloc; "on a/1.1 /k{place}")?;
-        act(alloc, &mut listeners, action.as_str())?;
+        let action = format!(in alloc; "on a/1.1 /k{place}").expect(rt, "memory");
+        act(rt, alloc, &mut listeners, action.as_str());
     }
-    Ok(listeners)
+    listeners
 }
 
 // Whether there is room for the place, and what it comes to.
-fn tried(alloc: Global, mut listeners: Listeners, text: &str) -> Result<String, Fail> {
-    let (session, path) = listener(alloc, text)?;
+fn tried(rt: &impl Abort, alloc: Global, mut listeners: Listeners, text: &str) -> String {
+    let (session, path) = listener(rt, alloc, text);
     let room = listeners.may_listen(&session, &path);
     let fault: Option<FanFault> = listeners.on(alloc, &session, path).err();
     let count = listeners.count(&session);
-    Ok(format!(in alloc; "{room} {fault:?} {count}")?)
+    format!(in alloc; "{room} {fault:?} {count}").expect(rt, "memory")
 }
 
-fn rooms(alloc: Global, case: &str) -> Result<String, Fail> {
-    let (places, text) = case.split_once(' ').ok_or("no place")?;
-    let listeners = filled(alloc, places.parse()?)?;
-    tried(alloc, listeners, text)
+fn rooms(rt: &impl Abort, alloc: Global, case: &str) -> String {
+    let (places, text) = case.split_once(' ').expect(rt, "a place");
+    let listeners = filled(rt, alloc, places.parse().expect(rt, "a number"));
+    tried(rt, alloc, listeners, text)
 }
 
-fn answer(alloc: Global, table: Table, case: &str) -> Result<String, Fail> {
+fn answer(rt: &impl Abort, alloc: Global, table: Table, case: &str) -> String {
     match table {
-        Table::Touches => touches(alloc, case),
-        Table::Rooms => rooms(alloc, case),
+        Table::Touches => touches(rt, alloc, case),
+        Table::Rooms => rooms(rt, alloc, case),
     }
 }
 
-fn try_line(alloc: Global, table: Table, line: &str, wrong: &mut String) -> Result<(), Fail> {
-    let (case, wanted) = line.split_once(" => ").ok_or("no answer")?;
-    let got = answer(alloc, table, case)?;
+fn try_line(rt: &impl Abort, alloc: Global, table: Table, line: &str, wrong: &mut String) {
+    let (case, wanted) = line.split_once(" => ").expect(rt, "an answer");
+    let got = answer(rt, alloc, table, case);
     if got.as_str() != wanted {
-        wrong.push_str(case)?;
-        wrong.push_str(" => ")?;
-        wrong.push_str(got.as_str())?;
-        wrong.push_str("\n")?;
+        wrong.push_str(case).expect(rt, "memory");
+        wrong.push_str(" => ").expect(rt, "memory");
+        wrong.push_str(got.as_str()).expect(rt, "memory");
+        wrong.push_str("\n").expect(rt, "memory");
     }
-    Ok(())
 }
 
 // The lines that answer something else, each with that.
-fn wrong_in(alloc: Global, table: Table, lines: &str) -> Result<String, Fail> {
+fn wrong_in(rt: &impl Abort, alloc: Global, table: Table, lines: &str) -> String {
     let mut wrong = String::new(alloc);
     for line in lines.lines() {
-        try_line(alloc, table, line, &mut wrong)?;
+        try_line(rt, alloc, table, line, &mut wrong);
     }
-    Ok(wrong)
+    wrong
 }
 
 const TOUCHES: &str = "on a/1.1 /x; on a/1.1 /x; write /x => [a/1.1 /x]
@@ -168,10 +179,9 @@ on a/1.1 /x; on b/1.1 /x; off b/1.1 /x; write /x => [a/1.1 /x]
 on a/1.1 /x; on a/1.2 /x; on a/1.1 /y; drop a/1.1; write / => [a/1.2 /x]";
 
 #[test]
-fn writes_touch_places_that_meet_theirs(rt: HostRuntime) -> Result<(), Fail> {
-    let wrong = wrong_in(rt.alloc(), Table::Touches, TOUCHES)?;
+fn writes_touch_places_that_meet_theirs(rt: HostRuntime) {
+    let wrong = wrong_in(&rt, rt.alloc(), Table::Touches, TOUCHES);
     assert_eq!(rt; wrong.as_str(), "");
-    Ok(())
 }
 
 const ROOMS: &str = "0 a/1.1 /p => true None 1
@@ -181,20 +191,18 @@ const ROOMS: &str = "0 a/1.1 /p => true None 1
 256 a/1.2 /p => true None 1";
 
 #[test]
-fn a_session_listens_to_at_most_256_places(rt: HostRuntime) -> Result<(), Fail> {
-    let wrong = wrong_in(rt.alloc(), Table::Rooms, ROOMS)?;
+fn a_session_listens_to_at_most_256_places(rt: HostRuntime) {
+    let wrong = wrong_in(&rt, rt.alloc(), Table::Rooms, ROOMS);
     assert_eq!(rt; wrong.as_str(), "");
-    Ok(())
 }
 
 #[test]
-fn faults_are_numbered_and_named(rt: HostRuntime) -> Result<(), Fail> {
+fn faults_are_numbered_and_named(rt: HostRuntime) {
     assert_eq!(rt;
         (FanFault::Memory.number(), FanFault::Full.number()),
         (1, 2)
     );
     assert_eq!(rt; FanFault::Full.name(), "Full");
-    let text = FanFault::Full.to_string(rt.alloc())?;
+    let text = FanFault::Full.to_string(rt.alloc()).expect(&rt, "memory");
     assert_eq!(rt; text.as_str(), "a session listens to more than 256 places");
-    Ok(())
 }

@@ -6,19 +6,19 @@ use pres_wire::{ClientId, Number, SessionId, Stamp, Why};
 use pres_write::{Items, Kept, Moment, Op};
 use serde_json::Value;
 use std::alloc::Global;
-use std::test::Fail;
+use std::process::Abort;
 
-fn op_of(alloc: Global, text: &str) -> Result<Op, Fail> {
-    let value = Value::from_str(alloc, text)?;
-    Ok(Op::from_value(alloc, &value)?)
+fn op_of(rt: &impl Abort, alloc: Global, text: &str) -> Op {
+    let value = Value::from_str(alloc, text).expect(rt, "JSON");
+    Op::from_value(alloc, &value).expect(rt, "a value of its kind")
 }
 
 // The operation that puts the moment under the name.
-fn stamping(alloc: Global, name: &str) -> Result<Op, Fail> {
+fn stamping(rt: &impl Abort, alloc: Global, name: &str) -> Op {
     let text = format!(in alloc;
         r#"{{"op":"set","path":"/{name}","value":{{".sv":"timestamp"}}}}"#
-    )?;
-    op_of(alloc, text.as_str())
+    ).expect(rt, "memory");
+    op_of(rt, alloc, text.as_str())
 }
 
 // The number of an operation that wrote.
@@ -30,90 +30,93 @@ fn wrote(answer: Result<(Number, Kept), Fault>) -> Option<u64> {
     }
 }
 
-fn applied(alloc: Global, log: &mut Plain, name: &str, now: u64) -> Result<Option<u64>, Fail> {
-    let op = stamping(alloc, name)?;
-    Ok(wrote(log.apply(&op, Moment::at(now))))
+fn applied(rt: &impl Abort, alloc: Global, log: &mut Plain, name: &str, now: u64) -> Option<u64> {
+    let op = stamping(rt, alloc, name);
+    wrote(log.apply(&op, Moment::at(now)))
 }
 
-fn moved(alloc: Global, log: &mut Plain, name: &str, now: u64) -> Result<Option<u64>, Fail> {
-    let op = stamping(alloc, name)?;
-    Ok(wrote(log.apply_owned(op, Moment::at(now))))
+fn moved(rt: &impl Abort, alloc: Global, log: &mut Plain, name: &str, now: u64) -> Option<u64> {
+    let op = stamping(rt, alloc, name);
+    wrote(log.apply_owned(op, Moment::at(now)))
 }
 
-fn left(alloc: Global, log: &Plain) -> Result<String, Fail> {
-    let value = log.tree().to_value(alloc)?;
-    Ok(value.to_string(alloc)?)
+fn left(rt: &impl Abort, alloc: Global, log: &Plain) -> String {
+    let value = log.tree().to_value(alloc).expect(rt, "memory");
+    value.to_string(alloc).expect(rt, "memory")
 }
 
 #[test]
-fn moments_never_fall(rt: HostRuntime) -> Result<(), Fail> {
+fn moments_never_fall(rt: HostRuntime) {
     let alloc = rt.alloc();
     let mut log = Plain::new(alloc);
     for (number, name, now) in [(1, "t", 5), (2, "u", 3), (3, "v", 7)] {
-        assert_eq!(rt; applied(alloc, &mut log, name, now)?, Some(number));
+        assert_eq!(rt; applied(&rt, alloc, &mut log, name, now), Some(number));
         assert_eq!(rt; log.number().get(), number);
     }
-    let tree = left(alloc, &log)?;
+    let tree = left(&rt, alloc, &log);
     assert_eq!(rt; tree.as_str(), r#"{"t":5,"u":5,"v":7}"#);
-    assert_eq!(rt; moved(alloc, &mut log, "t", 6)?, Some(4));
-    let tree = left(alloc, &log)?;
+    assert_eq!(rt; moved(&rt, alloc, &mut log, "t", 6), Some(4));
+    let tree = left(&rt, alloc, &log);
     assert_eq!(rt; tree.as_str(), r#"{"t":7,"u":5,"v":7}"#);
-    Ok(())
 }
 
-fn session(alloc: Global, attempt: u64) -> Result<SessionId, Fail> {
+fn session(rt: &impl Abort, alloc: Global, attempt: u64) -> SessionId {
     let stamp = Stamp {
         incarnation: Number::first(),
-        attempt: Number::new(attempt).ok_or("no number")?,
+        attempt: Number::new(attempt).expect(rt, "a number"),
     };
-    Ok(SessionId::of(ClientId::parse(alloc, "alice")?, stamp))
+    SessionId::of(
+        ClientId::parse(alloc, "alice").expect(rt, "a client's name"),
+        stamp,
+    )
 }
 
-fn opened(alloc: Global, attempt: u64) -> Result<Entry, Fail> {
-    Ok(Entry::Open {
-        session: session(alloc, attempt)?,
-    })
+fn opened(rt: &impl Abort, alloc: Global, attempt: u64) -> Entry {
+    Entry::Open {
+        session: session(rt, alloc, attempt),
+    }
 }
 
-fn ended(alloc: Global, attempt: u64) -> Result<Entry, Fail> {
-    Ok(Entry::Ended {
-        session: session(alloc, attempt)?,
+fn ended(rt: &impl Abort, alloc: Global, attempt: u64) -> Entry {
+    Entry::Ended {
+        session: session(rt, alloc, attempt),
         q: None,
         why: Why::Superseded,
         rows: Items::of(Vec::new(alloc)),
-    })
+    }
 }
 
-fn first_opened(alloc: Global) -> Result<Items<Entry>, Fail> {
-    Ok(Items::one(alloc, opened(alloc, 1)?)?)
+fn first_opened(rt: &impl Abort, alloc: Global) -> Items<Entry> {
+    Items::one(alloc, opened(rt, alloc, 1)).expect(rt, "memory")
 }
 
 // The entries of a session that is superseded by the next one.
-fn superseded(alloc: Global) -> Result<Items<Entry>, Fail> {
+fn superseded(rt: &impl Abort, alloc: Global) -> Items<Entry> {
     let mut entries = Vec::new(alloc);
-    entries.push(ended(alloc, 1)?)?;
-    entries.push(opened(alloc, 2)?)?;
-    Ok(Items::of(entries))
+    entries.push(ended(rt, alloc, 1)).expect(rt, "memory");
+    entries.push(opened(rt, alloc, 2)).expect(rt, "memory");
+    Items::of(entries)
 }
 
 // A copy of the batch of these entries goes into the log.
-fn commit(alloc: Global, log: &mut Log, now: u64, entries: Items<Entry>) -> Result<(), Fail> {
+fn commit(rt: &impl Abort, alloc: Global, log: &mut Log, now: u64, entries: Items<Entry>) {
     if !Batch::may_hold(entries.as_slice()) {
-        return Err("no batch")?;
+        panic!(rt; "no batch");
     }
     let Some(first) = log.len().checked_add(1).and_then(Number::new) else {
-        return Err("no number")?;
+        panic!(rt; "no number");
     };
     let batch = Batch::new(first, Moment::at(now), entries);
-    Ok(log.push(batch.copy(alloc)?)?)
+    let batch = batch.copy(alloc).expect(rt, "memory");
+    log.push(batch).expect(rt, "memory");
 }
 
 // A log of both sessions.
-fn log_of_two(alloc: Global) -> Result<Log, Fail> {
+fn log_of_two(rt: &impl Abort, alloc: Global) -> Log {
     let mut log = Log::new(alloc);
-    commit(alloc, &mut log, 1000, first_opened(alloc)?)?;
-    commit(alloc, &mut log, 2000, superseded(alloc)?)?;
-    Ok(log)
+    commit(rt, alloc, &mut log, 1000, first_opened(rt, alloc));
+    commit(rt, alloc, &mut log, 2000, superseded(rt, alloc));
+    log
 }
 
 // The attempt of the session that the entry with the number opens or ends.
@@ -126,10 +129,10 @@ fn attempt_at(log: &Log, number: u64) -> Option<u64> {
 }
 
 #[test]
-fn entries_are_numbered(rt: HostRuntime) -> Result<(), Fail> {
+fn entries_are_numbered(rt: HostRuntime) {
     let alloc = rt.alloc();
     assert!(rt; Log::new(alloc).is_empty());
-    let log = log_of_two(alloc)?;
+    let log = log_of_two(&rt, alloc);
     assert_eq!(rt; log.len(), 3);
     assert_eq!(rt; log.batches().len(), 2);
     let wanted = [None, Some(1), Some(101), Some(2), None];
@@ -141,18 +144,16 @@ fn entries_are_numbered(rt: HostRuntime) -> Result<(), Fail> {
         assert_eq!(rt; batch.moment(), Moment::at(now));
         assert_eq!(rt; batch.entries().len(), count);
     }
-    Ok(())
 }
 
 #[test]
-fn batches_hold_one_entry_or_an_end_and_an_opening(rt: HostRuntime) -> Result<(), Fail> {
+fn batches_hold_one_entry_or_an_end_and_an_opening(rt: HostRuntime) {
     let alloc = rt.alloc();
-    assert!(rt; Batch::may_hold(superseded(alloc)?.as_slice()));
-    let mut entries = superseded(alloc)?.into_vec();
+    assert!(rt; Batch::may_hold(superseded(&rt, alloc).as_slice()));
+    let mut entries = superseded(&rt, alloc).into_vec();
     entries.reverse();
     assert!(rt; !Batch::may_hold(&entries));
     assert!(rt; !Batch::may_hold(&[]));
-    Ok(())
 }
 
 #[test]

@@ -4,7 +4,7 @@
 //! case of room is how many puts were left, and one action more; it answers whether there is room,
 //! why the action is refused, and how many rows there are then.
 
-ghost use Rattle.std.specs.Prelude.{◌≡◌, ◌<◌, false, map, All, IfOk, IsTrue};
+ghost use Rattle.std.specs.Prelude.{◌≡◌, ◌<◌, false, map, All, IsTrue};
 ghost use Rattle.pres_tree.specs.Paths.{overlap};
 
 use pres_plan::{Action, Plan, PlanFault};
@@ -13,8 +13,8 @@ use pres_wire::Number;
 use pres_write::{Basic, Draft, Items, Moment, Placement, apply};
 use serde_json::Value;
 use std::alloc::Global;
+use std::process::Abort;
 use std::slice::from_ref;
-use std::test::Fail;
 
 // What a line of a table is about.
 #[derive(Clone, Copy)]
@@ -23,60 +23,60 @@ enum Table {
     Rooms,
 }
 
-fn value_of(alloc: Global, text: &str) -> Result<Value, Fail> {
-    Ok(Value::from_str(alloc, text)?)
+fn value_of(rt: &impl Abort, alloc: Global, text: &str) -> Value {
+    Value::from_str(alloc, text).expect(rt, "JSON")
 }
 
-fn tree_of(alloc: Global, text: &str) -> Result<Tree, Fail> {
-    let value = value_of(alloc, text)?;
+fn tree_of(rt: &impl Abort, alloc: Global, text: &str) -> Tree {
+    let value = value_of(rt, alloc, text);
     let tree = Tree::from_value(alloc, &value);
     drop(value);
-    Ok(tree?)
+    tree.expect(rt, "a tree")
 }
 
-fn draft_of(alloc: Global, text: &str) -> Result<Draft, Fail> {
-    let value = value_of(alloc, text)?;
+fn draft_of(rt: &impl Abort, alloc: Global, text: &str) -> Draft {
+    let value = value_of(rt, alloc, text);
     let draft = Draft::from_value(alloc, &value);
     drop(value);
-    Ok(draft?)
+    draft.expect(rt, "a value")
 }
 
-fn printed(alloc: Global, tree: &Tree) -> Result<String, Fail> {
-    let value = tree.to_value(alloc)?;
+fn printed(rt: &impl Abort, alloc: Global, tree: &Tree) -> String {
+    let value = tree.to_value(alloc).expect(rt, "memory");
     let text = value.to_string(alloc);
     drop(value);
-    Ok(text?)
+    text.expect(rt, "memory")
 }
 
 // A path and a value behind it.
-fn placement(alloc: Global, text: &str) -> Result<Placement, Fail> {
-    let (path, value) = text.split_once(' ').ok_or("no value")?;
-    let path = Path::parse(alloc, path)?;
-    let draft = draft_of(alloc, value)?;
-    Ok(Placement::new(path, draft)?)
+fn placement(rt: &impl Abort, alloc: Global, text: &str) -> Placement {
+    let (path, value) = text.split_once(' ').expect(rt, "a value");
+    let path = Path::parse(alloc, path).expect(rt, "a path");
+    let draft = draft_of(rt, alloc, value);
+    Placement::new(path, draft).expect(rt, "a placement")
 }
 
 // Two placements that don't meet.
-fn pair(alloc: Global, first: Placement, second: Placement) -> Result<Items<Placement>, Fail>
-    ensures { IfOk result (λ places. overlap (map (λ p. p.0) places) ≡ false) }
+fn pair(rt: &impl Abort, alloc: Global, first: Placement, second: Placement) -> Items<Placement>
+    ensures { overlap (map (λ p. p.0) result) ≡ false }
 {
     let (above, below) = (first.path(), second.path());
     if above.is_prefix_of(below) || below.is_prefix_of(above) {
-        return Err("places that meet")?;
+        panic!(rt; "places that meet");
     }
     let mut places = Vec::new(alloc);
-    places.push(first)?;
-    places.push(second)?;
-    Ok(Items::of(places))
+    places.push(first).expect(rt, "memory");
+    places.push(second).expect(rt, "memory");
+    Items::of(places)
 }
 
 // Two placements behind one another.
-fn placements(alloc: Global, text: &str) -> Result<Items<Placement>, Fail>
-    ensures { IfOk result (λ places. overlap (map (λ p. p.0) places) ≡ false) }
+fn placements(rt: &impl Abort, alloc: Global, text: &str) -> Items<Placement>
+    ensures { overlap (map (λ p. p.0) result) ≡ false }
 {
-    let (first, second) = text.split_once(", ").ok_or("one place")?;
-    let first = placement(alloc, first)?;
-    pair(alloc, first, placement(alloc, second)?)
+    let (first, second) = text.split_once(", ").expect(rt, "two places");
+    let first = placement(rt, alloc, first);
+    pair(rt, alloc, first, placement(rt, alloc, second))
 }
 
 // Whether the number is later than that of each row.
@@ -88,38 +88,41 @@ fn is_later(plan: &Plan, q: Number) -> bool
 
 // Why the action is refused, where it is.
 fn refusal(
+    rt: &impl Abort,
     alloc: Global,
     plan: &mut Plan,
     q: Number,
     action: &str,
-) -> Result<Option<PlanFault>, Fail> {
+) -> Option<PlanFault> {
     if !is_later(plan, q) {
-        return Err("an earlier number")?;
+        panic!(rt; "an earlier number");
     }
     match action.split_once(' ') {
-        Some(("put", text)) => Ok(plan.put(alloc, q, placement(alloc, text)?).err()),
-        Some(("update", text)) => Ok(plan.update(alloc, q, placements(alloc, text)?).err()),
-        Some(("cancel", text)) => Ok(plan.cancel(alloc, q, &Path::parse(alloc, text)?).err()),
-        _ => Err("no action")?,
+        Some(("put", text)) => plan.put(alloc, q, placement(rt, alloc, text)).err(),
+        Some(("update", text)) => plan.update(alloc, q, placements(rt, alloc, text)).err(),
+        Some(("cancel", text)) => plan
+            .cancel(alloc, q, &Path::parse(alloc, text).expect(rt, "a path"))
+            .err(),
+        _ => panic!(rt; "no action"),
     }
 }
 
 // The plan after the action.
-fn acted(alloc: Global, mut plan: Plan, q: u64, action: &str) -> Result<Plan, Fail> {
-    let q = Number::new(q).ok_or("no number")?;
-    match refusal(alloc, &mut plan, q, action)? {
-        Some(fault) => Err(fault)?,
-        None => Ok(plan),
+fn acted(rt: &impl Abort, alloc: Global, mut plan: Plan, q: u64, action: &str) -> Plan {
+    let q = Number::new(q).expect(rt, "a number");
+    if let Some(fault) = refusal(rt, alloc, &mut plan, q, action) {
+        panic!(rt; "{fault}");
     }
+    plan
 }
 
 // What the actions leave.
-fn left(alloc: Global, actions: &str) -> Result<Plan, Fail> {
+fn left(rt: &impl Abort, alloc: Global, actions: &str) -> Plan {
     let mut plan = Plan::new(alloc);
     for (q, action) in (1..).zip(actions.split("; ")) {
-        plan = acted(alloc, plan, q, action)?;
+        plan = acted(rt, alloc, plan, q, action);
     }
-    Ok(plan)
+    plan
 }
 
 fn kind(action: &Action) -> &'static str {
@@ -127,139 +130,139 @@ fn kind(action: &Action) -> &'static str {
 }
 
 // The same of a copy.
-fn copied_kind(alloc: Global, action: &Action) -> Result<&'static str, Fail> {
-    let copied = action.copy(alloc)?;
+fn copied_kind(rt: &impl Abort, alloc: Global, action: &Action) -> &'static str {
+    let copied = action.copy(alloc).expect(rt, "memory");
     let kind = kind(&copied);
     drop(copied);
-    Ok(kind)
+    kind
 }
 
 // The kinds of the rows.
-fn kinds(alloc: Global, plan: &Plan) -> Result<String, Fail> {
+fn kinds(rt: &impl Abort, alloc: Global, plan: &Plan) -> String {
     let mut text = String::new(alloc);
     for row in plan.rows() {
-        text.push_str(copied_kind(alloc, &row.action)?)?;
-        text.push(' ')?;
+        text.push_str(copied_kind(rt, alloc, &row.action))
+            .expect(rt, "memory");
+        text.push(' ').expect(rt, "memory");
     }
-    Ok(text)
+    text
 }
 
-fn written(alloc: Global, write: &Basic) -> Result<String, Fail> {
-    let mut text = write.path().text(alloc)?;
-    text.push(' ')?;
+fn written(rt: &impl Abort, alloc: Global, write: &Basic) -> String {
+    let mut text = write.path().text(alloc).expect(rt, "memory");
+    text.push(' ').expect(rt, "memory");
     match write.value() {
-        Some(value) => text.push_str(printed(alloc, value)?.as_str())?,
-        None => text.push_str("null")?,
+        Some(value) => text
+            .push_str(printed(rt, alloc, value).as_str())
+            .expect(rt, "memory"),
+        None => text.push_str("null").expect(rt, "memory"),
     }
-    Ok(text)
+    text
 }
 
 // What is due, each write behind the number of its message.
-fn due(alloc: Global, plan: &Plan, tree: Tree) -> Result<String, Fail> {
+fn due(rt: &impl Abort, alloc: Global, plan: &Plan, tree: Tree) -> String {
     let rows = plan.due(alloc, &tree, Moment::at(5000));
     drop(tree);
     let mut text = String::new(alloc);
-    for row in &rows? {
-        let write = written(alloc, &row.basic)?;
-        text.push_str(format!(in alloc; "; {} {write}", row.q.get())?.as_str())?;
+    for row in &rows.expect(rt, "memory") {
+        let write = written(rt, alloc, &row.basic);
+        let part = format!(in alloc; "; {} {write}", row.q.get()).expect(rt, "memory");
+        text.push_str(part.as_str()).expect(rt, "memory");
     }
-    Ok(text)
+    text
 }
 
 // The tree after the writes.
-fn left_by(alloc: Global, tree: &mut Tree, writes: Items<Basic>) -> Result<String, Fail> {
-    let applied = apply(alloc, tree, writes.as_slice());
-    drop(writes);
-    applied?;
-    printed(alloc, tree)
+fn left_by(rt: &impl Abort, alloc: Global, tree: &mut Tree, writes: &[Basic]) -> String {
+    apply(alloc, tree, writes).expect(rt, "writes that fit");
+    printed(rt, alloc, tree)
 }
 
 // The tree after the due writes.
-fn after(alloc: Global, plan: &Plan, mut tree: Tree) -> Result<String, Fail> {
-    let said = match plan.due_writes(alloc, &tree, Moment::at(5000)) {
-        Ok(writes) => left_by(alloc, &mut tree, writes),
-        Err(refused) => Err(refused.into()),
-    };
+fn after(rt: &impl Abort, alloc: Global, plan: &Plan, mut tree: Tree) -> String {
+    let due = plan.due_writes(alloc, &tree, Moment::at(5000));
+    let writes = due.expect(rt, "memory");
+    let said = left_by(rt, alloc, &mut tree, writes.as_slice());
     drop(tree);
     said
 }
 
 // The end of a session with the plan: its rows, what is due, and the tree after it.
-fn end(alloc: Global, plan: &Plan, text: &str) -> Result<String, Fail> {
-    let kinds = kinds(alloc, plan)?;
-    let due = due(alloc, plan, tree_of(alloc, text)?)?;
-    let after = after(alloc, plan, tree_of(alloc, text)?)?;
-    Ok(format!(in alloc; "{kinds}{due}; {after}")?)
+fn end(rt: &impl Abort, alloc: Global, plan: &Plan, text: &str) -> String {
+    let kinds = kinds(rt, alloc, plan);
+    let due = due(rt, alloc, plan, tree_of(rt, alloc, text));
+    let after = after(rt, alloc, plan, tree_of(rt, alloc, text));
+    format!(in alloc; "{kinds}{due}; {after}").expect(rt, "memory")
 }
 
-fn ended(alloc: Global, case: &str) -> Result<String, Fail> {
-    let (tree, actions) = case.split_once("; ").ok_or("no actions")?;
-    let plan = left(alloc, actions)?;
-    end(alloc, &plan, tree)
+fn ended(rt: &impl Abort, alloc: Global, case: &str) -> String {
+    let (tree, actions) = case.split_once("; ").expect(rt, "actions");
+    let plan = left(rt, alloc, actions);
+    end(rt, alloc, &plan, tree)
 }
 
 // A plan of so many puts.
-fn filled(alloc: Global, rows: u64) -> Result<Plan, Fail> {
+fn filled(rt: &impl Abort, alloc: Global, rows: u64) -> Plan {
     let mut plan = Plan::new(alloc);
     for q in 1..=rows {
-        let action = format!(in alloc; "put /k{q} 1")?;
-        plan = acted(alloc, plan, q, action.as_str())?;
+        let action = format!(in alloc; "put /k{q} 1").expect(rt, "memory");
+        plan = acted(rt, alloc, plan, q, action.as_str());
     }
-    Ok(plan)
+    plan
 }
 
 // Whether the plan has room for the action.
-fn has_room(alloc: Global, plan: &Plan, action: &str) -> Result<bool, Fail> {
+fn has_room(rt: &impl Abort, alloc: Global, plan: &Plan, action: &str) -> bool {
     match action.split_once(' ') {
-        Some(("put", text)) => Ok(plan.may_update(from_ref(&placement(alloc, text)?))),
-        Some(("update", text)) => Ok(plan.may_update(placements(alloc, text)?.as_slice())),
-        Some(("cancel", text)) => Ok(plan.may_cancel(&Path::parse(alloc, text)?)),
-        _ => Err("no action")?,
+        Some(("put", text)) => plan.may_update(from_ref(&placement(rt, alloc, text))),
+        Some(("update", text)) => plan.may_update(placements(rt, alloc, text).as_slice()),
+        Some(("cancel", text)) => plan.may_cancel(&Path::parse(alloc, text).expect(rt, "a path")),
+        _ => panic!(rt; "no action"),
     }
 }
 
 // Why the message 300 is refused, and how many rows there are then.
-fn refused(alloc: Global, mut plan: Plan, action: &str) -> Result<String, Fail> {
-    let q = Number::new(300).ok_or("no number")?;
-    let fault = refusal(alloc, &mut plan, q, action)?;
-    Ok(format!(in alloc; "{fault:?} {}", plan.rows().len())?)
+fn refused(rt: &impl Abort, alloc: Global, mut plan: Plan, action: &str) -> String {
+    let q = Number::new(300).expect(rt, "a number");
+    let fault = refusal(rt, alloc, &mut plan, q, action);
+    format!(in alloc; "{fault:?} {}", plan.rows().len()).expect(rt, "memory")
 }
 
 // Whether a plan of so many puts has room for the action, and what the action comes to.
-fn tried(alloc: Global, case: &str) -> Result<String, Fail> {
-    let (rows, action) = case.split_once(' ').ok_or("no action")?;
-    let plan = filled(alloc, rows.parse()?)?;
-    let room = has_room(alloc, &plan, action)?;
-    let after = refused(alloc, plan, action)?;
-    Ok(format!(in alloc; "{room} {after}")?)
+fn tried(rt: &impl Abort, alloc: Global, case: &str) -> String {
+    let (rows, action) = case.split_once(' ').expect(rt, "an action");
+    let plan = filled(rt, alloc, rows.parse().expect(rt, "a number"));
+    let room = has_room(rt, alloc, &plan, action);
+    let after = refused(rt, alloc, plan, action);
+    format!(in alloc; "{room} {after}").expect(rt, "memory")
 }
 
-fn answer(alloc: Global, table: Table, case: &str) -> Result<String, Fail> {
+fn answer(rt: &impl Abort, alloc: Global, table: Table, case: &str) -> String {
     match table {
-        Table::Ends => ended(alloc, case),
-        Table::Rooms => tried(alloc, case),
+        Table::Ends => ended(rt, alloc, case),
+        Table::Rooms => tried(rt, alloc, case),
     }
 }
 
-fn try_line(alloc: Global, table: Table, line: &str, wrong: &mut String) -> Result<(), Fail> {
-    let (case, wanted) = line.split_once(" => ").ok_or("no answer")?;
-    let got = answer(alloc, table, case)?;
+fn try_line(rt: &impl Abort, alloc: Global, table: Table, line: &str, wrong: &mut String) {
+    let (case, wanted) = line.split_once(" => ").expect(rt, "an answer");
+    let got = answer(rt, alloc, table, case);
     if got.as_str() != wanted {
-        wrong.push_str(case)?;
-        wrong.push_str(" => ")?;
-        wrong.push_str(got.as_str())?;
-        wrong.push_str("\n")?;
+        wrong.push_str(case).expect(rt, "memory");
+        wrong.push_str(" => ").expect(rt, "memory");
+        wrong.push_str(got.as_str()).expect(rt, "memory");
+        wrong.push_str("\n").expect(rt, "memory");
     }
-    Ok(())
 }
 
 // The lines that answer something else, each with that.
-fn wrong_in(alloc: Global, table: Table, lines: &str) -> Result<String, Fail> {
+fn wrong_in(rt: &impl Abort, alloc: Global, table: Table, lines: &str) -> String {
     let mut wrong = String::new(alloc);
     for line in lines.lines() {
-        try_line(alloc, table, line, &mut wrong)?;
+        try_line(rt, alloc, table, line, &mut wrong);
     }
-    Ok(wrong)
+    wrong
 }
 
 const ENDS: &str =
@@ -274,10 +277,9 @@ null; put /a/b 1; update /a 2, /b {"c":{".sv":"timestamp"}} => put put ; 2 /a 2;
 {"a":{"b":7}}; put /a 1; cancel /a/b; cancel / => ; {"a":{"b":7}}"#;
 
 #[test]
-fn an_end_pays_what_is_left(rt: HostRuntime) -> Result<(), Fail> {
-    let wrong = wrong_in(rt.alloc(), Table::Ends, ENDS)?;
+fn an_end_pays_what_is_left(rt: HostRuntime) {
+    let wrong = wrong_in(&rt, rt.alloc(), Table::Ends, ENDS);
     assert_eq!(rt; wrong.as_str(), "");
-    Ok(())
 }
 
 const ROOMS: &str = "255 put /a 1 => true None 256
@@ -291,20 +293,18 @@ const ROOMS: &str = "255 put /a 1 => true None 256
 256 cancel /k1 => true None 255";
 
 #[test]
-fn a_plan_has_at_most_256_rows(rt: HostRuntime) -> Result<(), Fail> {
-    let wrong = wrong_in(rt.alloc(), Table::Rooms, ROOMS)?;
+fn a_plan_has_at_most_256_rows(rt: HostRuntime) {
+    let wrong = wrong_in(&rt, rt.alloc(), Table::Rooms, ROOMS);
     assert_eq!(rt; wrong.as_str(), "");
-    Ok(())
 }
 
 #[test]
-fn faults_are_numbered_and_named(rt: HostRuntime) -> Result<(), Fail> {
+fn faults_are_numbered_and_named(rt: HostRuntime) {
     assert_eq!(rt;
         (PlanFault::Memory.number(), PlanFault::Full.number()),
         (1, 2)
     );
     assert_eq!(rt; PlanFault::Full.name(), "Full");
-    let text = PlanFault::Full.to_string(rt.alloc())?;
+    let text = PlanFault::Full.to_string(rt.alloc()).expect(&rt, "memory");
     assert_eq!(rt; text.as_str(), "a session leaves more than 256 rows");
-    Ok(())
 }

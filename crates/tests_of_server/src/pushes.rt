@@ -1,8 +1,8 @@
 //! Runs of a server in which sessions listen.
 
 use crate::turns::{wrong_in, wrong_in_all};
-use std::alloc::{AllocError, Global};
-use std::test::Fail;
+use std::alloc::Global;
+use std::process::Abort;
 
 const PRESENCE: &str = r#"1000 {"m":"hello","s":["alice",1,1]}
 => {"m":"welcome","ops":0,"s":["alice",1,1],"z":1}
@@ -154,7 +154,7 @@ const ONE_TOO_MANY: &str = r#"1000 {"m":"on","path":"/p/257","q":257,"s":["alice
 => {"m":"snap","path":"/p/1","q":258,"r":258,"s":["alice",1,1],"value":null,"z":259}"#;
 
 // A step in which alice listens by her message `q`.
-fn listening(alloc: Global, q: u64) -> Result<String, AllocError> {
+fn listening(rt: &impl Abort, alloc: Global, q: u64) -> String {
     let z = q.saturating_add(1);
     format!(in alloc;
         r#"1000 {{"m":"on","path":"/p/{q}","q":{q},"s":["alice",1,1]}}
@@ -162,20 +162,22 @@ fn listening(alloc: Global, q: u64) -> Result<String, AllocError> {
 
 "#
     )
+    .expect(rt, "memory")
 }
 
 // A run in which alice listens to as many paths as she may, and one more.
-fn listenings(alloc: Global, paths: u64) -> Result<String, Fail> {
-    let mut run = String::from_str(alloc, OPENING)?;
+fn listenings(rt: &impl Abort, alloc: Global, paths: u64) -> String {
+    let mut run = String::from_str(alloc, OPENING).expect(rt, "memory");
     for q in 1..=paths {
-        run.push_str(listening(alloc, q)?.as_str())?;
+        run.push_str(listening(rt, alloc, q).as_str())
+            .expect(rt, "memory");
     }
-    run.push_str(ONE_TOO_MANY)?;
-    Ok(run)
+    run.push_str(ONE_TOO_MANY).expect(rt, "memory");
+    run
 }
 
 #[test]
-fn listeners_see_each_write(rt: HostRuntime) -> Result<(), Fail> {
+fn listeners_see_each_write(rt: HostRuntime) {
     let runs = [
         PRESENCE,
         PUSH_BEFORE_REPLY,
@@ -184,15 +186,13 @@ fn listeners_see_each_write(rt: HostRuntime) -> Result<(), Fail> {
         OWN_END,
         TWO_LISTEN,
     ];
-    let wrong = wrong_in_all(rt.alloc(), &runs)?;
+    let wrong = wrong_in_all(&rt, rt.alloc(), &runs);
     assert_eq!(rt; wrong.as_str(), "");
-    Ok(())
 }
 
 #[test]
-fn so_many_paths_may_be_listened_to(rt: HostRuntime) -> Result<(), Fail> {
-    let run = listenings(rt.alloc(), 256)?;
-    let wrong = wrong_in(rt.alloc(), run.as_str())?;
+fn so_many_paths_may_be_listened_to(rt: HostRuntime) {
+    let run = listenings(&rt, rt.alloc(), 256);
+    let wrong = wrong_in(&rt, rt.alloc(), run.as_str());
     assert_eq!(rt; wrong.as_str(), "");
-    Ok(())
 }

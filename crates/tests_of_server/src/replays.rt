@@ -1,103 +1,99 @@
 //! Runs in which a server is made anew from its batches.
 
-use crate::turns::{with, wrong_in_all};
+use crate::turns::wrong_in_all;
 use pres_server::{Batch, Items, Number, Replay, ReplayFault, Server};
 use std::alloc::Global;
-use std::test::Fail;
+use std::process::Abort;
 
-fn said(alloc: Global, word: &str) -> Result<String, Fail> {
-    Ok(String::from_str(alloc, word)?)
+fn said(rt: &impl Abort, alloc: Global, word: &str) -> String {
+    String::from_str(alloc, word).expect(rt, "memory")
 }
 
 // The server that is made anew from all batches of this one.
-pub(crate) fn replayed(alloc: Global, server: Server) -> Result<(Server, String), Fail> {
+pub(crate) fn replayed(rt: &impl Abort, alloc: Global, server: Server) -> (Server, String) {
     let made = Server::replay(alloc, server.log().batches());
     drop(server);
-    with(made?, said(alloc, "replayed"))
+    (
+        made.expect(rt, "the same batches"),
+        said(rt, alloc, "replayed"),
+    )
 }
 
 // The batch's entries, as a batch whose first one has this number.
-fn renumbered(alloc: Global, first: u64, batch: &Batch) -> Result<Batch, Fail> {
-    let first = Number::new(first).ok_or("no number")?;
+fn renumbered(rt: &impl Abort, alloc: Global, first: u64, batch: &Batch) -> Batch {
+    let first = Number::new(first).expect(rt, "a number");
     let mut copies = Vec::new(alloc);
     for entry in batch.entries() {
-        copies.push(entry.copy(alloc)?)?;
+        copies
+            .push(entry.copy(alloc).expect(rt, "memory"))
+            .expect(rt, "memory");
     }
     if !Batch::may_hold(copies.as_slice()) {
-        drop(copies);
-        return Err("no batch")?;
+        panic!(rt; "no batch");
     }
-    Ok(Batch::new(first, batch.moment(), Items::of(copies)))
+    Batch::new(first, batch.moment(), Items::of(copies))
 }
 
 // The number of the batch that is refused.
-fn refusal(alloc: Global, fault: ReplayFault) -> Result<String, Fail> {
+fn refusal(rt: &impl Abort, alloc: Global, fault: ReplayFault) -> String {
     let ReplayFault::NotLegal(number) = fault else {
-        return said(alloc, "out of memory");
+        return said(rt, alloc, "out of memory");
     };
     let place = number.get();
-    Ok(format!(in alloc; "refused {place}")?)
+    format!(in alloc; "refused {place}").expect(rt, "memory")
 }
 
 // What becomes of the batch, whose first entry has this number, and the number of the next one.
 fn added(
+    rt: &impl Abort,
     alloc: Global,
     replay: &mut Replay,
     batch: &Batch,
     first: u64,
-) -> Result<(String, u64), Fail> {
+) -> (String, u64) {
     let next = first.saturating_add(batch.entries().len() as u64);
-    let batch = renumbered(alloc, first, batch)?;
+    let batch = renumbered(rt, alloc, first, batch);
     match replay.add(batch) {
-        Ok(()) => Ok((said(alloc, "added")?, next)),
-        Err(fault) => Ok((refusal(alloc, fault)?, first)),
+        Ok(()) => (said(rt, alloc, "added"), next),
+        Err(fault) => (refusal(rt, alloc, fault), first),
     }
 }
 
 // What becomes of these of the batches, one after another.
 fn all_added(
+    rt: &impl Abort,
     alloc: Global,
     replay: &mut Replay,
     batches: &[Batch],
     order: &str,
-) -> Result<String, Fail> {
+) -> String {
     let mut words = String::new(alloc);
     let mut number = 1;
     for place in order.split(' ') {
-        let place: usize = place.parse()?;
-        let batch = batches.get(place.saturating_sub(1)).ok_or("no such batch")?;
-        let (word, next) = added(alloc, replay, batch, number)?;
-        words.push_str(word.as_str())?;
-        words.push_str(", ")?;
+        let place: usize = place.parse().expect(rt, "a number");
+        let batch = batches
+            .get(place.saturating_sub(1))
+            .expect(rt, "such a batch");
+        let (word, next) = added(rt, alloc, replay, batch, number);
+        words.push_str(word.as_str()).expect(rt, "memory");
+        words.push_str(", ").expect(rt, "memory");
         number = next;
     }
-    Ok(words)
-}
-
-// How many entries the replay's server has.
-fn counted(alloc: Global, replay: Replay, mut words: String) -> Result<String, Fail> {
-    let server = replay.finish();
-    let number = server.number();
-    drop(server);
-    words.push_str(format!(in alloc; "{number} entries")?.as_str())?;
-    Ok(words)
+    words
 }
 
 // The server, and what becomes of its batches, added by their numbers in this order.
 pub(crate) fn ordered(
+    rt: &impl Abort,
     alloc: Global,
     server: Server,
     order: &str,
-) -> Result<(Server, String), Fail> {
+) -> (Server, String) {
     let mut replay = Replay::new(alloc);
-    let words = match all_added(alloc, &mut replay, server.log().batches(), order) {
-        Ok(words) => counted(alloc, replay, words),
-        Err(fail) => {
-            drop(replay);
-            Err(fail)
-        }
-    };
-    with(server, words)
+    let words = all_added(rt, alloc, &mut replay, server.log().batches(), order);
+    let number = replay.finish().number();
+    let said = format!(in alloc; "{words}{number} entries").expect(rt, "memory");
+    (server, said)
 }
 
 const REPLAYED: &str = r#"1000 {"m":"hello","s":["alice",1,1]}
@@ -213,18 +209,16 @@ replay 3 7 2
 => refused 1, refused 1, added, 1 entries"#;
 
 #[test]
-fn batches_are_replayed(rt: HostRuntime) -> Result<(), Fail> {
-    let wrong = wrong_in_all(rt.alloc(), &[REPLAYED, ORDERED])?;
+fn batches_are_replayed(rt: HostRuntime) {
+    let wrong = wrong_in_all(&rt, rt.alloc(), &[REPLAYED, ORDERED]);
     assert_eq!(rt; wrong.as_str(), "");
-    Ok(())
 }
 
 #[test]
-fn faults_are_numbered_and_named(rt: HostRuntime) -> Result<(), Fail> {
+fn faults_are_numbered_and_named(rt: HostRuntime) {
     let refused = ReplayFault::NotLegal(Number::first());
     assert_eq!(rt; (ReplayFault::Memory.number(), refused.number()), (1, 2));
     assert_eq!(rt; refused.name(), "NotLegal");
-    let text = refused.to_string(rt.alloc())?;
+    let text = refused.to_string(rt.alloc()).expect(&rt, "memory");
     assert_eq!(rt; text.as_str(), "batch 1 may not follow");
-    Ok(())
 }

@@ -1,47 +1,46 @@
 //! Tests of sessions: their counts, their end, and a plan that owes rows.
 
-ghost use Rattle.std.specs.Prelude.{◌≡◌, IfOk};
+ghost use Rattle.std.specs.Prelude.{◌≡◌};
 
 use pres_session::{Due, Gone, Live, NoPlan, Pays, SessionFault, first};
 use pres_tree::Path;
 use pres_wire::{Number, Stamp, Why};
 use pres_write::{Basic, Items, Moment, copy_writes};
-use std::alloc::{AllocError, Global};
-use std::test::Fail;
+use std::alloc::Global;
+use std::process::Abort;
 
-fn stamp(incarnation: u64, attempt: u64) -> Result<Stamp, Fail> {
-    Ok(Stamp {
-        incarnation: Number::new(incarnation).ok_or("no number")?,
-        attempt: Number::new(attempt).ok_or("no number")?,
-    })
+fn stamp(rt: &impl Abort, incarnation: u64, attempt: u64) -> Stamp {
+    Stamp {
+        incarnation: Number::new(incarnation).expect(rt, "a number"),
+        attempt: Number::new(attempt).expect(rt, "a number"),
+    }
 }
 
 #[test]
-fn a_client_comes_and_goes(rt: HostRuntime) -> Result<(), Fail> {
-    let mut live = first(stamp(1, 1)?, Moment::at(1000), NoPlan);
+fn a_client_comes_and_goes(rt: HostRuntime) {
+    let mut live = first(stamp(&rt, 1, 1), Moment::at(1000), NoPlan);
     live.hear(Moment::at(3000));
     live.hear(Moment::at(2000));
     assert_eq!(rt; live.heard().millis(), 3000);
-    assert_eq!(rt; live.accept()?.get(), 1);
-    assert_eq!(rt; live.accept()?.get(), 2);
-    assert_eq!(rt; live.emit()?.get(), 1);
+    assert_eq!(rt; live.accept().expect(&rt, "one message more").get(), 1);
+    assert_eq!(rt; live.accept().expect(&rt, "one message more").get(), 2);
+    assert_eq!(rt; live.emit().expect(&rt, "one message more").get(), 1);
     let due = live.end(Why::Lost);
     assert_eq!(rt; due.why(), Why::Lost);
     let live = due.put_back();
     assert_eq!(rt; live.count().get(), 2);
     assert_eq!(rt; live.sent().get(), 1);
     let gone = live.end(Why::Bye).spend(&[]);
-    let Err((fault, gone, plan)) = gone.open(stamp(1, 1)?, Moment::at(4000), NoPlan) else {
-        return Err(Fail::from("an equal stamp was accepted"));
+    let Err((fault, gone, plan)) = gone.open(stamp(&rt, 1, 1), Moment::at(4000), NoPlan) else {
+        panic!(rt; "an equal stamp was accepted");
     };
-    assert_eq!(rt; fault, SessionFault::Old(stamp(1, 1)?));
-    assert_eq!(rt; gone.last(), stamp(1, 1)?);
-    let Ok(live) = gone.open(stamp(1, 2)?, Moment::at(4000), plan) else {
-        return Err(Fail::from("a greater stamp was refused"));
+    assert_eq!(rt; fault, SessionFault::Old(stamp(&rt, 1, 1)));
+    assert_eq!(rt; gone.last(), stamp(&rt, 1, 1));
+    let Ok(live) = gone.open(stamp(&rt, 1, 2), Moment::at(4000), plan) else {
+        panic!(rt; "a greater stamp was refused");
     };
-    assert_eq!(rt; live.stamp(), stamp(1, 2)?);
+    assert_eq!(rt; live.stamp(), stamp(&rt, 1, 2));
     assert_eq!(rt; live.count().get(), 0);
-    Ok(())
 }
 
 // A plan that owes the rows that were put into it, in their order.
@@ -56,52 +55,43 @@ impl Pays for Rows {
 
 impl Rows {
     // A row more, which removes what stands at the path.
-    fn remove(&mut self, path: Path) -> Result<(), Fail> {
-        self.rows.push(Basic::new(path, None)?)?;
-        Ok(())
+    fn remove(&mut self, rt: &impl Abort, path: Path) {
+        let row = Basic::new(path, None).expect(rt, "a removal");
+        self.rows.push(row).expect(rt, "memory");
     }
 
     // Equal rows.
-    fn copy(&self, alloc: Global) -> Result<Items<Basic>, AllocError>
-        ensures { IfOk result (λ made. made ≡ self.now.rows.items) }
+    fn copy(&self, rt: &impl Abort, alloc: Global) -> Items<Basic>
+        ensures { result ≡ self.now.rows.items }
     {
-        copy_writes(alloc, self.rows.as_slice())
+        copy_writes(alloc, self.rows.as_slice()).expect(rt, "memory")
     }
 }
 
 // Leaves a row for the end of the session.
-fn leave(alloc: Global, mut live: Live<Rows>, text: &str) -> Result<Live<Rows>, Fail> {
-    let path = Path::parse(alloc, text)?;
-    live.plan_mut().remove(path)?;
-    Ok(live)
+fn leave(rt: &impl Abort, alloc: Global, live: &mut Live<Rows>, text: &str) {
+    let path = Path::parse(alloc, text).expect(rt, "a path");
+    live.plan_mut().remove(rt, path);
 }
 
 // Pays what the session owes: which client went, and how many rows it left.
-fn pay(alloc: Global, due: Due<Rows>) -> Result<(Gone, usize), Fail> {
-    match due.plan().copy(alloc) {
-        Ok(rows) => {
-            let gone = due.spend(rows.as_slice());
-            Ok((gone, rows.as_slice().len()))
-        }
-        Err(refused) => {
-            drop(due.put_back());
-            Err(Fail::from(refused))
-        }
-    }
+fn pay(rt: &impl Abort, alloc: Global, due: Due<Rows>) -> (Gone, usize) {
+    let rows = due.plan().copy(rt, alloc);
+    let gone = due.spend(rows.as_slice());
+    (gone, rows.as_slice().len())
 }
 
 #[test]
-fn an_end_pays_the_rows_of_its_plan(rt: HostRuntime) -> Result<(), Fail> {
+fn an_end_pays_the_rows_of_its_plan(rt: HostRuntime) {
     let alloc = rt.alloc();
     let plan = Rows {
         rows: Vec::new(alloc),
     };
-    let live = first(stamp(1, 1)?, Moment::at(1000), plan);
-    let live = leave(alloc, live, "/online")?;
-    let live = leave(alloc, live, "/last")?;
+    let mut live = first(stamp(&rt, 1, 1), Moment::at(1000), plan);
+    leave(&rt, alloc, &mut live, "/online");
+    leave(&rt, alloc, &mut live, "/last");
     assert_eq!(rt; live.plan().rows.len(), 2);
-    let (gone, count) = pay(alloc, live.end(Why::Lost))?;
+    let (gone, count) = pay(&rt, alloc, live.end(Why::Lost));
     assert_eq!(rt; count, 2);
-    assert_eq!(rt; gone.last(), stamp(1, 1)?);
-    Ok(())
+    assert_eq!(rt; gone.last(), stamp(&rt, 1, 1));
 }

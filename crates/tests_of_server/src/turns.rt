@@ -11,101 +11,98 @@ use pres_server::{
     Batch, Busy, ClientId, Count, Down, Entry, Fault, Input, Limit, Log, Moment, Number, Outcome,
     Path, Row, Server, SessionId, Turn, Up, Why,
 };
-use std::alloc::{AllocError, Global};
-use std::test::Fail;
+use std::alloc::Global;
+use std::process::Abort;
 
 // The session of `["alice",1,1]`.
-fn session(alloc: Global, text: &str) -> Result<SessionId, Fail> {
-    let hello = format!(in alloc; r#"{{"m":"hello","s":{text}}}"#)?;
-    let up = Up::decode(alloc, hello.as_str())?;
-    let session = up.session().copy(alloc);
-    drop(up);
-    Ok(session?)
+fn session(rt: &impl Abort, alloc: Global, text: &str) -> SessionId {
+    let hello = format!(in alloc; r#"{{"m":"hello","s":{text}}}"#).expect(rt, "memory");
+    let up = Up::decode(alloc, hello.as_str()).expect(rt, "a message");
+    up.session().copy(alloc).expect(rt, "memory")
 }
 
 // The input of a line: `lost` or `slow` and a session, `restart` and a client, `tick`, or a message.
-fn input(alloc: Global, line: &str) -> Result<Input, Fail> {
+fn input(rt: &impl Abort, alloc: Global, line: &str) -> Input {
     if line == "tick" {
-        return Ok(Input::Tick);
+        return Input::Tick;
     }
     match line.split_once(' ') {
-        Some(("lost", text)) => Ok(Input::Lost(session(alloc, text)?)),
-        Some(("slow", text)) => Ok(Input::Slow(session(alloc, text)?)),
-        Some(("restart", text)) => Ok(Input::Restart(ClientId::parse(alloc, text)?)),
-        _ => Ok(Input::Up(Up::decode(alloc, line)?)),
+        Some(("lost", text)) => Input::Lost(session(rt, alloc, text)),
+        Some(("slow", text)) => Input::Slow(session(rt, alloc, text)),
+        Some(("restart", text)) => {
+            let client = ClientId::parse(alloc, text).expect(rt, "a client's name");
+            Input::Restart(client)
+        }
+        _ => Input::Up(Up::decode(alloc, line).expect(rt, "a message")),
     }
 }
 
 // What comes, and when.
-fn given(alloc: Global, text: &str) -> Result<(Input, Moment), Fail> {
-    let (millis, line) = text.split_once(' ').ok_or("no moment")?;
-    let now = Moment::at(millis.parse()?);
-    Ok((input(alloc, line)?, now))
+fn given(rt: &impl Abort, alloc: Global, text: &str) -> (Input, Moment) {
+    let (millis, line) = text.split_once(' ').expect(rt, "a moment");
+    let now = Moment::at(millis.parse().expect(rt, "a number"));
+    (input(rt, alloc, line), now)
 }
 
 // The texts of the answers, each on a line.
-fn texts(alloc: Global, answers: &[Down]) -> Result<String, Fail> {
+fn texts(rt: &impl Abort, alloc: Global, answers: &[Down]) -> String {
     let mut joined = String::new(alloc);
     for answer in answers {
         if !joined.is_empty() {
-            joined.push('\n')?;
+            joined.push('\n').expect(rt, "memory");
         }
-        joined.push_str(answer.encode(alloc)?.as_str())?;
+        joined
+            .push_str(answer.encode(alloc).expect(rt, "memory").as_str())
+            .expect(rt, "memory");
     }
-    Ok(joined)
+    joined
 }
 
 // The code of a fault, and the stamp that comes with it.
-fn fault_text(alloc: Global, fault: Fault) -> Result<String, Fail> {
+fn fault_text(rt: &impl Abort, alloc: Global, fault: Fault) -> String {
     let code = fault.code().number();
-    let Fault::Old(last) = fault else {
-        return Ok(format!(in alloc; "fault {code}")?);
-    };
-    let (incarnation, attempt) = (last.incarnation.get(), last.attempt.get());
-    Ok(format!(in alloc; "fault {code} [{incarnation},{attempt}]")?)
-}
-
-// The server with a text, where it was made.
-pub(crate) fn with(server: Server, text: Result<String, Fail>) -> Result<(Server, String), Fail> {
-    match text {
-        Ok(text) => Ok((server, text)),
-        Err(fail) => {
-            drop(server);
-            Err(fail)
+    let text = match &fault {
+        Fault::Old(last) => {
+            let (incarnation, attempt) = (last.incarnation.get(), last.attempt.get());
+            format!(in alloc; "fault {code} [{incarnation},{attempt}]")
         }
-    }
+        _ => format!(in alloc; "fault {code}"),
+    };
+    text.expect(rt, "memory")
 }
 
 // The server after the commit, and what it answers.
-fn done(alloc: Global, busy: Busy) -> Result<(Server, String), Fail> {
-    let (server, answers) = busy.done()?;
-    with(server, texts(alloc, answers.as_slice()))
+fn done(rt: &impl Abort, alloc: Global, busy: Busy) -> (Server, String) {
+    let (server, answers) = busy.done().expect(rt, "memory");
+    let said = texts(rt, alloc, answers.as_slice());
+    (server, said)
 }
 
 // `quiet` and the answers.
-fn quiet(alloc: Global, answers: &[Down]) -> Result<String, Fail> {
-    let mut text = String::from_str(alloc, "quiet")?;
-    text.push_str(texts(alloc, answers)?.as_str())?;
-    Ok(text)
+fn quiet(rt: &impl Abort, alloc: Global, answers: &[Down]) -> String {
+    let mut text = String::from_str(alloc, "quiet").expect(rt, "memory");
+    text.push_str(texts(rt, alloc, answers).as_str())
+        .expect(rt, "memory");
+    text
 }
 
 // The server after the input, and what it answers.
-fn turn(alloc: Global, server: Server, case: &str) -> Result<(Server, String), Fail> {
-    let (input, now) = given(alloc, case)?;
+fn turn(rt: &impl Abort, alloc: Global, server: Server, case: &str) -> (Server, String) {
+    let (input, now) = given(rt, alloc, case);
     match server.prepare(input, now) {
-        Ok(Turn::Busy(busy)) => done(alloc, busy),
-        Ok(Turn::Quiet(server, answers)) => with(server, quiet(alloc, answers.as_slice())),
-        Err((fault, server)) => with(server, fault_text(alloc, fault)),
+        Ok(Turn::Busy(busy)) => done(rt, alloc, busy),
+        Ok(Turn::Quiet(server, answers)) => (server, quiet(rt, alloc, answers.as_slice())),
+        Err((fault, server)) => (server, fault_text(rt, alloc, fault)),
     }
 }
 
 // The server after a turn whose commit was refused.
-fn given_back(alloc: Global, server: Server, case: &str) -> Result<Server, Fail> {
-    let (input, now) = given(alloc, case)?;
+fn given_back(rt: &impl Abort, alloc: Global, server: Server, case: &str) -> Server {
+    let (input, now) = given(rt, alloc, case);
     match server.prepare(input, now) {
-        Ok(Turn::Busy(busy)) => Ok(busy.abandon()),
-        Ok(Turn::Quiet(_, _)) => Err("quiet")?,
-        Err(_) => Err("refused")?,
+        Ok(Turn::Busy(busy)) => busy.abandon(),
+        Ok(Turn::Quiet(_, _)) => panic!(rt; "quiet"),
+        Err(_) => panic!(rt; "refused"),
     }
 }
 
@@ -174,7 +171,7 @@ fn entry_parts(
 }
 
 // An entry in words, behind its number.
-fn entry_text(alloc: Global, number: u64, entry: &Entry) -> Result<String, AllocError> {
+fn entry_text(rt: &impl Abort, alloc: Global, number: u64, entry: &Entry) -> String {
     let (kind, session, q, n, word) = entry_parts(entry);
     let client = session.client.text();
     let stamp = session.stamp();
@@ -182,168 +179,159 @@ fn entry_text(alloc: Global, number: u64, entry: &Entry) -> Result<String, Alloc
     let (q, n) = (q.map(Number::get), n.map(Number::get));
     format!(in alloc;
         r#"{number} {kind} ["{client}",{incarnation},{attempt}] q {q:?} n {n:?} {word}"#
-    )
+    ).expect(rt, "memory")
 }
 
 // The entries of a batch in words.
-fn batch_text(alloc: Global, batch: &Batch) -> Result<String, AllocError> {
+fn batch_text(rt: &impl Abort, alloc: Global, batch: &Batch) -> String {
     let mut text = String::new(alloc);
     for (number, entry) in (batch.first().get()..).zip(batch.entries()) {
         if !text.is_empty() {
-            text.push_str(", ")?;
+            text.push_str(", ").expect(rt, "memory");
         }
-        text.push_str(entry_text(alloc, number, entry)?.as_str())?;
+        text.push_str(entry_text(rt, alloc, number, entry).as_str())
+            .expect(rt, "memory");
     }
-    Ok(text)
+    text
 }
 
 // The batches in words, each on a line.
-fn log_text(alloc: Global, log: &Log) -> Result<String, Fail> {
+fn log_text(rt: &impl Abort, alloc: Global, log: &Log) -> String {
     let mut text = String::new(alloc);
     for batch in log.batches() {
         if !text.is_empty() {
-            text.push('\n')?;
+            text.push('\n').expect(rt, "memory");
         }
-        text.push_str(batch_text(alloc, batch)?.as_str())?;
+        text.push_str(batch_text(rt, alloc, batch).as_str())
+            .expect(rt, "memory");
     }
-    Ok(text)
+    text
 }
 
 // The moments of the log's batches.
-fn moments(alloc: Global, log: &Log) -> Result<String, Fail> {
+fn moments(rt: &impl Abort, alloc: Global, log: &Log) -> String {
     let mut moments = Vec::new(alloc);
     for batch in log.batches() {
-        moments.push(batch.moment().millis())?;
+        moments.push(batch.moment().millis()).expect(rt, "memory");
     }
-    Ok(format!(in alloc; "{moments:?}")?)
+    format!(in alloc; "{moments:?}").expect(rt, "memory")
 }
 
 // The value at the path.
-fn value(alloc: Global, server: &Server, path: &str) -> Result<String, Fail> {
-    let path = Path::parse(alloc, path)?;
+fn value(rt: &impl Abort, alloc: Global, server: &Server, path: &str) -> String {
+    let path = Path::parse(alloc, path).expect(rt, "a path");
     let Some(tree) = server.value_at(&path) else {
-        return Ok(String::from_str(alloc, "null")?);
+        return String::from_str(alloc, "null").expect(rt, "memory");
     };
-    let value = tree.to_value(alloc)?;
-    Ok(value.to_string(alloc)?)
+    let value = tree.to_value(alloc).expect(rt, "memory");
+    value.to_string(alloc).expect(rt, "memory")
 }
 
 // The numbers at which writes were done.
-fn numbers(alloc: Global, rows: &[Row]) -> Result<String, Fail> {
+fn numbers(rt: &impl Abort, alloc: Global, rows: &[Row]) -> String {
     let mut numbers = Vec::new(alloc);
     for row in rows {
-        numbers.push(row.done.get())?;
+        numbers.push(row.done.get()).expect(rt, "memory");
     }
-    Ok(format!(in alloc; "{numbers:?}")?)
+    format!(in alloc; "{numbers:?}").expect(rt, "memory")
 }
 
 // The numbers at which the client's writes were done.
-fn history(alloc: Global, server: &Server, client: &str) -> Result<String, Fail> {
-    let client = ClientId::parse(alloc, client)?;
-    let rows = server.history_of(&client)?;
-    numbers(alloc, rows.as_slice())
+fn history(rt: &impl Abort, alloc: Global, server: &Server, client: &str) -> String {
+    let client = ClientId::parse(alloc, client).expect(rt, "a client's name");
+    let rows = server.history_of(&client).expect(rt, "memory");
+    numbers(rt, alloc, rows.as_slice())
 }
 
 // When alice was heard of last, in milliseconds.
-fn heard(alloc: Global, server: &Server) -> Result<Option<u64>, Fail> {
-    let alice = ClientId::parse(alloc, "alice")?;
-    Ok(server.heard(&alice).map(Moment::millis))
+fn heard(rt: &impl Abort, alloc: Global, server: &Server) -> Option<u64> {
+    let alice = ClientId::parse(alloc, "alice").expect(rt, "a client's name");
+    server.heard(&alice).map(Moment::millis)
 }
 
 // Whether alice's first session is open, and how many of its messages were accepted.
-fn standing(alloc: Global, server: &Server) -> Result<(bool, Option<u64>), Fail> {
-    let session = session(alloc, r#"["alice",1,1]"#)?;
+fn standing(rt: &impl Abort, alloc: Global, server: &Server) -> (bool, Option<u64>) {
+    let session = session(rt, alloc, r#"["alice",1,1]"#);
     let open = server.is_open(&session);
-    Ok((open, server.count(&session).map(Count::get)))
+    (open, server.count(&session).map(Count::get))
 }
 
 // What is seen of the server.
-fn seen(alloc: Global, server: &Server) -> Result<String, Fail> {
+fn seen(rt: &impl Abort, alloc: Global, server: &Server) -> String {
     let number = server.number();
-    let (open, count) = standing(alloc, server)?;
-    let heard = heard(alloc, server)?;
-    let tree = value(alloc, server, "/")?;
-    Ok(format!(in alloc; "{number} entries, {open} {count:?}, heard {heard:?}, {tree}")?)
+    let (open, count) = standing(rt, alloc, server);
+    let heard = heard(rt, alloc, server);
+    let tree = value(rt, alloc, server, "/");
+    let text = format!(in alloc; "{number} entries, {open} {count:?}, heard {heard:?}, {tree}");
+    text.expect(rt, "memory")
 }
 
 // The answer to a question about the server.
-fn answer(alloc: Global, server: &Server, question: &str) -> Result<String, Fail> {
+fn answer(rt: &impl Abort, alloc: Global, server: &Server, question: &str) -> String {
     match question.split_once(' ') {
-        Some(("value", path)) => value(alloc, server, path),
-        Some(("history", client)) => history(alloc, server, client),
+        Some(("value", path)) => value(rt, alloc, server, path),
+        Some(("history", client)) => history(rt, alloc, server, client),
         _ => match question {
-            "log" => log_text(alloc, server.log()),
-            "moments" => moments(alloc, server.log()),
-            _ => seen(alloc, server),
+            "log" => log_text(rt, alloc, server.log()),
+            "moments" => moments(rt, alloc, server.log()),
+            _ => seen(rt, alloc, server),
         },
     }
 }
 
 // The server after a question, and the answer.
-fn asked(alloc: Global, server: Server, question: &str) -> Result<(Server, String), Fail> {
-    let text = answer(alloc, &server, question);
-    with(server, text)
+fn asked(rt: &impl Abort, alloc: Global, server: Server, question: &str) -> (Server, String) {
+    let text = answer(rt, alloc, &server, question);
+    (server, text)
 }
 
 // The server after a turn, and what is seen of it.
-fn watched(alloc: Global, server: Server, case: &str) -> Result<(Server, String), Fail> {
-    let (server, _) = turn(alloc, server, case)?;
-    asked(alloc, server, "seen")
+fn watched(rt: &impl Abort, alloc: Global, server: Server, case: &str) -> (Server, String) {
+    let (server, _) = turn(rt, alloc, server, case);
+    asked(rt, alloc, server, "seen")
 }
 
 // The server after a turn whose commit was refused, and what is seen of it.
-fn abandoned(alloc: Global, server: Server, case: &str) -> Result<(Server, String), Fail> {
-    let server = given_back(alloc, server, case)?;
-    asked(alloc, server, "seen")
+fn abandoned(rt: &impl Abort, alloc: Global, server: Server, case: &str) -> (Server, String) {
+    let server = given_back(rt, alloc, server, case);
+    asked(rt, alloc, server, "seen")
 }
 
 // The server after a step, and what it says.
-fn step(alloc: Global, server: Server, case: &str) -> Result<(Server, String), Fail> {
+fn step(rt: &impl Abort, alloc: Global, server: Server, case: &str) -> (Server, String) {
     if case.starts_with(|c: char| c.is_ascii_digit()) {
-        return turn(alloc, server, case);
+        return turn(rt, alloc, server, case);
     }
     match case.split_once(' ') {
-        Some(("see", case)) => watched(alloc, server, case),
-        Some(("abandon", case)) => abandoned(alloc, server, case),
-        Some(("replay", order)) => ordered(alloc, server, order),
-        None if case == "replay" => replayed(alloc, server),
-        _ => asked(alloc, server, case),
+        Some(("see", case)) => watched(rt, alloc, server, case),
+        Some(("abandon", case)) => abandoned(rt, alloc, server, case),
+        Some(("replay", order)) => ordered(rt, alloc, server, order),
+        None if case == "replay" => replayed(rt, alloc, server),
+        _ => asked(rt, alloc, server, case),
     }
 }
 
-// What is wrong, with a step that says something else than is wanted.
-fn noted(mut wrong: String, case: &str, said: String, wanted: &str) -> Result<String, Fail> {
-    if said.as_str() != wanted {
-        wrong.push_str(case)?;
-        wrong.push_str("\n=> ")?;
-        wrong.push_str(said.as_str())?;
-        wrong.push('\n')?;
+// Notes a step that says something else than is wanted.
+fn note(rt: &impl Abort, wrong: &mut String, case: &str, said: &str, wanted: &str) {
+    if said != wanted {
+        wrong.push_str(case).expect(rt, "memory");
+        wrong.push_str("\n=> ").expect(rt, "memory");
+        wrong.push_str(said).expect(rt, "memory");
+        wrong.push('\n').expect(rt, "memory");
     }
-    Ok(wrong)
-}
-
-// The server after a step of a run, and what is wrong.
-fn tried(
-    alloc: Global,
-    server: Server,
-    wrong: String,
-    text: &str,
-) -> Result<(Server, String), Fail> {
-    let (case, wanted) = text.split_once("\n=> ").unwrap_or((text, "an answer"));
-    let (server, said) = step(alloc, server, case)?;
-    with(server, noted(wrong, case, said, wanted))
 }
 
 // The steps of the run that say something else than they must, each with that.
-pub(crate) fn wrong_in(alloc: Global, run: &str) -> Result<String, Fail> {
+pub(crate) fn wrong_in(rt: &impl Abort, alloc: Global, run: &str) -> String {
     let mut server = Server::new(alloc);
     let mut wrong = String::new(alloc);
     for text in run.split("\n\n") {
-        let (after, noted) = tried(alloc, server, wrong, text)?;
+        let (case, wanted) = text.split_once("\n=> ").expect(rt, "an answer");
+        let (after, said) = step(rt, alloc, server, case);
         server = after;
-        wrong = noted;
+        note(rt, &mut wrong, case, said.as_str(), wanted);
     }
-    Ok(wrong)
+    wrong
 }
 
 const SUPERSEDED: &str = r#"1000 {"m":"hello","s":["alice",1,1]}
@@ -535,7 +523,7 @@ seen
 => 1026 entries, false None, heard None, null"#;
 
 // A run in which alice's session ends for this reason, by the line with that word.
-fn end(alloc: Global, line: &str, why: &str, name: &str) -> Result<String, AllocError> {
+fn end(rt: &impl Abort, alloc: Global, line: &str, why: &str, name: &str) -> String {
     format!(in alloc;
         r#"1000 {line}
 => quiet
@@ -562,78 +550,78 @@ log
 => 1 open ["alice",1,1] q None n None opened
 2 ended ["alice",1,1] q None n None {name}"#
     )
+    .expect(rt, "memory")
 }
 
 // The Hello of one of many clients, and its Welcome.
-fn opening(alloc: Global, client: u64) -> Result<String, AllocError> {
+fn opening(rt: &impl Abort, alloc: Global, client: u64) -> String {
     format!(in alloc;
         r#"1000 {{"m":"hello","s":["c{client}",1,1]}}
 => {{"m":"welcome","ops":0,"s":["c{client}",1,1],"z":{client}}}
 
 "#
     )
+    .expect(rt, "memory")
 }
 
 // A run in which so many sessions open, and then one more is to.
-fn openings(alloc: Global, clients: u64) -> Result<String, Fail> {
+fn openings(rt: &impl Abort, alloc: Global, clients: u64) -> String {
     let mut run = String::new(alloc);
     for client in 1..=clients {
-        run.push_str(opening(alloc, client)?.as_str())?;
+        run.push_str(opening(rt, alloc, client).as_str())
+            .expect(rt, "memory");
     }
-    run.push_str(FULL)?;
-    Ok(run)
+    run.push_str(FULL).expect(rt, "memory");
+    run
 }
 
 // What is wrong in the runs.
-pub(crate) fn wrong_in_all(alloc: Global, runs: &[&str]) -> Result<String, Fail> {
+pub(crate) fn wrong_in_all(rt: &impl Abort, alloc: Global, runs: &[&str]) -> String {
     let mut wrong = String::new(alloc);
     for run in runs {
-        wrong.push_str(wrong_in(alloc, run)?.as_str())?;
+        wrong
+            .push_str(wrong_in(rt, alloc, run).as_str())
+            .expect(rt, "memory");
     }
-    Ok(wrong)
+    wrong
 }
 
 // What is wrong in a run in which alice's session ends for this reason.
-fn wrong_in_end(alloc: Global, line: &str, why: &str, name: &str) -> Result<String, Fail> {
-    let run = end(alloc, line, why, name)?;
-    wrong_in(alloc, run.as_str())
+fn wrong_in_end(rt: &impl Abort, alloc: Global, line: &str, why: &str, name: &str) -> String {
+    let run = end(rt, alloc, line, why, name);
+    wrong_in(rt, alloc, run.as_str())
 }
 
 #[test]
-fn runs_say_what_they_must(rt: HostRuntime) -> Result<(), Fail> {
+fn runs_say_what_they_must(rt: HostRuntime) {
     let runs = [
         SUPERSEDED, SENT_AGAIN, OLD_STAMPS, ORDER, ABANDONED, HEARD, MOMENTS, STALE,
     ];
-    let wrong = wrong_in_all(rt.alloc(), &runs)?;
+    let wrong = wrong_in_all(&rt, rt.alloc(), &runs);
     assert_eq!(rt; wrong.as_str(), "");
-    Ok(())
 }
 
 #[test]
-fn a_lost_session_ends(rt: HostRuntime) -> Result<(), Fail> {
-    let wrong = wrong_in_end(rt.alloc(), r#"lost ["alice",1,1]"#, "lost", "Lost")?;
+fn a_lost_session_ends(rt: HostRuntime) {
+    let wrong = wrong_in_end(&rt, rt.alloc(), r#"lost ["alice",1,1]"#, "lost", "Lost");
     assert_eq!(rt; wrong.as_str(), "");
-    Ok(())
 }
 
 #[test]
-fn a_slow_session_ends(rt: HostRuntime) -> Result<(), Fail> {
-    let wrong = wrong_in_end(rt.alloc(), r#"slow ["alice",1,1]"#, "slow", "Slow")?;
+fn a_slow_session_ends(rt: HostRuntime) {
+    let wrong = wrong_in_end(&rt, rt.alloc(), r#"slow ["alice",1,1]"#, "slow", "Slow");
     assert_eq!(rt; wrong.as_str(), "");
-    Ok(())
 }
 
 #[test]
-fn a_restart_ends_the_session(rt: HostRuntime) -> Result<(), Fail> {
-    let wrong = wrong_in_end(rt.alloc(), "restart alice", "restart", "Restart")?;
+fn a_restart_ends_the_session(rt: HostRuntime) {
+    let wrong = wrong_in_end(&rt, rt.alloc(), "restart alice", "restart", "Restart");
     assert_eq!(rt; wrong.as_str(), "");
-    Ok(())
 }
 
 #[test]
-fn so_many_sessions_may_be_open(rt: HostRuntime) -> Result<(), Fail> {
-    let run = openings(rt.alloc(), 1024)?;
-    let wrong = wrong_in(rt.alloc(), run.as_str())?;
+fn so_many_sessions_may_be_open(rt: HostRuntime) {
+    let run = openings(&rt, rt.alloc(), 1024);
+    let wrong = wrong_in(&rt, rt.alloc(), run.as_str());
     assert_eq!(rt; wrong.as_str(), "");
-    Ok(())
 }

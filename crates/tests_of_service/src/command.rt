@@ -6,7 +6,6 @@ use std::io::{Read, Write};
 use std::net::{Net, TcpListener, TcpStream};
 use std::random::RandomSource;
 use std::sync::Wait;
-use std::test::Fail;
 use std::thread::Threads;
 use std::time::Clock;
 
@@ -54,7 +53,7 @@ fn run<
 }
 
 #[test]
-fn applies_lines(rt: HostRuntime) -> Result<(), Fail> {
+fn applies_lines(rt: HostRuntime) {
     for (input, status, output, faults) in [
         ("", 0, "tree null\n", ""),
         (
@@ -75,11 +74,10 @@ fn applies_lines(rt: HostRuntime) -> Result<(), Fail> {
         assert!(rt; ran.output.as_slice() == output.as_bytes(), "{input}");
         assert!(rt; ran.faults.as_slice() == faults.as_bytes(), "{input}");
     }
-    Ok(())
 }
 
 #[test]
-fn reads_its_words(rt: HostRuntime) -> Result<(), Fail> {
+fn reads_its_words(rt: HostRuntime) {
     for (words, status, writes, faults) in [
         (["presence"].as_slice(), 2, false, true),
         (["presence", "nosuch"].as_slice(), 2, false, true),
@@ -163,5 +161,4 @@ fn reads_its_words(rt: HostRuntime) -> Result<(), Fail> {
     let mut input = b"".as_slice();
     let ended = presence_run(&rt, &rt, &words, &mut input, &mut Clogged, &mut faults);
     assert_eq!(rt; ended, 1);
-    Ok(())
 }

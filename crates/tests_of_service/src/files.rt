@@ -3,7 +3,7 @@
 use sqlite::Connection;
 use std::fs;
 use std::net::{Net, TcpListener, TcpStream};
-use std::test::Fail;
+use std::process::Abort;
 
 /// An address at which nobody listens, and the name of a file that isn't there.
 #[derive(Drop)]
@@ -13,20 +13,19 @@ pub(crate) struct Place {
 }
 
 /// A place of this name.
-pub(crate) fn new_place<R: Net<Listener = TcpListener, Stream = TcpStream>>(
+pub(crate) fn new_place<R: Net<Listener = TcpListener, Stream = TcpStream> + Abort>(
     host: &HostRuntime,
     rt: &R,
     name: &str,
-) -> Result<Place, Fail> {
-    let listener = TcpListener::bind(rt, "127.0.0.1:0")?;
-    let port = listener.local_addr()?.port();
+) -> Place {
+    let listener = TcpListener::bind(rt, "127.0.0.1:0").expect(rt, "a listener");
+    let port = listener.local_addr().expect(rt, "an address").port();
     drop(listener);
-    let place = Place {
-        address: format!(in host.alloc(); "127.0.0.1:{port}")?,
-        file: format!(in host.alloc(); "/tmp/presence_{name}_{port}")?,
-    };
+    let address = format!(in host.alloc(); "127.0.0.1:{port}").expect(rt, "memory");
+    let file = format!(in host.alloc(); "/tmp/presence_{name}_{port}").expect(rt, "memory");
+    let place = Place { address, file };
     place.clear(host);
-    Ok(place)
+    place
 }
 
 impl Place {
@@ -40,12 +39,11 @@ impl Place {
     }
 
     /// The name of a database with a table of another program.
-    pub(crate) fn foreign(&self, host: &HostRuntime) -> Result<String, Fail> {
-        let name = format!(in host.alloc(); "{}.other", self.file)?;
-        let mut connection = Connection::open(host, name.as_str())?;
+    pub(crate) fn foreign(&self, host: &HostRuntime, rt: &impl Abort) -> String {
+        let name = format!(in host.alloc(); "{}.other", self.file).expect(rt, "memory");
+        let mut connection = Connection::open(host, name.as_str()).expect(rt, "a database");
         let made = connection.execute("CREATE TABLE other(x INTEGER)", &[]);
-        drop(connection);
-        made?;
-        Ok(name)
+        made.expect(rt, "a table");
+        name
     }
 }

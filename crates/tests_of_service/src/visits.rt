@@ -7,9 +7,9 @@ use pres_service::{ServiceFault, Serving, Visit, client_run, serve_run};
 use std::alloc::Global;
 use std::io::Write;
 use std::net::{Net, TcpListener, TcpStream};
+use std::process::Abort;
 use std::random::RandomSource;
 use std::sync::Wait;
-use std::test::Fail;
 use std::thread;
 use std::thread::Threads;
 use std::time::{Clock, Duration};
@@ -70,9 +70,10 @@ fn one<
         + Threads
         + Wait
         + Clock
+        + Abort
         + Copy
         + Sync,
->(host: &HostRuntime, rt: &R, place: &Place, visitor: Visitor) -> Result<String, Fail> {
+>(host: &HostRuntime, rt: &R, place: &Place, visitor: Visitor) -> String {
     let alloc = host.alloc();
     let serving = Serving {
         address: place.address.as_str(),
@@ -83,6 +84,7 @@ fn one<
     let shared = &board;
     let (served, visited) = thread::scope(thread::scope_env(), rt, |scope| {
         let server = scope.spawn(move || serve(host, rt, serving));
+        let server = server.expect(rt, "a thread");
         let visited = visit(
             rt,
             alloc,
@@ -90,29 +92,24 @@ fn one<
             visitor,
             &mut Pen { rt, board: shared },
         );
-        match server {
-            Ok(server) => (Some(server.join(rt)), visited),
-            Err(_) => (None, visited),
-        }
+        (server.join(rt), visited)
     });
     said(rt, alloc, served, visited, &board)
 }
 
 // Both statuses, and what both printed.
-fn said<R: Wait>(
+fn said<R: Wait + Abort>(
     rt: &R,
     alloc: Global,
-    served: Option<(u8, Vec<u8>)>,
+    served: (u8, Vec<u8>),
     visited: u8,
     board: &Board,
-) -> Result<String, Fail> {
-    let Some((status, output)) = served else {
-        return Err("no thread")?;
-    };
-    let told = board.text(rt, alloc)?;
-    let served = std::str::from_utf8(output.as_slice())?;
+) -> String {
+    let (status, output) = served;
+    let told = board.text(rt, alloc).expect(rt, "memory");
+    let served = std::str::from_utf8(output.as_slice()).expect(rt, "UTF-8");
     let ended = served.lines().last().unwrap_or("");
-    Ok(format!(in alloc; "{visited}\n{told}{status} {ended}")?)
+    format!(in alloc; "{visited}\n{told}{status} {ended}").expect(rt, "memory")
 }
 
 const FIRST: Visitor = Visitor {
@@ -143,14 +140,13 @@ connected false
 
 // What was written is there when the file is served again.
 #[test]
-fn a_file_survives(rt: HostRuntime) -> Result<(), Fail> {
-    let place = new_place(&rt, &rt, "survives")?;
-    let first = one(&rt, &rt, &place, FIRST)?;
+fn a_file_survives(rt: HostRuntime) {
+    let place = new_place(&rt, &rt, "survives");
+    let first = one(&rt, &rt, &place, FIRST);
     assert_eq!(rt; first.as_str(), FIRST_SAID);
-    let second = one(&rt, &rt, &place, SECOND)?;
+    let second = one(&rt, &rt, &place, SECOND);
     assert_eq!(rt; second.as_str(), SECOND_SAID);
     place.clear(&rt);
-    Ok(())
 }
 
 const LISTENS: Visitor = Visitor {
@@ -173,9 +169,10 @@ fn two<
         + Threads
         + Wait
         + Clock
+        + Abort
         + Copy
         + Sync,
->(host: &HostRuntime, rt: &R, place: &Place) -> Result<String, Fail> {
+>(host: &HostRuntime, rt: &R, place: &Place) -> String {
     let alloc = host.alloc();
     let serving = Serving {
         address: place.address.as_str(),
@@ -186,6 +183,7 @@ fn two<
     let shared = &board;
     let (served, visited) = thread::scope(thread::scope_env(), rt, |scope| {
         let server = scope.spawn(move || serve(host, rt, serving));
+        let server = server.expect(rt, "a thread");
         let second = scope.spawn(move || {
             shared.wait_for(rt, "value /b 2 null\n");
             visit(rt, alloc, serving.address, WRITES, &mut Vec::new(alloc))
@@ -198,10 +196,7 @@ fn two<
             &mut Pen { rt, board: shared },
         );
         drop(second);
-        match server {
-            Ok(server) => (Some(server.join(rt)), visited),
-            Err(_) => (None, visited),
-        }
+        (server.join(rt), visited)
     });
     said(rt, alloc, served, visited, &board)
 }
@@ -214,17 +209,16 @@ connected false
 0 number 6";
 
 #[test]
-fn two_visitors_meet(rt: HostRuntime) -> Result<(), Fail> {
-    let place = new_place(&rt, &rt, "two")?;
-    let said = two(&rt, &rt, &place)?;
+fn two_visitors_meet(rt: HostRuntime) {
+    let place = new_place(&rt, &rt, "two");
+    let said = two(&rt, &rt, &place);
     assert_eq!(rt; said.as_str(), TWO_SAID);
     place.clear(&rt);
-    Ok(())
 }
 
 // Lines that are none are told before there is a connection: nobody listens there.
 #[test]
-fn bad_lines_are_told(rt: HostRuntime) -> Result<(), Fail> {
+fn bad_lines_are_told(rt: HostRuntime) {
     for (lines, told) in [
         ("listen /a\nlitsen /b\n", "bad line 2\n"),
         ("\n", "bad line 1\n"),
@@ -235,16 +229,18 @@ fn bad_lines_are_told(rt: HostRuntime) -> Result<(), Fail> {
         let mut output = Vec::new(rt.alloc());
         let status = visit(&rt, rt.alloc(), "127.0.0.1:1", visitor, &mut output);
         assert_eq!(rt; status, 1, "{lines:?}");
-        assert_eq!(rt; std::str::from_utf8(output.as_slice())?, told);
+        assert_eq!(rt;
+            std::str::from_utf8(output.as_slice()).expect(&rt, "UTF-8"),
+            told
+        );
     }
-    Ok(())
 }
 
 // A file that is no database of saved rows, and an address that can't be bound.
 #[test]
-fn bad_places_are_refused(rt: HostRuntime) -> Result<(), Fail> {
-    let place = new_place(&rt, &rt, "refused")?;
-    let foreign = place.foreign(&rt)?;
+fn bad_places_are_refused(rt: HostRuntime) {
+    let place = new_place(&rt, &rt, "refused");
+    let foreign = place.foreign(&rt, &rt);
     for (address, file, status) in [
         (place.address.as_str(), foreign.as_str(), 3),
         (place.address.as_str(), "/no/such/folder/file", 3),
@@ -259,5 +255,4 @@ fn bad_places_are_refused(rt: HostRuntime) -> Result<(), Fail> {
         assert_eq!(rt; served, status, "{address} {file}");
     }
     place.clear(&rt);
-    Ok(())
 }

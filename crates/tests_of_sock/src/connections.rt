@@ -6,11 +6,11 @@ use crate::script::{Fails, HEAD, NONE, Script, frame, said, script_of};
 use pres_hub::{Core, Hub, MemKeeper, NoBell, OpenGate};
 use pres_server::Moment;
 use pres_sock::{Clock, SockFault, serve_stream};
-use std::alloc::{AllocError, Global};
+use std::alloc::Global;
 use std::marker::Brand;
+use std::process::Abort;
 use std::sync::Wait;
 use std::sync::ledger::{Blank, Ledger};
-use std::test::Fail;
 
 // One moment.
 #[derive(Drop)]
@@ -26,28 +26,28 @@ impl Clock for Stopped {
 #[derive(Drop)]
 struct Outcome {
     counts: (u64, u64, u64, Option<u64>),
-    ended: String,
+    ended: &'static str,
 }
 
 // The end in words.
-fn end_text(alloc: Global, ended: Result<(), SockFault>) -> Result<String, AllocError> {
+fn end_text(ended: Result<(), SockFault>) -> &'static str {
     match ended {
-        Ok(()) => String::from_str(alloc, "closed"),
-        Err(SockFault::Handshake(_)) => String::from_str(alloc, "handshake"),
-        Err(SockFault::Stream(_)) => String::from_str(alloc, "stream"),
-        Err(SockFault::Hub(_)) => String::from_str(alloc, "hub"),
-        Err(SockFault::Memory) => String::from_str(alloc, "memory"),
-        Err(SockFault::Turns) => String::from_str(alloc, "turns"),
+        Ok(()) => "closed",
+        Err(SockFault::Handshake(_)) => "handshake",
+        Err(SockFault::Stream(_)) => "stream",
+        Err(SockFault::Hub(_)) => "hub",
+        Err(SockFault::Memory) => "memory",
+        Err(SockFault::Turns) => "turns",
     }
 }
 
 // One connection to a new hub, with a ledger that the caller picks.
-fn served_with<L: Ledger, R: Wait>(
+fn served_with<L: Ledger, R: Wait + Abort>(
     rt: &R,
     alloc: Global,
     blank: Blank,
     stream: Script,
-) -> Result<Outcome, Fail>
+) -> Outcome
     requires name { blank.name ≡ L.name }
     requires parts { blank.parts ≡ L.parts }
     requires whole { blank.parts ≡ 2 ^ 53 }
@@ -55,10 +55,7 @@ fn served_with<L: Ledger, R: Wait>(
     let keeper = MemKeeper::new(alloc);
     let core = match Core::<L, MemKeeper, NoBell>::start(alloc, blank, keeper, Moment::at(0)) {
         Ok(core) => core,
-        Err((fault, keeper)) => {
-            drop(keeper);
-            return Err(fault)?;
-        }
+        Err((fault, _)) => panic!(rt; "{fault}"),
     };
     let hub = Hub::new(core, OpenGate);
     let (parting, ended) = serve_stream(rt, alloc, &hub, stream, None, &mut Stopped);
@@ -66,61 +63,61 @@ fn served_with<L: Ledger, R: Wait>(
     if let Some(parting) = parting {
         report.gather(parting);
     }
-    Ok(Outcome {
+    Outcome {
         counts: (
             report.number(),
             report.accepted(),
             report.seats_out(),
             report.total(),
         ),
-        ended: end_text(alloc, ended)?,
-    })
+        ended: end_text(ended),
+    }
 }
 
 // One connection to a new hub.
-fn served<R: Wait>(rt: &R, alloc: Global, stream: Script) -> Result<Outcome, Fail> {
+fn served<R: Wait + Abort>(rt: &R, alloc: Global, stream: Script) -> Outcome {
     served_with::<Brand, R>(rt, alloc, Blank::new(1 << 53), stream)
 }
 
 // The pieces of a stream: the request, and a frame for each line, whose first word is its kind.
-fn pieces(alloc: Global, lines: &str) -> Result<Vec<Vec<u8>>, Fail> {
+fn pieces(rt: &impl Abort, alloc: Global, lines: &str) -> Vec<Vec<u8>> {
     let mut pieces = Vec::new(alloc);
     let mut head = Vec::new(alloc);
-    head.extend_from_slice(HEAD)?;
-    pieces.push(head)?;
+    head.extend_from_slice(HEAD).expect(rt, "memory");
+    pieces.push(head).expect(rt, "memory");
     for line in lines.lines() {
         let (kind, text) = line.split_once(' ').unwrap_or((line, ""));
         let piece = match kind {
-            "text" => frame(alloc, 1, text.as_bytes())?,
-            "binary" => frame(alloc, 2, text.as_bytes())?,
-            "long" => frame(alloc, 1, long(alloc)?.as_bytes())?,
-            "ping" => frame(alloc, 9, b"")?,
-            _ => frame(alloc, 8, b"")?,
+            "text" => frame(rt, alloc, 1, text.as_bytes()),
+            "binary" => frame(rt, alloc, 2, text.as_bytes()),
+            "long" => frame(rt, alloc, 1, long(rt, alloc).as_bytes()),
+            "ping" => frame(rt, alloc, 9, b""),
+            _ => frame(rt, alloc, 8, b""),
         };
-        pieces.push(piece)?;
+        pieces.push(piece).expect(rt, "memory");
     }
-    Ok(pieces)
+    pieces
 }
 
 // A text of one byte more than a message may have.
-fn long(alloc: Global) -> Result<String, AllocError> {
+fn long(rt: &impl Abort, alloc: Global) -> String {
     let mut text = String::new(alloc);
     for _ in 0..1_048_577 {
-        text.push('x')?;
+        text.push('x').expect(rt, "memory");
     }
-    Ok(text)
+    text
 }
 
 // What a connection of these lines is answered, how it ended, and what was counted.
-fn answered<R: Wait>(
+fn answered<R: Wait + Abort>(
     rt: &R,
     alloc: Global,
     lines: &str,
     fails: Fails,
-) -> Result<(String, Outcome), Fail> {
-    let (stream, written) = script_of(alloc, pieces(alloc, lines)?, fails)?;
-    let served = served(rt, alloc, stream)?;
-    Ok((said(alloc, written)?, served))
+) -> (String, Outcome) {
+    let (stream, written) = script_of(rt, alloc, pieces(rt, alloc, lines), fails);
+    let served = served(rt, alloc, stream);
+    (said(rt, alloc, written), served)
 }
 
 const BAD: &str = r#"text {"m":"hello","s":["alice",1,1]}
@@ -141,12 +138,11 @@ close
 "#;
 
 #[test]
-fn what_is_no_message_is_answered(rt: HostRuntime) -> Result<(), Fail> {
-    let (said, served) = answered(&rt, rt.alloc(), BAD, NONE)?;
+fn what_is_no_message_is_answered(rt: HostRuntime) {
+    let (said, served) = answered(&rt, rt.alloc(), BAD, NONE);
     assert_eq!(rt; said.as_str(), BAD_ANSWERS);
-    assert_eq!(rt; served.ended.as_str(), "closed");
+    assert_eq!(rt; served.ended, "closed");
     assert_eq!(rt; served.counts, (3, 2, 0, Some(2)));
-    Ok(())
 }
 
 const EARLY: &str = r#"text {"m":"beat","s":["alice",1,1]}
@@ -154,15 +150,14 @@ close"#;
 
 // Before the Hello the connection is ended.
 #[test]
-fn what_comes_before_a_hello_ends_the_connection(rt: HostRuntime) -> Result<(), Fail> {
-    let (said, served) = answered(&rt, rt.alloc(), EARLY, NONE)?;
+fn what_comes_before_a_hello_ends_the_connection(rt: HostRuntime) {
+    let (said, served) = answered(&rt, rt.alloc(), EARLY, NONE);
     assert_eq!(rt;
         said.as_str(),
         "{\"code\":1,\"m\":\"fault\",\"s\":null}\nclose\n"
     );
-    assert_eq!(rt; served.ended.as_str(), "closed");
+    assert_eq!(rt; served.ended, "closed");
     assert_eq!(rt; served.counts, (0, 0, 0, Some(0)));
-    Ok(())
 }
 
 const BYE: &str = r#"text {"m":"hello","s":["alice",1,1]}
@@ -176,12 +171,11 @@ close
 
 // Behind Gone the connection is closed.
 #[test]
-fn a_bye_closes_the_connection(rt: HostRuntime) -> Result<(), Fail> {
-    let (said, served) = answered(&rt, rt.alloc(), BYE, NONE)?;
+fn a_bye_closes_the_connection(rt: HostRuntime) {
+    let (said, served) = answered(&rt, rt.alloc(), BYE, NONE);
     assert_eq!(rt; said.as_str(), BYE_ANSWERS);
-    assert_eq!(rt; served.ended.as_str(), "closed");
+    assert_eq!(rt; served.ended, "closed");
     assert_eq!(rt; served.counts, (2, 2, 0, Some(2)));
-    Ok(())
 }
 
 const SHORT: &str = r#"text {"m":"hello","s":["alice",1,1]}
@@ -190,7 +184,7 @@ text {"m":"op","n":1,"op":{"op":"set","path":"/a","value":1},"q":1,"s":["alice",
 close"#;
 
 // How many runs, in which a read or a write fails, leave a seat out or a session open.
-fn left_behind<R: Wait>(rt: &R, alloc: Global) -> Result<u32, Fail> {
+fn left_behind<R: Wait + Abort>(rt: &R, alloc: Global) -> u32 {
     let mut left: u32 = 0;
     for number in 1..20 {
         for fails in [
@@ -203,31 +197,30 @@ fn left_behind<R: Wait>(rt: &R, alloc: Global) -> Result<u32, Fail> {
                 write: number,
             },
         ] {
-            let (_, served) = answered(rt, alloc, SHORT, fails)?;
+            let (_, served) = answered(rt, alloc, SHORT, fails);
             let (number, accepted, out, total) = served.counts;
             if out != 0 || total != Some(accepted) || number == accepted && number != 0 {
                 left = left.saturating_add(1);
             }
         }
     }
-    Ok(left)
+    left
 }
 
 // A session that was opened has an end: so there is an entry more than what was accepted.
 #[test]
-fn each_failure_ends_the_session(rt: HostRuntime) -> Result<(), Fail> {
-    assert_eq!(rt; left_behind(&rt, rt.alloc())?, 0);
-    Ok(())
+fn each_failure_ends_the_session(rt: HostRuntime) {
+    assert_eq!(rt; left_behind(&rt, rt.alloc()), 0);
 }
 
 // How a connection ends that opens a session, whose peer is silent for so many reads and then goes.
-fn ended_silent<R: Wait>(rt: &R, alloc: Global, reads: u32) -> Result<Outcome, Fail> {
-    let mut pieces = pieces(alloc, HELLO)?;
+fn ended_silent<R: Wait + Abort>(rt: &R, alloc: Global, reads: u32) -> Outcome {
+    let mut pieces = pieces(rt, alloc, HELLO);
     // one read gives nothing behind the Hello
     for _ in 1..reads {
-        pieces.push(Vec::new(alloc))?;
+        pieces.push(Vec::new(alloc)).expect(rt, "memory");
     }
-    let (stream, written) = script_of(alloc, pieces, NONE)?;
+    let (stream, written) = script_of(rt, alloc, pieces, NONE);
     drop(written);
     served(rt, alloc, stream)
 }
@@ -235,25 +228,24 @@ fn ended_silent<R: Wait>(rt: &R, alloc: Global, reads: u32) -> Result<Outcome, F
 const HELLO: &str = r#"text {"m":"hello","s":["alice",1,1]}"#;
 
 #[test]
-fn a_silent_peer_is_out_of_turns(rt: HostRuntime) -> Result<(), Fail> {
-    let ended = ended_silent(&rt, rt.alloc(), 1_999)?;
-    assert_eq!(rt; ended.ended.as_str(), "stream");
-    let ended = ended_silent(&rt, rt.alloc(), 2_000)?;
-    assert_eq!(rt; ended.ended.as_str(), "turns");
+fn a_silent_peer_is_out_of_turns(rt: HostRuntime) {
+    let ended = ended_silent(&rt, rt.alloc(), 1_999);
+    assert_eq!(rt; ended.ended, "stream");
+    let ended = ended_silent(&rt, rt.alloc(), 2_000);
+    assert_eq!(rt; ended.ended, "turns");
     assert_eq!(rt; ended.counts, (2, 1, 0, Some(1)));
-    Ok(())
 }
 
 #[test]
-fn no_handshake_is_no_seat(rt: HostRuntime) -> Result<(), Fail> {
+fn no_handshake_is_no_seat(rt: HostRuntime) {
     let mut pieces = Vec::new(rt.alloc());
     let mut head = Vec::new(rt.alloc());
-    head.extend_from_slice(b"GET / HTTP/1.1\r\nHost: x\r\n\r\n")?;
-    pieces.push(head)?;
-    let (stream, written) = script_of(rt.alloc(), pieces, NONE)?;
+    head.extend_from_slice(b"GET / HTTP/1.1\r\nHost: x\r\n\r\n")
+        .expect(&rt, "memory");
+    pieces.push(head).expect(&rt, "memory");
+    let (stream, written) = script_of(&rt, rt.alloc(), pieces, NONE);
     drop(written);
-    let ended = served(&rt, rt.alloc(), stream)?;
-    assert_eq!(rt; ended.ended.as_str(), "handshake");
+    let ended = served(&rt, rt.alloc(), stream);
+    assert_eq!(rt; ended.ended, "handshake");
     assert_eq!(rt; ended.counts, (0, 0, 0, Some(0)));
-    Ok(())
 }

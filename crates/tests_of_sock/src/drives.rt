@@ -11,7 +11,7 @@ use serde_json::Value;
 use std::alloc::{AllocError, Global};
 use std::io;
 use std::io::{ErrorKind, Write};
-use std::test::Fail;
+use std::process::Abort;
 use tungstenite::MaskKeys;
 
 // What a server answers to the request of a client whose keys are 0: RFC 6455, 4.2.2.
@@ -50,51 +50,57 @@ impl Write for Sheet {
 }
 
 /// What was written.
-pub(crate) fn text_of(alloc: Global, mut written: Consumer<u8, Global>) -> Result<String, Fail> {
+pub(crate) fn text_of(rt: &impl Abort, alloc: Global, mut written: Consumer<u8, Global>) -> String {
     let mut bytes = Vec::new(alloc);
     for _ in 0..1 << 12 {
         let Ok(byte) = written.pop() else {
             break;
         };
-        bytes.push(byte)?;
+        bytes.push(byte).expect(rt, "memory");
     }
-    let text = std::str::from_utf8(bytes.as_slice())?;
-    Ok(String::from_str(alloc, text)?)
+    let text = std::str::from_utf8(bytes.as_slice()).expect(rt, "UTF-8");
+    String::from_str(alloc, text).expect(rt, "memory")
 }
 
 // The answer to the request, and then a frame for each line.
-fn pieces(alloc: Global, lines: &str) -> Result<Vec<Vec<u8>>, AllocError> {
+fn pieces(rt: &impl Abort, alloc: Global, lines: &str) -> Vec<Vec<u8>> {
     let mut pieces = Vec::new(alloc);
     let mut head = Vec::new(alloc);
-    head.extend_from_slice(ANSWER)?;
-    pieces.push(head)?;
+    head.extend_from_slice(ANSWER).expect(rt, "memory");
+    pieces.push(head).expect(rt, "memory");
     for line in lines.lines() {
-        pieces.push(server_frame(alloc, line)?)?;
+        pieces
+            .push(server_frame(rt, alloc, line))
+            .expect(rt, "memory");
     }
-    Ok(pieces)
+    pieces
 }
 
 // The path of the text.
-fn path(alloc: Global, text: &str) -> Result<Path, Fail> {
-    Ok(Path::parse(alloc, text)?)
+fn path(rt: &impl Abort, alloc: Global, text: &str) -> Path {
+    Path::parse(alloc, text).expect(rt, "a path")
 }
 
 // The whole number as a draft.
-fn draft(alloc: Global, text: &str) -> Result<Draft, Fail> {
-    let value = Value::from_str(alloc, text)?;
+fn draft(rt: &impl Abort, alloc: Global, text: &str) -> Draft {
+    let value = Value::from_str(alloc, text).expect(rt, "JSON");
     let draft = Draft::from_value(alloc, &value);
     drop(value);
-    Ok(draft?)
+    draft.expect(rt, "a value")
 }
 
 /// The lines `listen /a`, one whose path was refused, and `set /a 1`.
-pub(crate) fn lines(alloc: Global) -> Result<Vec<Line>, Fail> {
+pub(crate) fn lines(rt: &impl Abort, alloc: Global) -> Vec<Line> {
     let mut lines = Vec::new(alloc);
-    lines.push(Line::Call(Call::Listen(path(alloc, "/a")?)))?;
-    lines.push(Line::Refused)?;
-    let draft = draft(alloc, "1")?;
-    lines.push(Line::Call(Call::Set(path(alloc, "/a")?, draft)))?;
-    Ok(lines)
+    lines
+        .push(Line::Call(Call::Listen(path(rt, alloc, "/a"))))
+        .expect(rt, "memory");
+    lines.push(Line::Refused).expect(rt, "memory");
+    let draft = draft(rt, alloc, "1");
+    lines
+        .push(Line::Call(Call::Set(path(rt, alloc, "/a"), draft)))
+        .expect(rt, "memory");
+    lines
 }
 
 /// The end in words.
@@ -111,17 +117,22 @@ pub(crate) fn end_text(ended: Result<Client, (SockFault, Client)>) -> &'static s
 
 // What Alice's client says and tells over the stream, and how it ends.
 fn driven(
+    rt: &impl Abort,
     alloc: Global,
     served: &str,
     fails: Fails,
-) -> Result<(String, String, &'static str), Fail> {
-    let (stream, sent) = script_of(alloc, pieces(alloc, served)?, fails)?;
-    let (output, told) = RingBuffer::new(alloc, 1 << 12)?;
-    let client = Client::new(alloc, ClientId::parse(alloc, "alice")?, Number::first());
-    let lines = lines(alloc)?;
+) -> (String, String, &'static str) {
+    let (stream, sent) = script_of(rt, alloc, pieces(rt, alloc, served), fails);
+    let (output, told) = RingBuffer::new(alloc, 1 << 12).expect(rt, "memory");
+    let client = Client::new(
+        alloc,
+        ClientId::parse(alloc, "alice").expect(rt, "a client's name"),
+        Number::first(),
+    );
+    let lines = lines(rt, alloc);
     let ended = drive_client(alloc, client, stream, Zeros, lines, &mut Sheet { output });
     let ended = end_text(ended);
-    Ok((said(alloc, sent)?, text_of(alloc, told)?, ended))
+    (said(rt, alloc, sent), text_of(rt, alloc, told), ended)
 }
 
 const SERVED: &str = r#"{"m":"welcome","ops":0,"s":["alice",1,1],"z":1}
@@ -146,10 +157,9 @@ connected false
 ";
 
 #[test]
-fn a_client_tells_its_notices(rt: HostRuntime) -> Result<(), Fail> {
-    let (said, told, ended) = driven(rt.alloc(), SERVED, NONE)?;
+fn a_client_tells_its_notices(rt: HostRuntime) {
+    let (said, told, ended) = driven(&rt, rt.alloc(), SERVED, NONE);
     assert_eq!(rt; said.as_str(), SAID);
     assert_eq!(rt; told.as_str(), TOLD);
     assert_eq!(rt; ended, "done");
-    Ok(())
 }

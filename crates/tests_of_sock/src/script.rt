@@ -4,7 +4,7 @@ use rtrb::{Consumer, Producer, RingBuffer};
 use std::alloc::{AllocError, Global};
 use std::io;
 use std::io::{ErrorKind, Read, Write};
-use std::test::Fail;
+use std::process::Abort;
 
 /// A request that asks for a WebSocket.
 pub(crate) const HEAD: &[u8] =
@@ -35,11 +35,12 @@ pub(crate) const NONE: Fails = Fails { read: 0, write: 0 };
 
 /// A stream of these pieces, and the end from which what is written is taken.
 pub(crate) fn script_of(
+    rt: &impl Abort,
     alloc: Global,
     pieces: Vec<Vec<u8>>,
     fails: Fails,
-) -> Result<(Script, Consumer<u8, Global>), AllocError> {
-    let (output, written) = RingBuffer::new(alloc, 1 << 16)?;
+) -> (Script, Consumer<u8, Global>) {
+    let (output, written) = RingBuffer::new(alloc, 1 << 16).expect(rt, "memory");
     let script = Script {
         pieces,
         piece: 0,
@@ -49,7 +50,7 @@ pub(crate) fn script_of(
         fails,
         output,
     };
-    Ok((script, written))
+    (script, written)
 }
 
 impl Read for Script {
@@ -94,47 +95,53 @@ impl Write for Script {
 }
 
 // A frame without its payload, and without its mask, whose bit is this.
-fn head(alloc: Global, opcode: u8, mask: u8, len: usize) -> Result<Vec<u8>, AllocError> {
+fn head(rt: &impl Abort, alloc: Global, opcode: u8, mask: u8, len: usize) -> Vec<u8> {
     let mut bytes = Vec::new(alloc);
-    bytes.push(0x80 | opcode)?;
+    bytes.push(0x80 | opcode).expect(rt, "memory");
     let len = len as u64;
     if len < 126 {
-        bytes.push(mask | len as u8)?;
+        bytes.push(mask | len as u8).expect(rt, "memory");
     } else if len < 1 << 16 {
-        bytes.push(mask | 126)?;
-        bytes.extend_from_slice(&(len as u16).to_be_bytes())?;
+        bytes.push(mask | 126).expect(rt, "memory");
+        bytes
+            .extend_from_slice(&(len as u16).to_be_bytes())
+            .expect(rt, "memory");
     } else {
-        bytes.push(mask | 127)?;
-        bytes.extend_from_slice(&len.to_be_bytes())?;
+        bytes.push(mask | 127).expect(rt, "memory");
+        bytes
+            .extend_from_slice(&len.to_be_bytes())
+            .expect(rt, "memory");
     }
-    Ok(bytes)
+    bytes
 }
 
 /// A client's frame, whose mask is 0.
-pub(crate) fn frame(alloc: Global, opcode: u8, payload: &[u8]) -> Result<Vec<u8>, AllocError> {
-    let mut bytes = head(alloc, opcode, 0x80, payload.len())?;
-    bytes.extend_from_slice(&[0, 0, 0, 0])?;
-    bytes.extend_from_slice(payload)?;
-    Ok(bytes)
+pub(crate) fn frame(rt: &impl Abort, alloc: Global, opcode: u8, payload: &[u8]) -> Vec<u8> {
+    let mut bytes = head(rt, alloc, opcode, 0x80, payload.len());
+    bytes.extend_from_slice(&[0, 0, 0, 0]).expect(rt, "memory");
+    bytes.extend_from_slice(payload).expect(rt, "memory");
+    bytes
 }
 
 /// A server's frame.
-pub(crate) fn server_frame(alloc: Global, text: &str) -> Result<Vec<u8>, AllocError> {
-    let mut bytes = head(alloc, 1, 0, text.len())?;
-    bytes.extend_from_slice(text.as_bytes())?;
-    Ok(bytes)
+pub(crate) fn server_frame(rt: &impl Abort, alloc: Global, text: &str) -> Vec<u8> {
+    let mut bytes = head(rt, alloc, 1, 0, text.len());
+    bytes
+        .extend_from_slice(text.as_bytes())
+        .expect(rt, "memory");
+    bytes
 }
 
 // The bytes that were written.
-fn bytes_of(alloc: Global, mut written: Consumer<u8, Global>) -> Result<Vec<u8>, AllocError> {
+fn bytes_of(rt: &impl Abort, alloc: Global, mut written: Consumer<u8, Global>) -> Vec<u8> {
     let mut bytes = Vec::new(alloc);
     for _ in 0..1 << 16 {
         let Ok(byte) = written.pop() else {
             break;
         };
-        bytes.push(byte)?;
+        bytes.push(byte).expect(rt, "memory");
     }
-    Ok(bytes)
+    bytes
 }
 
 // Behind the answer to the request.
@@ -169,8 +176,8 @@ fn first_frame(bytes: &[u8]) -> Option<(u8, &[u8], &[u8])> {
 }
 
 /// The texts that were sent, each on a line, and `close` for a close.
-pub(crate) fn said(alloc: Global, written: Consumer<u8, Global>) -> Result<String, Fail> {
-    let bytes = bytes_of(alloc, written)?;
+pub(crate) fn said(rt: &impl Abort, alloc: Global, written: Consumer<u8, Global>) -> String {
+    let bytes = bytes_of(rt, alloc, written);
     let mut rest = frames_in(bytes.as_slice());
     let mut said = String::new(alloc);
     for _ in 0..1000 {
@@ -178,12 +185,14 @@ pub(crate) fn said(alloc: Global, written: Consumer<u8, Global>) -> Result<Strin
             break;
         };
         match opcode {
-            1 => said.push_str(std::str::from_utf8(payload)?)?,
-            8 => said.push_str("close")?,
-            _ => said.push_str("another frame")?,
+            1 => said
+                .push_str(std::str::from_utf8(payload).expect(rt, "UTF-8"))
+                .expect(rt, "memory"),
+            8 => said.push_str("close").expect(rt, "memory"),
+            _ => said.push_str("another frame").expect(rt, "memory"),
         }
-        said.push_str("\n")?;
+        said.push_str("\n").expect(rt, "memory");
         rest = behind;
     }
-    Ok(said)
+    said
 }

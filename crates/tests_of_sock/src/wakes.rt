@@ -5,7 +5,7 @@ use pres_net::{Crowd, Wakeable};
 use std::alloc::Global;
 use std::io::{ErrorKind, Read, Write};
 use std::net::{Net, TcpListener, TcpStream};
-use std::test::Fail;
+use std::process::Abort;
 use std::time::{Duration, Instant};
 use std::{io, thread};
 
@@ -23,16 +23,16 @@ fn pair<R: Net<Listener = TcpListener, Stream = TcpStream>>(
 }
 
 // A stream whose reads wait no longer than this, and its peer.
-fn waking<'a, R: Net<Listener = TcpListener, Stream = TcpStream>>(
+fn waking<'a, R: Net<Listener = TcpListener, Stream = TcpStream> + Abort>(
     rt: &R,
     alloc: Global,
     millis: u64,
     crowd: &'a Crowd,
-) -> Result<(Wakeable<'a>, TcpStream), Fail> {
-    let (near, far) = pair(rt)?;
+) -> (Wakeable<'a>, TcpStream) {
+    let (near, far) = pair(rt).expect(rt, "a connection");
     match Wakeable::new(rt, alloc, near, Duration::from_millis(millis), crowd) {
-        Ok(stream) => Ok((stream, far)),
-        Err(_) => Err("no descriptors")?,
+        Ok(stream) => (stream, far),
+        Err(_) => panic!(rt; "no descriptors"),
     }
 }
 
@@ -42,51 +42,49 @@ fn read(stream: &mut Wakeable<'_>) -> Result<usize, ErrorKind> {
 }
 
 #[test]
-fn time_ends_a_read(rt: HostRuntime) -> Result<(), Fail> {
+fn time_ends_a_read(rt: HostRuntime) {
     let crowd = Crowd::new();
-    let (mut stream, _far) = waking(&rt, rt.alloc(), 30, &crowd)?;
-    let start = Instant::now(&rt)?;
+    let (mut stream, _far) = waking(&rt, rt.alloc(), 30, &crowd);
+    let start = Instant::now(&rt).expect(&rt, "a clock");
     assert_eq!(rt; read(&mut stream), Err(ErrorKind::WouldBlock));
-    assert!(rt; start.elapsed(&rt)? >= Duration::from_millis(30));
-    Ok(())
+    assert!(rt; start.elapsed(&rt).expect(&rt, "a clock") >= Duration::from_millis(30));
 }
 
 #[test]
-fn a_ring_ends_a_read(rt: HostRuntime) -> Result<(), Fail> {
+fn a_ring_ends_a_read(rt: HostRuntime) {
     let crowd = Crowd::new();
-    let (mut stream, _far) = waking(&rt, rt.alloc(), LONG_MILLIS, &crowd)?;
-    let bell = stream.bell()?;
-    let start = Instant::now(&rt)?;
+    let (mut stream, _far) = waking(&rt, rt.alloc(), LONG_MILLIS, &crowd);
+    let bell = stream.bell().expect(&rt, "a bell");
+    let start = Instant::now(&rt).expect(&rt, "a clock");
     let child = thread::spawn(&rt, move || {
         for _ in 0..3u8 {
             thread::sleep(&rt, Duration::from_millis(30));
             bell.ring();
         }
-    })?;
+    })
+    .expect(&rt, "a thread");
     for _ in 0..3u8 {
         assert_eq!(rt; read(&mut stream), Err(ErrorKind::WouldBlock));
     }
-    assert!(rt; start.elapsed(&rt)? < Duration::from_millis(LONG_MILLIS));
+    assert!(rt; start.elapsed(&rt).expect(&rt, "a clock") < Duration::from_millis(LONG_MILLIS));
     child.join(&rt);
-    Ok(())
 }
 
 // Also one before the read, and bytes end a read that doesn't hear its bell.
 #[test]
-fn a_ring_is_heard_once(rt: HostRuntime) -> Result<(), Fail> {
+fn a_ring_is_heard_once(rt: HostRuntime) {
     let crowd = Crowd::new();
-    let (mut stream, mut far) = waking(&rt, rt.alloc(), LONG_MILLIS, &crowd)?;
-    let bell = stream.bell()?;
-    let start = Instant::now(&rt)?;
+    let (mut stream, mut far) = waking(&rt, rt.alloc(), LONG_MILLIS, &crowd);
+    let bell = stream.bell().expect(&rt, "a bell");
+    let start = Instant::now(&rt).expect(&rt, "a clock");
     for _ in 0..5u8 {
         bell.ring();
         bell.ring();
         assert_eq!(rt; read(&mut stream), Err(ErrorKind::WouldBlock));
-        far.write_all(b"abc")?;
+        far.write_all(b"abc").expect(&rt, "a connection");
         assert_eq!(rt; read(&mut stream), Ok(3));
     }
-    assert!(rt; start.elapsed(&rt)? < Duration::from_millis(LONG_MILLIS));
-    Ok(())
+    assert!(rt; start.elapsed(&rt).expect(&rt, "a clock") < Duration::from_millis(LONG_MILLIS));
 }
 
 // How many bytes come until the end.
@@ -105,16 +103,16 @@ fn until_the_end(stream: &mut Wakeable<'_>) -> Result<usize, ErrorKind> {
 
 // The bytes and the end are one report, whether the last read was full or not.
 #[test]
-fn all_bytes_come_and_then_the_end(rt: HostRuntime) -> Result<(), Fail> {
+fn all_bytes_come_and_then_the_end(rt: HostRuntime) {
     for sent in [3, 64, 1_000, 640] {
         let crowd = Crowd::new();
-        let (mut stream, mut far) = waking(&rt, rt.alloc(), LONG_MILLIS, &crowd)?;
-        let start = Instant::now(&rt)?;
-        far.write_all([7u8; 1_000].get(..sent).unwrap_or(&[]))?;
+        let (mut stream, mut far) = waking(&rt, rt.alloc(), LONG_MILLIS, &crowd);
+        let start = Instant::now(&rt).expect(&rt, "a clock");
+        far.write_all([7u8; 1_000].get(..sent).unwrap_or(&[]))
+            .expect(&rt, "a connection");
         drop(far);
         assert_eq!(rt; until_the_end(&mut stream), Ok(sent));
         assert_eq!(rt; read(&mut stream), Ok(0));
-        assert!(rt; start.elapsed(&rt)? < Duration::from_millis(LONG_MILLIS));
+        assert!(rt; start.elapsed(&rt).expect(&rt, "a clock") < Duration::from_millis(LONG_MILLIS));
     }
-    Ok(())
 }

@@ -5,45 +5,44 @@ use pres_body::{print_entries, read_entries};
 use pres_log::Entry;
 use pres_write::Items;
 use std::alloc::Global;
-use std::test::Fail;
+use std::process::Abort;
 
 // The text of the entries.
-fn printed(alloc: Global, entries: Items<Entry>) -> Result<String, Fail> {
+fn printed(rt: &impl Abort, alloc: Global, entries: Items<Entry>) -> String {
     let text = print_entries(alloc, entries.as_slice());
     drop(entries);
-    Ok(text?)
+    text.expect(rt, "memory")
 }
 
 // The text that the entries of a text are printed as, `same` where it is the text, or `none`.
-fn body_answer(alloc: Global, text: &str) -> Result<String, Fail> {
-    let Some(entries) = read_entries(alloc, text)? else {
-        return Ok(String::from_str(alloc, "none")?);
+fn body_answer(rt: &impl Abort, alloc: Global, text: &str) -> String {
+    let Some(entries) = read_entries(alloc, text).expect(rt, "memory") else {
+        return String::from_str(alloc, "none").expect(rt, "memory");
     };
-    let again = printed(alloc, entries)?;
+    let again = printed(rt, alloc, entries);
     if again.as_str() == text {
-        return Ok(String::from_str(alloc, "same")?);
+        return String::from_str(alloc, "same").expect(rt, "memory");
     }
-    Ok(again)
+    again
 }
 
 // Notes the line where something else is answered.
-fn try_line(alloc: Global, line: &str, wrong: &mut String) -> Result<(), Fail> {
-    let (case, wanted) = line.split_once(" => ").ok_or("no answer")?;
-    let said = body_answer(alloc, case)?;
+fn try_line(rt: &impl Abort, alloc: Global, line: &str, wrong: &mut String) {
+    let (case, wanted) = line.split_once(" => ").expect(rt, "an answer");
+    let said = body_answer(rt, alloc, case);
     if said.as_str() != wanted {
-        let line = format!(in alloc; "{case} => {said}\n")?;
-        wrong.push_str(line.as_str())?;
+        let line = format!(in alloc; "{case} => {said}\n").expect(rt, "memory");
+        wrong.push_str(line.as_str()).expect(rt, "memory");
     }
-    Ok(())
 }
 
 // The lines that answer something else, each with that.
-fn wrong_in(alloc: Global, lines: &str) -> Result<String, Fail> {
+fn wrong_in(rt: &impl Abort, alloc: Global, lines: &str) -> String {
     let mut wrong = String::new(alloc);
     for line in lines.lines() {
-        try_line(alloc, line, &mut wrong)?;
+        try_line(rt, alloc, line, &mut wrong);
     }
-    Ok(wrong)
+    wrong
 }
 
 const SAVED: &str = r#"[{"e":"open","s":["alice",1,1]}] => same
@@ -127,69 +126,70 @@ const NO_PUTS: &str = r#"[{"e":"left","q":1,"rows":[["/b",1],["/a",2]],"s":["a",
 [{"e":"left","q":1,"rows":[["/a",{".sv":"now"}]],"s":["a",1,1]}] => none"#;
 
 #[test]
-fn bodies_are_read_and_printed(rt: HostRuntime) -> Result<(), Fail> {
-    assert_eq!(rt; wrong_in(rt.alloc(), SAVED)?.as_str(), "");
-    Ok(())
+fn bodies_are_read_and_printed(rt: HostRuntime) {
+    assert_eq!(rt; wrong_in(&rt, rt.alloc(), SAVED).as_str(), "");
 }
 
 #[test]
-fn bodies_are_printed_tidily(rt: HostRuntime) -> Result<(), Fail> {
-    assert_eq!(rt; wrong_in(rt.alloc(), UNTIDY)?.as_str(), "");
-    Ok(())
+fn bodies_are_printed_tidily(rt: HostRuntime) {
+    assert_eq!(rt; wrong_in(&rt, rt.alloc(), UNTIDY).as_str(), "");
 }
 
 #[test]
-fn other_texts_are_none(rt: HostRuntime) -> Result<(), Fail> {
-    assert_eq!(rt; wrong_in(rt.alloc(), NO_BATCHES)?.as_str(), "");
-    assert_eq!(rt; wrong_in(rt.alloc(), NO_ENTRIES)?.as_str(), "");
-    assert_eq!(rt; wrong_in(rt.alloc(), NO_PUTS)?.as_str(), "");
-    Ok(())
+fn other_texts_are_none(rt: HostRuntime) {
+    assert_eq!(rt; wrong_in(&rt, rt.alloc(), NO_BATCHES).as_str(), "");
+    assert_eq!(rt; wrong_in(&rt, rt.alloc(), NO_ENTRIES).as_str(), "");
+    assert_eq!(rt; wrong_in(&rt, rt.alloc(), NO_PUTS).as_str(), "");
 }
 
 // An end with a write of the value at a path of so many keys.
-fn deep_text(alloc: Global, keys: usize, value: &str) -> Result<String, Fail> {
+fn deep_text(rt: &impl Abort, alloc: Global, keys: usize, value: &str) -> String {
     let mut path = String::new(alloc);
     for _ in 0..keys {
-        path.push_str("/a")?;
+        path.push_str("/a").expect(rt, "memory");
     }
-    Ok(format!(in alloc;
+    format!(in alloc;
         r#"[{{"e":"ended","q":null,"rows":[["{path}",{value}]],"s":["a",1,1],"why":"lost"}}]"#
-    )?)
+    ).expect(rt, "memory")
 }
 
-fn deep_answer(alloc: Global, keys: usize, value: &str) -> Result<String, Fail> {
-    let text = deep_text(alloc, keys, value)?;
-    body_answer(alloc, text.as_str())
+fn deep_answer(rt: &impl Abort, alloc: Global, keys: usize, value: &str) -> String {
+    let text = deep_text(rt, alloc, keys, value);
+    body_answer(rt, alloc, text.as_str())
 }
 
 #[test]
-fn writes_reach_32_keys(rt: HostRuntime) -> Result<(), Fail> {
-    assert_eq!(rt; deep_answer(rt.alloc(), 32, "1")?.as_str(), "same");
-    assert_eq!(rt; deep_answer(rt.alloc(), 31, r#"{"b":1}"#)?.as_str(), "same");
-    assert_eq!(rt; deep_answer(rt.alloc(), 32, r#"{"b":1}"#)?.as_str(), "none");
-    assert_eq!(rt; deep_answer(rt.alloc(), 33, "null")?.as_str(), "none");
-    Ok(())
+fn writes_reach_32_keys(rt: HostRuntime) {
+    assert_eq!(rt; deep_answer(&rt, rt.alloc(), 32, "1").as_str(), "same");
+    assert_eq!(rt;
+        deep_answer(&rt, rt.alloc(), 31, r#"{"b":1}"#).as_str(),
+        "same"
+    );
+    assert_eq!(rt;
+        deep_answer(&rt, rt.alloc(), 32, r#"{"b":1}"#).as_str(),
+        "none"
+    );
+    assert_eq!(rt; deep_answer(&rt, rt.alloc(), 33, "null").as_str(), "none");
 }
 
 // A Left with a row for each number from 1000 to before the end, at paths that rise.
-fn wide_text(alloc: Global, end: usize) -> Result<String, Fail> {
+fn wide_text(rt: &impl Abort, alloc: Global, end: usize) -> String {
     let mut all = String::new(alloc);
     for row in 1000..end {
         let comma = if row == 1000 { "" } else { "," };
-        let row = format!(in alloc; r#"{comma}["/k{row}",null]"#)?;
-        all.push_str(row.as_str())?;
+        let row = format!(in alloc; r#"{comma}["/k{row}",null]"#).expect(rt, "memory");
+        all.push_str(row.as_str()).expect(rt, "memory");
     }
-    Ok(format!(in alloc; r#"[{{"e":"left","q":1,"rows":[{all}],"s":["a",1,1]}}]"#)?)
+    format!(in alloc; r#"[{{"e":"left","q":1,"rows":[{all}],"s":["a",1,1]}}]"#).expect(rt, "memory")
 }
 
-fn wide_answer(alloc: Global, end: usize) -> Result<String, Fail> {
-    let text = wide_text(alloc, end)?;
-    body_answer(alloc, text.as_str())
+fn wide_answer(rt: &impl Abort, alloc: Global, end: usize) -> String {
+    let text = wide_text(rt, alloc, end);
+    body_answer(rt, alloc, text.as_str())
 }
 
 #[test]
-fn lefts_hold_256_rows(rt: HostRuntime) -> Result<(), Fail> {
-    assert_eq!(rt; wide_answer(rt.alloc(), 1256)?.as_str(), "same");
-    assert_eq!(rt; wide_answer(rt.alloc(), 1257)?.as_str(), "none");
-    Ok(())
+fn lefts_hold_256_rows(rt: HostRuntime) {
+    assert_eq!(rt; wide_answer(&rt, rt.alloc(), 1256).as_str(), "same");
+    assert_eq!(rt; wide_answer(&rt, rt.alloc(), 1257).as_str(), "none");
 }

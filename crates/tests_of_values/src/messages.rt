@@ -9,7 +9,7 @@ use pres_wire::{
 use pres_write::{Kept, MAX_SAFE_INTEGER};
 use serde_json::Value;
 use std::alloc::Global;
-use std::test::Fail;
+use std::process::Abort;
 
 // The number, and 1 in the place of what is none.
 fn number(value: u64) -> Number {
@@ -23,192 +23,195 @@ fn stamp(incarnation: u64, attempt: u64) -> Stamp {
     }
 }
 
-fn session(alloc: Global, client: &str) -> Result<SessionId, Fail> {
-    Ok(SessionId::of(ClientId::parse(alloc, client)?, stamp(1, 1)))
+fn session(rt: &impl Abort, alloc: Global, client: &str) -> SessionId {
+    SessionId::of(
+        ClientId::parse(alloc, client).expect(rt, "a client's name"),
+        stamp(1, 1),
+    )
 }
 
 // ---- numbers
 
 #[test]
-fn numbers_count_from_1(rt: HostRuntime) -> Result<(), Fail> {
-    let first = Count::zero().next().ok_or("no number")?;
+fn numbers_count_from_1(rt: HostRuntime) {
+    let first = Count::zero().next().expect(&rt, "a number");
     assert_eq!(rt; first, Number::first());
     assert_eq!(rt; first.next().map(Number::get), Some(2));
     assert_eq!(rt; Number::new(0), None);
-    Ok(())
 }
 
 #[test]
-fn numbers_end_at_the_greatest(rt: HostRuntime) -> Result<(), Fail> {
-    let last = Number::new(9007199254740991).ok_or("no number")?;
+fn numbers_end_at_the_greatest(rt: HostRuntime) {
+    let last = Number::new(9007199254740991).expect(&rt, "a number");
     assert_eq!(rt; last.get(), MAX_SAFE_INTEGER);
     assert_eq!(rt; last.next(), None);
     assert_eq!(rt; Number::new(9007199254740992), None);
-    Ok(())
 }
 
 #[test]
-fn counts_go_up_to_numbers(rt: HostRuntime) -> Result<(), Fail> {
-    let last = Number::new(9007199254740991).ok_or("no number")?;
+fn counts_go_up_to_numbers(rt: HostRuntime) {
+    let last = Number::new(9007199254740991).expect(&rt, "a number");
     assert_eq!(rt; Count::new(9007199254740991), Some(Count::up_to(last)));
     assert_eq!(rt; Count::up_to(last).get(), last.get());
-    Ok(())
 }
 
 #[test]
-fn numbers_are_displayed(rt: HostRuntime) -> Result<(), Fail> {
-    let said = format!(in rt.alloc(); "{} {}", number(12), Count::up_to(number(34)))?;
-    assert_eq!(rt; said.as_str(), "12 34");
-    Ok(())
+fn numbers_are_displayed(rt: HostRuntime) {
+    let said = format!(in rt.alloc(); "{} {}", number(12), Count::up_to(number(34)));
+    assert_eq!(rt; said.expect(&rt, "memory").as_str(), "12 34");
 }
 
 // ---- clients and sessions
 
 // The text of a client id, or why it is refused.
-fn id_answer(alloc: Global, text: &str) -> Result<String, Fail> {
+fn id_answer(rt: &impl Abort, alloc: Global, text: &str) -> String {
     match ClientId::parse(alloc, text) {
-        Ok(id) => Ok(String::from_str(alloc, id.text())?),
-        Err(IdFault::NotAnId) => Ok(String::from_str(alloc, "refused")?),
-        Err(IdFault::Memory) => Err("out of memory")?,
+        Ok(id) => String::from_str(alloc, id.text()).expect(rt, "memory"),
+        Err(IdFault::NotAnId) => String::from_str(alloc, "refused").expect(rt, "memory"),
+        Err(IdFault::Memory) => panic!(rt; "out of memory"),
     }
 }
 
-fn second_of(alloc: Global, first: &SessionId) -> Result<SessionId, Fail> {
-    Ok(SessionId::of(first.client.copy(alloc)?, stamp(2, 1)))
+fn second_of(rt: &impl Abort, alloc: Global, first: &SessionId) -> SessionId {
+    SessionId::of(first.client.copy(alloc).expect(rt, "memory"), stamp(2, 1))
 }
 
 #[test]
-fn sessions_of_a_client(rt: HostRuntime) -> Result<(), Fail> {
-    let alice = ClientId::parse(rt.alloc(), "alice")?;
+fn sessions_of_a_client(rt: HostRuntime) {
+    let alice = ClientId::parse(rt.alloc(), "alice").expect(&rt, "a client's name");
     let first = SessionId::of(alice, stamp(1, 2));
-    let second = second_of(rt.alloc(), &first)?;
-    let copied = first.copy(rt.alloc())?;
+    let second = second_of(&rt, rt.alloc(), &first);
+    let copied = first.copy(rt.alloc()).expect(&rt, "memory");
     assert!(rt; copied == first);
     assert!(rt; first < second);
     assert!(rt; first.stamp().is_earlier(&second.stamp()));
     assert!(rt; !second.stamp().is_earlier(&first.stamp()));
-    let said = format!(in rt.alloc(); "{} {first} {second}", first.stamp())?;
+    let said = format!(in rt.alloc(); "{} {first} {second}", first.stamp()).expect(&rt, "memory");
     assert_eq!(rt; said.as_str(), "1.2 alice/1.2 alice/2.1");
-    Ok(())
 }
 
-fn session_in(alloc: Global, text: &str) -> Result<Option<SessionId>, Fail> {
-    let value = Value::from_str(alloc, text)?;
+fn session_in(rt: &impl Abort, alloc: Global, text: &str) -> Option<SessionId> {
+    let value = Value::from_str(alloc, text).expect(rt, "JSON");
     let session = SessionId::from_value(alloc, &value);
     drop(value);
-    Ok(session?)
+    session.expect(rt, "a session")
 }
 
-fn json_text(alloc: Global, value: Value) -> Result<String, Fail> {
+fn json_text(rt: &impl Abort, alloc: Global, value: Value) -> String {
     let text = value.to_string(alloc);
     drop(value);
-    Ok(text?)
+    text.expect(rt, "memory")
 }
 
 // The JSON of the session and of its stamp.
-fn session_json(alloc: Global, session: &SessionId) -> Result<String, Fail> {
-    let whole = json_text(alloc, session.to_value(alloc)?)?;
-    let stamp = json_text(alloc, session.stamp().to_value(alloc)?)?;
-    Ok(format!(in alloc; "{whole} {stamp}")?)
+fn session_json(rt: &impl Abort, alloc: Global, session: &SessionId) -> String {
+    let whole = json_text(rt, alloc, session.to_value(alloc).expect(rt, "memory"));
+    let stamp = json_text(
+        rt,
+        alloc,
+        session.stamp().to_value(alloc).expect(rt, "memory"),
+    );
+    format!(in alloc; "{whole} {stamp}").expect(rt, "memory")
 }
 
 // The JSON of a session's JSON, or `none`.
-fn session_answer(alloc: Global, text: &str) -> Result<String, Fail> {
-    match session_in(alloc, text)? {
-        Some(session) => session_json(alloc, &session),
-        None => Ok(String::from_str(alloc, "none")?),
+fn session_answer(rt: &impl Abort, alloc: Global, text: &str) -> String {
+    match session_in(rt, alloc, text) {
+        Some(session) => session_json(rt, alloc, &session),
+        None => String::from_str(alloc, "none").expect(rt, "memory"),
     }
 }
 
 // ---- messages to the server
 
-fn message_text(alloc: Global, message: Up) -> Result<String, Fail> {
+fn message_text(rt: &impl Abort, alloc: Global, message: Up) -> String {
     let text = message.encode(alloc);
     drop(message);
-    Ok(text?)
+    text.expect(rt, "memory")
 }
 
-fn copied_text(alloc: Global, message: Up) -> Result<String, Fail> {
+fn copied_text(rt: &impl Abort, alloc: Global, message: Up) -> String {
     let copied = message.copy(alloc);
     drop(message);
-    message_text(alloc, copied?)
+    message_text(rt, alloc, copied.expect(rt, "memory"))
 }
 
 // The text that the message of a text is printed as.
-fn printed_again(alloc: Global, text: &str) -> Result<String, Fail> {
-    let message = Up::decode(alloc, text)?;
-    copied_text(alloc, message)
+fn printed_again(rt: &impl Abort, alloc: Global, text: &str) -> String {
+    let message = Up::decode(alloc, text).expect(rt, "a message");
+    copied_text(rt, alloc, message)
 }
 
 // The text that the message of a text is printed as, or `same`.
-fn message_answer(alloc: Global, text: &str) -> Result<String, Fail> {
-    let printed = printed_again(alloc, text)?;
+fn message_answer(rt: &impl Abort, alloc: Global, text: &str) -> String {
+    let printed = printed_again(rt, alloc, text);
     if printed.as_str() == text {
-        return Ok(String::from_str(alloc, "same")?);
+        return String::from_str(alloc, "same").expect(rt, "memory");
     }
-    Ok(printed)
+    printed
 }
 
 // The text of the client's write 1, of a case such as `2 OPERATION`.
-fn write_text(alloc: Global, case: &str) -> Result<String, Fail> {
-    let (q, op) = case.split_once(' ').ok_or("no operation")?;
-    Ok(format!(in alloc; r#"{{"m":"op","n":1,"op":{op},"q":{q},"s":["alice",1,1]}}"#)?)
+fn write_text(rt: &impl Abort, alloc: Global, case: &str) -> String {
+    let (q, op) = case.split_once(' ').expect(rt, "an operation");
+    let text = format!(in alloc; r#"{{"m":"op","n":1,"op":{op},"q":{q},"s":["alice",1,1]}}"#);
+    text.expect(rt, "memory")
 }
 
 // The text of a Left, of a case such as `2 OPERATION`.
-fn left_text(alloc: Global, case: &str) -> Result<String, Fail> {
-    let (q, op) = case.split_once(' ').ok_or("no operation")?;
-    Ok(format!(in alloc; r#"{{"m":"left","op":{op},"q":{q},"s":["alice",1,1]}}"#)?)
+fn left_text(rt: &impl Abort, alloc: Global, case: &str) -> String {
+    let (q, op) = case.split_once(' ').expect(rt, "an operation");
+    format!(in alloc; r#"{{"m":"left","op":{op},"q":{q},"s":["alice",1,1]}}"#).expect(rt, "memory")
 }
 
 const HELLO: &str = r#"{"m":"hello","s":["a",1,1]}"#;
 
 // A Hello, filled up with spaces to so many bytes, and an end, of a case such as `40+x`.
-fn filled_text(alloc: Global, case: &str) -> Result<String, Fail> {
-    let (bytes, end) = case.split_once('+').ok_or("no end")?;
-    let bytes: usize = bytes.parse()?;
-    let mut text = String::from_str(alloc, HELLO)?;
+fn filled_text(rt: &impl Abort, alloc: Global, case: &str) -> String {
+    let (bytes, end) = case.split_once('+').expect(rt, "an end");
+    let bytes: usize = bytes.parse().expect(rt, "a number");
+    let mut text = String::from_str(alloc, HELLO).expect(rt, "memory");
     for _ in HELLO.len()..bytes {
-        text.push(' ')?;
+        text.push(' ').expect(rt, "memory");
     }
-    text.push_str(end)?;
-    Ok(text)
+    text.push_str(end).expect(rt, "memory");
+    text
 }
 
-fn fault_of(alloc: Global, text: &str) -> Result<WireFault, Fail> {
-    Ok(Up::decode(alloc, text).err().ok_or("accepted")?)
+fn fault_of(rt: &impl Abort, alloc: Global, text: &str) -> WireFault {
+    Up::decode(alloc, text).err().expect(rt, "a refusal")
 }
 
 // The number and the name of a text's refusal, and the refusal.
-fn refusal(alloc: Global, text: &str) -> Result<String, Fail> {
-    let fault = fault_of(alloc, text)?;
-    Ok(format!(in alloc; "{} {} {fault:?}", fault.number(), fault.name())?)
+fn refusal(rt: &impl Abort, alloc: Global, text: &str) -> String {
+    let fault = fault_of(rt, alloc, text);
+    format!(in alloc; "{} {} {fault:?}", fault.number(), fault.name()).expect(rt, "memory")
 }
 
 // The refusal of the message with the value between its parts.
-fn refusal_of(alloc: Global, before: &str, value: &str, after: &str) -> Result<String, Fail> {
-    let text = format!(in alloc; "{before}{value}{after}")?;
-    refusal(alloc, text.as_str())
+fn refusal_of(rt: &impl Abort, alloc: Global, before: &str, value: &str, after: &str) -> String {
+    let text = format!(in alloc; "{before}{value}{after}").expect(rt, "memory");
+    refusal(rt, alloc, text.as_str())
 }
 
 // The message with each value in the place of `_`: its refusal, where another one follows.
-fn field_refusals(alloc: Global, message: &str, values: &str) -> Result<String, Fail> {
-    let (before, after) = message.split_once('_').ok_or("no place")?;
+fn field_refusals(rt: &impl Abort, alloc: Global, message: &str, values: &str) -> String {
+    let (before, after) = message.split_once('_').expect(rt, "a place");
     let mut last = String::new(alloc);
     let mut all = String::new(alloc);
     for value in values.split(" ; ") {
-        let said = refusal_of(alloc, before, value, after)?;
+        let said = refusal_of(rt, alloc, before, value, after);
         if said != last {
-            all.push_str(said.as_str())?;
+            all.push_str(said.as_str()).expect(rt, "memory");
         }
         last = said;
     }
-    Ok(all)
+    all
 }
 
-fn fields_answer(alloc: Global, case: &str) -> Result<String, Fail> {
-    let (message, values) = case.split_once(" with ").ok_or("no values")?;
-    field_refusals(alloc, message, values)
+fn fields_answer(rt: &impl Abort, alloc: Global, case: &str) -> String {
+    let (message, values) = case.split_once(" with ").expect(rt, "values");
+    field_refusals(rt, alloc, message, values)
 }
 
 // What a line of a table is about.
@@ -231,53 +234,54 @@ enum Table {
     Unread,
 }
 
-fn answer(alloc: Global, table: Table, case: &str) -> Result<String, Fail> {
+fn answer(rt: &impl Abort, alloc: Global, table: Table, case: &str) -> String {
     match table {
-        Table::Ids => id_answer(alloc, case),
-        Table::Sessions => session_answer(alloc, case),
-        Table::Messages => message_answer(alloc, case),
-        Table::Writes => message_answer(alloc, write_text(alloc, case)?.as_str()),
-        Table::Left => message_answer(alloc, left_text(alloc, case)?.as_str()),
-        Table::Refusals => refusal(alloc, case),
-        Table::RefusedWrites => refusal(alloc, write_text(alloc, case)?.as_str()),
-        Table::RefusedLeft => refusal(alloc, left_text(alloc, case)?.as_str()),
-        Table::Fields => fields_answer(alloc, case),
-        Table::Pushes => push_answer(alloc, case),
-        Table::Filled => message_answer(alloc, filled_text(alloc, case)?.as_str()),
-        Table::RefusedFilled => refusal(alloc, filled_text(alloc, case)?.as_str()),
-        Table::ToClients => to_client(alloc, case),
-        Table::Read => read_answer(alloc, case),
-        Table::Unread => unread_answer(alloc, case),
+        Table::Ids => id_answer(rt, alloc, case),
+        Table::Sessions => session_answer(rt, alloc, case),
+        Table::Messages => message_answer(rt, alloc, case),
+        Table::Writes => message_answer(rt, alloc, write_text(rt, alloc, case).as_str()),
+        Table::Left => message_answer(rt, alloc, left_text(rt, alloc, case).as_str()),
+        Table::Refusals => refusal(rt, alloc, case),
+        Table::RefusedWrites => refusal(rt, alloc, write_text(rt, alloc, case).as_str()),
+        Table::RefusedLeft => refusal(rt, alloc, left_text(rt, alloc, case).as_str()),
+        Table::Fields => fields_answer(rt, alloc, case),
+        Table::Pushes => push_answer(rt, alloc, case),
+        Table::Filled => message_answer(rt, alloc, filled_text(rt, alloc, case).as_str()),
+        Table::RefusedFilled => refusal(rt, alloc, filled_text(rt, alloc, case).as_str()),
+        Table::ToClients => to_client(rt, alloc, case),
+        Table::Read => read_answer(rt, alloc, case),
+        Table::Unread => unread_answer(rt, alloc, case),
     }
 }
 
 // Notes the line where something else is answered.
-fn try_line(alloc: Global, table: Table, line: &str, wrong: &mut String) -> Result<(), Fail> {
-    let (case, wanted) = line.split_once(" => ").ok_or("no answer")?;
-    let said = answer(alloc, table, case)?;
+fn try_line(rt: &impl Abort, alloc: Global, table: Table, line: &str, wrong: &mut String) {
+    let (case, wanted) = line.split_once(" => ").expect(rt, "an answer");
+    let said = answer(rt, alloc, table, case);
     if said.as_str() != wanted {
-        let line = format!(in alloc; "{case} => {said}\n")?;
-        wrong.push_str(line.as_str())?;
+        let line = format!(in alloc; "{case} => {said}\n").expect(rt, "memory");
+        wrong.push_str(line.as_str()).expect(rt, "memory");
     }
-    Ok(())
 }
 
 // The lines that answer something else, each with that.
-fn wrong_in(alloc: Global, table: Table, lines: &str) -> Result<String, Fail> {
+fn wrong_in(rt: &impl Abort, alloc: Global, table: Table, lines: &str) -> String {
     let mut wrong = String::new(alloc);
     for line in lines.lines() {
-        try_line(alloc, table, line, &mut wrong)?;
+        try_line(rt, alloc, table, line, &mut wrong);
     }
-    Ok(wrong)
+    wrong
 }
 
 // The lines of several tables that answer something else, each with that.
-fn wrong_in_all(alloc: Global, tables: &[(Table, &str)]) -> Result<String, Fail> {
+fn wrong_in_all(rt: &impl Abort, alloc: Global, tables: &[(Table, &str)]) -> String {
     let mut wrong = String::new(alloc);
     for (table, lines) in tables {
-        wrong.push_str(wrong_in(alloc, *table, lines)?.as_str())?;
+        wrong
+            .push_str(wrong_in(rt, alloc, *table, lines).as_str())
+            .expect(rt, "memory");
     }
-    Ok(wrong)
+    wrong
 }
 
 const IDS: &str = "a-Z_09 => a-Z_09
@@ -377,80 +381,75 @@ const NUMBERS: &str = r#"{"m":"op","s":["a",1,1],"q":_} with null ; 0 ; 1.0 ; -1
 {"m":"bye","s":["a",1,1],"q":_} with 18446744073709551616 => 5 Field Field(Q)"#;
 
 #[test]
-fn ids_are_plain_words(rt: HostRuntime) -> Result<(), Fail> {
-    let wrong = wrong_in(rt.alloc(), Table::Ids, IDS)?;
+fn ids_are_plain_words(rt: HostRuntime) {
+    let wrong = wrong_in(&rt, rt.alloc(), Table::Ids, IDS);
     assert_eq!(rt; wrong.as_str(), "");
-    Ok(())
 }
 
 #[test]
-fn sessions_are_read_and_printed(rt: HostRuntime) -> Result<(), Fail> {
-    let wrong = wrong_in(rt.alloc(), Table::Sessions, SESSIONS)?;
+fn sessions_are_read_and_printed(rt: HostRuntime) {
+    let wrong = wrong_in(&rt, rt.alloc(), Table::Sessions, SESSIONS);
     assert_eq!(rt; wrong.as_str(), "");
-    Ok(())
 }
 
 #[test]
-fn messages_are_read_and_printed(rt: HostRuntime) -> Result<(), Fail> {
+fn messages_are_read_and_printed(rt: HostRuntime) {
     let tables = [
         (Table::Messages, MESSAGES),
         (Table::Messages, UNTIDY),
         (Table::Writes, WRITES),
         (Table::Left, LEFT),
     ];
-    let wrong = wrong_in_all(rt.alloc(), &tables)?;
+    let wrong = wrong_in_all(&rt, rt.alloc(), &tables);
     assert_eq!(rt; wrong.as_str(), "");
-    Ok(())
 }
 
 #[test]
-fn texts_are_refused(rt: HostRuntime) -> Result<(), Fail> {
+fn texts_are_refused(rt: HostRuntime) {
     let tables = [
         (Table::Refusals, REFUSALS),
         (Table::RefusedWrites, REFUSED_WRITES),
         (Table::RefusedLeft, REFUSED_LEFT),
     ];
-    let wrong = wrong_in_all(rt.alloc(), &tables)?;
+    let wrong = wrong_in_all(&rt, rt.alloc(), &tables);
     assert_eq!(rt; wrong.as_str(), "");
-    Ok(())
 }
 
 #[test]
-fn refusals_are_displayed(rt: HostRuntime) -> Result<(), Fail> {
-    let told = WireFault::Field(Field::N).to_string(rt.alloc())?;
+fn refusals_are_displayed(rt: HostRuntime) {
+    let told = WireFault::Field(Field::N)
+        .to_string(rt.alloc())
+        .expect(&rt, "memory");
     assert_eq!(rt; told.as_str(), "the field n is missing or wrong");
-    Ok(())
 }
 
 #[test]
-fn fields_are_checked(rt: HostRuntime) -> Result<(), Fail> {
+fn fields_are_checked(rt: HostRuntime) {
     let tables = [
         (Table::Fields, HELLO_SESSIONS),
         (Table::Fields, OP_SESSIONS),
         (Table::Fields, BYE_SESSIONS),
         (Table::Fields, NUMBERS),
     ];
-    let wrong = wrong_in_all(rt.alloc(), &tables)?;
+    let wrong = wrong_in_all(&rt, rt.alloc(), &tables);
     assert_eq!(rt; wrong.as_str(), "");
-    Ok(())
 }
 
-fn q_of(alloc: Global, text: &str) -> Result<Option<Number>, Fail> {
-    let message = Up::decode(alloc, text)?;
+fn q_of(rt: &impl Abort, alloc: Global, text: &str) -> Option<Number> {
+    let message = Up::decode(alloc, text).expect(rt, "a message");
     let q = message.q();
     drop(message);
-    Ok(q)
+    q
 }
 
 #[test]
-fn messages_are_numbered(rt: HostRuntime) -> Result<(), Fail> {
+fn messages_are_numbered(rt: HostRuntime) {
     let cancel = r#"{"m":"cancel","path":"/","q":2,"s":["a",1,1]}"#;
-    assert_eq!(rt; q_of(rt.alloc(), cancel)?, Some(number(2)));
+    assert_eq!(rt; q_of(&rt, rt.alloc(), cancel), Some(number(2)));
     assert_eq!(rt;
-        q_of(rt.alloc(), r#"{"m":"beat","q":2,"s":["a",1,1]}"#)?,
+        q_of(&rt, rt.alloc(), r#"{"m":"beat","q":2,"s":["a",1,1]}"#),
         None
     );
-    Ok(())
 }
 
 const LONGEST: &str = r#"1048576+ => {"m":"hello","s":["a",1,1]}"#;
@@ -458,35 +457,34 @@ const LONGEST: &str = r#"1048576+ => {"m":"hello","s":["a",1,1]}"#;
 const TOO_LONG: &str = "1048576+x => 3 TooLong TooLong";
 
 #[test]
-fn long_texts_are_refused_first(rt: HostRuntime) -> Result<(), Fail> {
+fn long_texts_are_refused_first(rt: HostRuntime) {
     assert_eq!(rt; MAX_TEXT_BYTES, 1048576);
     let tables = [(Table::Filled, LONGEST), (Table::RefusedFilled, TOO_LONG)];
-    let wrong = wrong_in_all(rt.alloc(), &tables)?;
+    let wrong = wrong_in_all(&rt, rt.alloc(), &tables);
     assert_eq!(rt; wrong.as_str(), "");
-    Ok(())
 }
 
 // ---- messages to clients
 
-fn encoded(alloc: Global, message: Down) -> Result<String, Fail> {
+fn encoded(rt: &impl Abort, alloc: Global, message: Down) -> String {
     let text = message.encode(alloc);
     drop(message);
-    Ok(text?)
+    text.expect(rt, "memory")
 }
 
-fn printed(alloc: Global, message: Down) -> Result<String, Fail> {
+fn printed(rt: &impl Abort, alloc: Global, message: Down) -> String {
     let copied = message.copy(alloc);
     drop(message);
-    encoded(alloc, copied?)
+    encoded(rt, alloc, copied.expect(rt, "memory"))
 }
 
-fn welcome_text(alloc: Global) -> Result<String, Fail> {
+fn welcome_text(rt: &impl Abort, alloc: Global) -> String {
     let message = Down::Welcome {
-        session: session(alloc, "alice")?,
+        session: session(rt, alloc, "alice"),
         z: number(1),
         ops: Count::zero(),
     };
-    printed(alloc, message)
+    printed(rt, alloc, message)
 }
 
 // What a reply's write came to: it wrote, or it was stale over a number.
@@ -499,14 +497,15 @@ fn kept(held: Option<i64>) -> Kept {
 
 // The reply `r` to the write that the server has under its newest number.
 fn reply_text(
+    rt: &impl Abort,
     alloc: Global,
     client: &str,
     r: u64,
     z: u64,
     held: Option<i64>,
-) -> Result<String, Fail> {
+) -> String {
     let message = Down::Reply {
-        session: session(alloc, client)?,
+        session: session(rt, alloc, client),
         r: number(r),
         z: number(z),
         q: number(2),
@@ -514,44 +513,44 @@ fn reply_text(
         done: number(z),
         out: kept(held),
     };
-    printed(alloc, message)
+    printed(rt, alloc, message)
 }
 
-fn gone_text(alloc: Global) -> Result<String, Fail> {
+fn gone_text(rt: &impl Abort, alloc: Global) -> String {
     let message = Down::Gone {
-        session: session(alloc, "alice")?,
+        session: session(rt, alloc, "alice"),
         r: number(3),
         z: number(6),
         why: Why::Lost,
     };
-    printed(alloc, message)
+    printed(rt, alloc, message)
 }
 
-fn armed_text(alloc: Global) -> Result<String, Fail> {
+fn armed_text(rt: &impl Abort, alloc: Global) -> String {
     let message = Down::Armed {
-        session: session(alloc, "alice")?,
+        session: session(rt, alloc, "alice"),
         r: number(3),
         z: number(6),
         q: number(2),
     };
-    printed(alloc, message)
+    printed(rt, alloc, message)
 }
 
-fn denied_text(alloc: Global, why: Limit) -> Result<String, Fail> {
+fn denied_text(rt: &impl Abort, alloc: Global, why: Limit) -> String {
     let message = Down::Denied {
-        session: session(alloc, "alice")?,
+        session: session(rt, alloc, "alice"),
         r: number(3),
         z: number(6),
         q: number(2),
         why,
     };
-    printed(alloc, message)
+    printed(rt, alloc, message)
 }
 
 // A value at `/a`: the number, or null.
-fn snap_text(alloc: Global, held: Option<i64>) -> Result<String, Fail> {
-    let path = Path::parse(alloc, "/a")?;
-    let session = session(alloc, "bob")?;
+fn snap_text(rt: &impl Abort, alloc: Global, held: Option<i64>) -> String {
+    let path = Path::parse(alloc, "/a").expect(rt, "a path");
+    let session = session(rt, alloc, "bob");
     let message = Down::Snap {
         session,
         r: number(1),
@@ -560,7 +559,7 @@ fn snap_text(alloc: Global, held: Option<i64>) -> Result<String, Fail> {
         path,
         value: value(held),
     };
-    printed(alloc, message)
+    printed(rt, alloc, message)
 }
 
 // The number, or null.
@@ -572,78 +571,78 @@ fn value(held: Option<i64>) -> Tree {
 }
 
 // Null at the path.
-fn nothing_at(alloc: Global, path: &str) -> Result<PathValue, Fail> {
-    Ok(PathValue {
-        path: Path::parse(alloc, path)?,
+fn nothing_at(rt: &impl Abort, alloc: Global, path: &str) -> PathValue {
+    PathValue {
+        path: Path::parse(alloc, path).expect(rt, "a path"),
         value: Tree::empty(),
-    })
+    }
 }
 
 // Null at each of the paths, which stand between spaces, if they rise.
-fn nothing_at_each(alloc: Global, paths: &str) -> Result<Option<Values>, Fail> {
+fn nothing_at_each(rt: &impl Abort, alloc: Global, paths: &str) -> Option<Values> {
     let mut items = Vec::new(alloc);
     for path in paths.split_whitespace() {
-        items.push(nothing_at(alloc, path)?)?;
+        items.push(nothing_at(rt, alloc, path)).expect(rt, "memory");
     }
-    Ok(Values::new(items))
+    Values::new(items)
 }
 
 // The text of a Push of null at each of the paths, or `none` where they don't rise.
-fn push_answer(alloc: Global, paths: &str) -> Result<String, Fail> {
-    match nothing_at_each(alloc, paths)? {
-        Some(values) => push_text(alloc, values),
-        None => Ok(String::from_str(alloc, "none")?),
+fn push_answer(rt: &impl Abort, alloc: Global, paths: &str) -> String {
+    match nothing_at_each(rt, alloc, paths) {
+        Some(values) => push_text(rt, alloc, values),
+        None => String::from_str(alloc, "none").expect(rt, "memory"),
     }
 }
 
-fn push_text(alloc: Global, values: Values) -> Result<String, Fail> {
+fn push_text(rt: &impl Abort, alloc: Global, values: Values) -> String {
     let message = Down::Push {
-        session: session(alloc, "bob")?,
+        session: session(rt, alloc, "bob"),
         r: number(2),
         z: number(3),
         values,
     };
-    printed(alloc, message)
+    printed(rt, alloc, message)
 }
 
-fn off_done_text(alloc: Global) -> Result<String, Fail> {
+fn off_done_text(rt: &impl Abort, alloc: Global) -> String {
     let message = Down::OffDone {
-        session: session(alloc, "bob")?,
+        session: session(rt, alloc, "bob"),
         r: number(3),
         z: number(4),
         q: number(2),
     };
-    printed(alloc, message)
+    printed(rt, alloc, message)
 }
 
-fn old_text(alloc: Global) -> Result<String, Fail> {
+fn old_text(rt: &impl Abort, alloc: Global) -> String {
     let message = Down::Fault {
-        session: Some(session(alloc, "a")?),
+        session: Some(session(rt, alloc, "a")),
         code: Code::Old(stamp(1, 1)),
     };
-    printed(alloc, message)
+    printed(rt, alloc, message)
 }
 
-fn bad_text(alloc: Global) -> Result<String, Fail> {
+fn bad_text(rt: &impl Abort, alloc: Global) -> String {
     let message = Down::Fault {
         session: None,
         code: Code::Bad,
     };
-    printed(alloc, message)
+    printed(rt, alloc, message)
 }
 
 // The text of the message to a client that the case names.
-fn to_client(alloc: Global, case: &str) -> Result<String, Fail> {
+fn to_client(rt: &impl Abort, alloc: Global, case: &str) -> String {
     match case {
-        "welcome" => welcome_text(alloc),
-        "gone" => gone_text(alloc),
-        "old" => old_text(alloc),
-        "bad" => bad_text(alloc),
-        "armed" => armed_text(alloc),
-        "plan" => denied_text(alloc, Limit::Plan),
-        "listens" => denied_text(alloc, Limit::Listens),
-        "wrote" => reply_text(alloc, "alice", 2, 5, None),
-        _ => reply_text(alloc, "bob", 3, 7, Some(1)),
+        "welcome" => welcome_text(rt, alloc),
+        "gone" => gone_text(rt, alloc),
+        "old" => old_text(rt, alloc),
+        "bad" => bad_text(rt, alloc),
+        "armed" => armed_text(rt, alloc),
+        "plan" => denied_text(rt, alloc, Limit::Plan),
+        "listens" => denied_text(rt, alloc, Limit::Listens),
+        "wrote" => reply_text(rt, alloc, "alice", 2, 5, None),
+        _ => reply_text(rt, alloc, "bob", 3, 7, Some(1)),
     }
 }
 
@@ -661,17 +660,15 @@ const REPLIES: &str =
 stale => {"done":7,"m":"reply","n":1,"out":{"stale":1},"q":2,"r":3,"s":["bob",1,1],"z":7}"#;
 
 #[test]
-fn messages_to_clients_are_printed(rt: HostRuntime) -> Result<(), Fail> {
-    let wrong = wrong_in(rt.alloc(), Table::ToClients, TO_CLIENTS)?;
+fn messages_to_clients_are_printed(rt: HostRuntime) {
+    let wrong = wrong_in(&rt, rt.alloc(), Table::ToClients, TO_CLIENTS);
     assert_eq!(rt; wrong.as_str(), "");
-    Ok(())
 }
 
 #[test]
-fn answers_to_plans_are_printed(rt: HostRuntime) -> Result<(), Fail> {
-    let wrong = wrong_in(rt.alloc(), Table::ToClients, PLANNED)?;
+fn answers_to_plans_are_printed(rt: HostRuntime) {
+    let wrong = wrong_in(&rt, rt.alloc(), Table::ToClients, PLANNED);
     assert_eq!(rt; wrong.as_str(), "");
-    Ok(())
 }
 
 const PUSHES: &str = r#"/a/b => {"m":"push","r":2,"s":["bob",1,1],"values":[["/a/b",null]],"z":3}
@@ -680,59 +677,57 @@ const PUSHES: &str = r#"/a/b => {"m":"push","r":2,"s":["bob",1,1],"values":[["/a
 /a/b /a => none"#;
 
 #[test]
-fn what_listeners_are_told_is_printed(rt: HostRuntime) -> Result<(), Fail> {
-    let none = snap_text(rt.alloc(), None)?;
+fn what_listeners_are_told_is_printed(rt: HostRuntime) {
+    let none = snap_text(&rt, rt.alloc(), None);
     assert_eq!(rt;
         none.as_str(),
         r#"{"m":"snap","path":"/a","q":1,"r":1,"s":["bob",1,1],"value":null,"z":3}"#
     );
-    let one = snap_text(rt.alloc(), Some(1))?;
+    let one = snap_text(&rt, rt.alloc(), Some(1));
     assert_eq!(rt;
         one.as_str(),
         r#"{"m":"snap","path":"/a","q":1,"r":1,"s":["bob",1,1],"value":1,"z":3}"#
     );
-    let off = off_done_text(rt.alloc())?;
+    let off = off_done_text(&rt, rt.alloc());
     assert_eq!(rt;
         off.as_str(),
         r#"{"m":"offdone","q":2,"r":3,"s":["bob",1,1],"z":4}"#
     );
-    let wrong = wrong_in(rt.alloc(), Table::Pushes, PUSHES)?;
+    let wrong = wrong_in(&rt, rt.alloc(), Table::Pushes, PUSHES);
     assert_eq!(rt; wrong.as_str(), "");
-    let empty = push_answer(rt.alloc(), "")?;
+    let empty = push_answer(&rt, rt.alloc(), "");
     assert_eq!(rt;
         empty.as_str(),
         r#"{"m":"push","r":2,"s":["bob",1,1],"values":[],"z":3}"#
     );
-    Ok(())
 }
 
 #[test]
-fn replies_are_printed(rt: HostRuntime) -> Result<(), Fail> {
-    let wrong = wrong_in(rt.alloc(), Table::ToClients, REPLIES)?;
+fn replies_are_printed(rt: HostRuntime) {
+    let wrong = wrong_in(&rt, rt.alloc(), Table::ToClients, REPLIES);
     assert_eq!(rt; wrong.as_str(), "");
-    Ok(())
 }
 
 // ---- messages to clients, read
 
-fn read_text(alloc: Global, text: &str) -> Result<String, Fail> {
-    let message = Down::decode(alloc, text)?;
-    printed(alloc, message)
+fn read_text(rt: &impl Abort, alloc: Global, text: &str) -> String {
+    let message = Down::decode(alloc, text).expect(rt, "a message");
+    printed(rt, alloc, message)
 }
 
 // The text that the message to a client of a text is printed as, or `same`.
-fn read_answer(alloc: Global, text: &str) -> Result<String, Fail> {
-    let said = read_text(alloc, text)?;
+fn read_answer(rt: &impl Abort, alloc: Global, text: &str) -> String {
+    let said = read_text(rt, alloc, text);
     if said.as_str() == text {
-        return Ok(String::from_str(alloc, "same")?);
+        return String::from_str(alloc, "same").expect(rt, "memory");
     }
-    Ok(said)
+    said
 }
 
 // Why the text is refused as a message to a client.
-fn unread_answer(alloc: Global, text: &str) -> Result<String, Fail> {
-    let fault = Down::decode(alloc, text).err().ok_or("accepted")?;
-    Ok(format!(in alloc; "{fault:?}")?)
+fn unread_answer(rt: &impl Abort, alloc: Global, text: &str) -> String {
+    let fault = Down::decode(alloc, text).err().expect(rt, "a refusal");
+    format!(in alloc; "{fault:?}").expect(rt, "memory")
 }
 
 const READ: &str = r#"{"m":"welcome","ops":0,"s":["alice",1,1],"z":1} => same
@@ -766,8 +761,11 @@ const UNREAD: &str = r#" => NotJson
 {"m":"snap","path":"/a","q":1,"r":1,"s":["bob",1,1],"value":1.5,"z":3} => Field(Value)"#;
 
 #[test]
-fn messages_to_clients_are_read(rt: HostRuntime) -> Result<(), Fail> {
-    let wrong = wrong_in_all(rt.alloc(), &[(Table::Read, READ), (Table::Unread, UNREAD)])?;
+fn messages_to_clients_are_read(rt: HostRuntime) {
+    let wrong = wrong_in_all(
+        &rt,
+        rt.alloc(),
+        &[(Table::Read, READ), (Table::Unread, UNREAD)],
+    );
     assert_eq!(rt; wrong.as_str(), "");
-    Ok(())
 }

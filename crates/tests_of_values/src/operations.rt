@@ -1,7 +1,6 @@
 //! Tests of operations as JSON texts: what they leave in a tree, and why they are refused. A table
 //! is a text of lines, each a case and what it must answer. Each helper holds few values at once.
 
-ghost use Rattle.std.specs.Prelude.{IfOk};
 ghost use Rattle.pres_write.specs.Basics.{Apart};
 ghost use Rattle.pres_write.specs.Outcomes.{writes_in};
 
@@ -12,6 +11,7 @@ use pres_write::{
 };
 use serde_json::Value;
 use std::alloc::Global;
+use std::process::Abort;
 use std::test::Fail;
 
 // What a line of a table is about.
@@ -29,437 +29,418 @@ enum Table {
     Puts,
 }
 
-fn json_text(alloc: Global, value: Value) -> Result<String, Fail> {
+fn json_text(rt: &impl Abort, alloc: Global, value: Value) -> String {
     let text = value.to_string(alloc);
     drop(value);
-    Ok(text?)
+    text.expect(rt, "memory")
 }
 
-fn printed(alloc: Global, tree: Tree) -> Result<String, Fail> {
+fn printed(rt: &impl Abort, alloc: Global, tree: Tree) -> String {
     let value = tree.to_value(alloc);
     drop(tree);
-    json_text(alloc, value?)
+    json_text(rt, alloc, value.expect(rt, "memory"))
 }
 
-fn value_of(alloc: Global, text: &str) -> Result<Value, Fail> {
-    Ok(Value::from_str(alloc, text)?)
+fn value_of(rt: &impl Abort, alloc: Global, text: &str) -> Value {
+    Value::from_str(alloc, text).expect(rt, "JSON")
 }
 
-fn tree_of(alloc: Global, text: &str) -> Result<Tree, Fail> {
-    let value = value_of(alloc, text)?;
+fn tree_of(rt: &impl Abort, alloc: Global, text: &str) -> Tree {
+    let value = value_of(rt, alloc, text);
     let tree = Tree::from_value(alloc, &value);
     drop(value);
-    Ok(tree?)
+    tree.expect(rt, "a tree")
 }
 
-fn draft_of(alloc: Global, text: &str) -> Result<Draft, Fail> {
-    let value = value_of(alloc, text)?;
+fn draft_of(rt: &impl Abort, alloc: Global, text: &str) -> Draft {
+    let value = value_of(rt, alloc, text);
     let draft = Draft::from_value(alloc, &value);
     drop(value);
-    Ok(draft?)
+    draft.expect(rt, "a value")
 }
 
-fn op_of(alloc: Global, text: &str) -> Result<Op, Fail> {
-    let value = value_of(alloc, text)?;
+fn op_of(rt: &impl Abort, alloc: Global, text: &str) -> Op {
+    let value = value_of(rt, alloc, text);
     let op = Op::from_value(alloc, &value);
     drop(value);
-    Ok(op?)
+    op.expect(rt, "an operation")
 }
 
-fn fault_of(alloc: Global, text: &str) -> Result<Option<WriteFault>, Fail> {
-    let value = value_of(alloc, text)?;
+fn fault_of(rt: &impl Abort, alloc: Global, text: &str) -> Option<WriteFault> {
+    let value = value_of(rt, alloc, text);
     let op = Op::from_value(alloc, &value);
     drop(value);
-    Ok(op.err())
+    op.err()
 }
 
-fn resolved(alloc: Global, op: &Op) -> Result<Outcome, Fail>
-    ensures { IfOk result (λ outcome. Apart (writes_in outcome)) }
+fn resolved(rt: &impl Abort, alloc: Global, op: &Op) -> Outcome
+    ensures { Apart (writes_in result) }
 {
     let tree = Tree::empty();
     let outcome = op.resolve(alloc, &tree, Moment::at(5));
     drop(tree);
-    Ok(outcome?)
+    outcome.expect(rt, "memory")
 }
 
-fn outcome_of(alloc: Global, op: &Op) -> Result<Outcome, Fail>
-    ensures { IfOk result (λ outcome. Apart (writes_in outcome)) }
+fn outcome_of(rt: &impl Abort, alloc: Global, op: &Op) -> Outcome
+    ensures { Apart (writes_in result) }
 {
-    let outcome = resolved(alloc, op)?;
+    let outcome = resolved(rt, alloc, op);
     let copied = outcome.copy(alloc);
     drop(outcome);
-    Ok(copied?)
+    copied.expect(rt, "memory")
 }
 
 // What the operation writes on the empty tree at the moment 5.
-fn writes_of(alloc: Global, op: &Op) -> Result<Items<Basic>, Fail>
-    ensures { IfOk result (λ writes. Apart writes) }
+fn writes_of(rt: &impl Abort, alloc: Global, op: &Op) -> Items<Basic>
+    ensures { Apart result }
 {
-    match outcome_of(alloc, op)? {
-        Outcome::Wrote(writes) => Ok(writes),
-        Outcome::Stale(held) => {
-            drop(held);
-            Err("stale")?
-        }
+    match outcome_of(rt, alloc, op) {
+        Outcome::Wrote(writes) => writes,
+        Outcome::Stale(_) => panic!(rt; "stale"),
     }
 }
 
-// The tree that the writes left.
-fn left_by_writes(
-    alloc: Global,
-    tree: Tree,
-    applied: Result<(), WriteFault>,
-) -> Result<String, Fail> {
-    match applied {
-        Ok(()) => printed(alloc, tree),
-        Err(refused) => {
-            drop(tree);
-            Err(refused)?
-        }
-    }
-}
-
-fn left(alloc: Global, op: &Op) -> Result<String, Fail> {
-    let writes = writes_of(alloc, op)?;
+fn left(rt: &impl Abort, alloc: Global, op: &Op) -> String {
+    let writes = writes_of(rt, alloc, op);
     let mut tree = Tree::empty();
-    let applied = apply(alloc, &mut tree, writes.as_slice());
+    apply(alloc, &mut tree, writes.as_slice()).expect(rt, "writes that fit");
     drop(writes);
-    left_by_writes(alloc, tree, applied)
+    printed(rt, alloc, tree)
 }
 
-fn left_together(alloc: Global, op: &Op) -> Result<String, Fail> {
-    let writes = writes_of(alloc, op)?;
+fn left_together(rt: &impl Abort, alloc: Global, op: &Op) -> String {
+    let writes = writes_of(rt, alloc, op);
     let mut tree = Tree::empty();
-    let applied = apply_all(alloc, &mut tree, writes);
-    left_by_writes(alloc, tree, applied)
+    apply_all(alloc, &mut tree, writes).expect(rt, "writes that fit");
+    printed(rt, alloc, tree)
 }
 
 // The same of a copy that is resolved by its parts.
-fn left_moved(alloc: Global, op: &Op) -> Result<String, Fail> {
-    let copied = op.copy(alloc)?;
+fn left_moved(rt: &impl Abort, alloc: Global, op: &Op) -> String {
+    let copied = op.copy(alloc).expect(rt, "memory");
     let mut tree = Tree::empty();
-    match copied.resolve_owned(alloc, &tree, Moment::at(5))? {
-        Outcome::Wrote(writes) => {
-            let applied = apply_all(alloc, &mut tree, writes);
-            left_by_writes(alloc, tree, applied)
-        }
-        Outcome::Stale(held) => {
-            drop(held);
-            drop(tree);
-            Err("stale")?
-        }
-    }
+    let outcome = copied.resolve_owned(alloc, &tree, Moment::at(5));
+    let Outcome::Wrote(writes) = outcome.expect(rt, "memory") else {
+        panic!(rt; "stale");
+    };
+    apply_all(alloc, &mut tree, writes).expect(rt, "writes that fit");
+    printed(rt, alloc, tree)
 }
 
 // The tree that the operation leaves, which each way to apply its writes has to leave.
-fn carried_out(alloc: Global, op: &Op) -> Result<String, Fail> {
-    let text = left(alloc, op)?;
-    if text != left_together(alloc, op)? {
-        return Err("the writes together left another tree")?;
+fn carried_out(rt: &impl Abort, alloc: Global, op: &Op) -> String {
+    let text = left(rt, alloc, op);
+    if text != left_together(rt, alloc, op) {
+        panic!(rt; "the writes together left another tree");
     }
-    if text != left_moved(alloc, op)? {
-        return Err("the moved writes left another tree")?;
+    if text != left_moved(rt, alloc, op) {
+        panic!(rt; "the moved writes left another tree");
     }
-    Ok(text)
+    text
 }
 
-fn form_of(alloc: Global, op: Op) -> Result<String, Fail> {
+fn form_of(rt: &impl Abort, alloc: Global, op: Op) -> String {
     let value = op.to_value(alloc);
     drop(op);
-    json_text(alloc, value?)
+    json_text(rt, alloc, value.expect(rt, "memory"))
 }
 
-fn copied_form(alloc: Global, op: Op) -> Result<String, Fail> {
+fn copied_form(rt: &impl Abort, alloc: Global, op: Op) -> String {
     let copied = op.copy(alloc);
     drop(op);
-    form_of(alloc, copied?)
+    form_of(rt, alloc, copied.expect(rt, "memory"))
 }
 
-fn left_by(alloc: Global, text: &str) -> Result<String, Fail> {
-    let op = op_of(alloc, text)?;
-    let said = carried_out(alloc, &op);
+fn left_by(rt: &impl Abort, alloc: Global, text: &str) -> String {
+    let op = op_of(rt, alloc, text);
+    let said = carried_out(rt, alloc, &op);
     drop(op);
     said
 }
 
-fn again(alloc: Global, text: &str) -> Result<String, Fail> {
-    let op = op_of(alloc, text)?;
-    copied_form(alloc, op)
+fn again(rt: &impl Abort, alloc: Global, text: &str) -> String {
+    let op = op_of(rt, alloc, text);
+    copied_form(rt, alloc, op)
 }
 
 // The tree that the operation leaves, and the operation as it is printed.
-fn left_and_printed(alloc: Global, text: &str) -> Result<String, Fail> {
-    let left = left_by(alloc, text)?;
-    let printed = again(alloc, text)?;
-    Ok(format!(in alloc; "{left} by {printed}")?)
+fn left_and_printed(rt: &impl Abort, alloc: Global, text: &str) -> String {
+    let left = left_by(rt, alloc, text);
+    let printed = again(rt, alloc, text);
+    format!(in alloc; "{left} by {printed}").expect(rt, "memory")
 }
 
-fn refused(alloc: Global, text: &str) -> Result<String, Fail> {
-    let fault = fault_of(alloc, text)?.ok_or("accepted")?;
-    Ok(format!(in alloc; "{} {}", fault.number(), fault.name())?)
+fn refused(rt: &impl Abort, alloc: Global, text: &str) -> String {
+    let fault = fault_of(rt, alloc, text).expect(rt, "a refusal");
+    format!(in alloc; "{} {}", fault.number(), fault.name()).expect(rt, "memory")
 }
 
 // The number of the operation's refusal, or 0.
-fn number_of(alloc: Global, text: &str) -> Result<u8, Fail> {
-    match fault_of(alloc, text)? {
-        Some(fault) => Ok(fault.number()),
-        None => Ok(0),
+fn number_of(rt: &impl Abort, alloc: Global, text: &str) -> u8 {
+    match fault_of(rt, alloc, text) {
+        Some(fault) => fault.number(),
+        None => 0,
     }
 }
 
-fn number_text(alloc: Global, text: &str) -> Result<String, Fail> {
-    Ok(number_of(alloc, text)?.to_string(alloc)?)
+fn number_text(rt: &impl Abort, alloc: Global, text: &str) -> String {
+    number_of(rt, alloc, text)
+        .to_string(alloc)
+        .expect(rt, "memory")
 }
 
 // A path of so many keys.
-fn path_of(alloc: Global, keys: usize) -> Result<String, Fail> {
+fn path_of(rt: &impl Abort, alloc: Global, keys: usize) -> String {
     let mut text = String::new(alloc);
     for _ in 0..keys {
-        text.push_str("/k")?;
+        text.push_str("/k").expect(rt, "memory");
     }
-    Ok(text)
+    text
 }
 
 // The set of a value below so many keys.
-fn set_below(alloc: Global, case: &str) -> Result<String, Fail> {
-    let (keys, value) = case.split_once(' ').ok_or("no value")?;
-    let path = path_of(alloc, keys.parse()?)?;
-    Ok(format!(in alloc; r#"{{"op":"set","path":"{path}","value":{value}}}"#)?)
+fn set_below(rt: &impl Abort, alloc: Global, case: &str) -> String {
+    let (keys, value) = case.split_once(' ').expect(rt, "a value");
+    let path = path_of(rt, alloc, keys.parse().expect(rt, "a number"));
+    format!(in alloc; r#"{{"op":"set","path":"{path}","value":{value}}}"#).expect(rt, "memory")
 }
 
 // An update of so many places.
-fn update_of(alloc: Global, places: usize) -> Result<String, Fail> {
-    let mut text = String::from_str(alloc, r#"{"op":"update","path":"/","values":{"p":1"#)?;
+fn update_of(rt: &impl Abort, alloc: Global, places: usize) -> String {
+    let text = String::from_str(alloc, r#"{"op":"update","path":"/","values":{"p":1"#);
+    let mut text = text.expect(rt, "memory");
     for place in 1..places {
-        text.push_str(format!(in alloc; ",\"p{place}\":1")?.as_str())?;
+        let part = format!(in alloc; ",\"p{place}\":1").expect(rt, "memory");
+        text.push_str(part.as_str()).expect(rt, "memory");
     }
-    text.push_str("}}")?;
-    Ok(text)
+    text.push_str("}}").expect(rt, "memory");
+    text
 }
 
 // An update of one place by its name and value, below 31 keys.
-fn update_below(alloc: Global, case: &str) -> Result<String, Fail> {
-    let (name, value) = case.split_once(' ').ok_or("no value")?;
-    let path = path_of(alloc, 31)?;
-    Ok(format!(in alloc; r#"{{"op":"update","path":"{path}","values":{{"{name}":{value}}}}}"#)?)
+fn update_below(rt: &impl Abort, alloc: Global, case: &str) -> String {
+    let (name, value) = case.split_once(' ').expect(rt, "a value");
+    let path = path_of(rt, alloc, 31);
+    let text = format!(in alloc;
+        r#"{{"op":"update","path":"{path}","values":{{"{name}":{value}}}}}"#
+    );
+    text.expect(rt, "memory")
 }
 
-fn compare(alloc: Global, expect: &str) -> Result<Op, Fail> {
-    let text = format!(in alloc; r#"{{"expect":{expect},"op":"tx","path":"/n","value":1}}"#)?;
-    op_of(alloc, text.as_str())
+fn compare(rt: &impl Abort, alloc: Global, expect: &str) -> Op {
+    let text = format!(in alloc; r#"{{"expect":{expect},"op":"tx","path":"/n","value":1}}"#);
+    let text = text.expect(rt, "memory");
+    op_of(rt, alloc, text.as_str())
 }
 
-// What the operation comes to on the tree.
-fn resolved_there(alloc: Global, op: Op, tree: Result<Tree, Fail>) -> Result<Outcome, Fail> {
-    match tree {
-        Ok(tree) => {
-            let outcome = op.resolve_owned(alloc, &tree, Moment::at(5));
-            drop(tree);
-            Ok(outcome?)
-        }
-        Err(fail) => {
-            drop(op);
-            Err(fail)
-        }
-    }
+// What the comparison comes to on a tree.
+fn compared(rt: &impl Abort, alloc: Global, expect: &str) -> Outcome {
+    let tree = tree_of(rt, alloc, r#"{"n":{"0":1,"2":{"a":"x"}}}"#);
+    let op = compare(rt, alloc, expect);
+    let outcome = op.resolve_owned(alloc, &tree, Moment::at(5));
+    drop(tree);
+    outcome.expect(rt, "memory")
 }
 
-fn compared(alloc: Global, expect: &str) -> Result<Outcome, Fail> {
-    let op = compare(alloc, expect)?;
-    let tree = tree_of(alloc, r#"{"n":{"0":1,"2":{"a":"x"}}}"#);
-    resolved_there(alloc, op, tree)
-}
-
-fn kept_of(alloc: Global, expect: &str) -> Result<Kept, Fail> {
-    let outcome = compared(alloc, expect)?;
+fn kept_of(rt: &impl Abort, alloc: Global, expect: &str) -> Kept {
+    let outcome = compared(rt, alloc, expect);
     let kept = outcome.kept(alloc);
     drop(outcome);
-    Ok(kept?)
+    kept.expect(rt, "memory")
 }
 
-fn copied_kept(alloc: Global, expect: &str) -> Result<Kept, Fail> {
-    let kept = kept_of(alloc, expect)?;
+fn copied_kept(rt: &impl Abort, alloc: Global, expect: &str) -> Kept {
+    let kept = kept_of(rt, alloc, expect);
     let copied = kept.copy(alloc);
     drop(kept);
-    Ok(copied?)
+    copied.expect(rt, "memory")
 }
 
 // The value held where a transaction is stale, or none.
-fn held(alloc: Global, expect: &str) -> Result<String, Fail> {
-    match copied_kept(alloc, expect)? {
-        Kept::Stale(Some(held)) => printed(alloc, held),
-        Kept::Stale(None) => Err("null")?,
-        Kept::Wrote => Ok(String::from_str(alloc, "none")?),
+fn held(rt: &impl Abort, alloc: Global, expect: &str) -> String {
+    match copied_kept(rt, alloc, expect) {
+        Kept::Stale(Some(held)) => printed(rt, alloc, held),
+        Kept::Stale(None) => panic!(rt; "null"),
+        Kept::Wrote => String::from_str(alloc, "none").expect(rt, "memory"),
     }
 }
 
-fn basic_of(alloc: Global, path: &str, value: &str) -> Result<Result<Basic, TreeFault>, Fail> {
-    let path = Path::parse(alloc, path)?;
-    let tree = tree_of(alloc, value)?;
-    Ok(Basic::new(path, Some(tree)))
+fn basic_of(rt: &impl Abort, alloc: Global, path: &str, value: &str) -> Result<Basic, TreeFault> {
+    let path = Path::parse(alloc, path).expect(rt, "a path");
+    let tree = tree_of(rt, alloc, value);
+    Basic::new(path, Some(tree))
 }
 
-fn write_text(alloc: Global, write: &Basic) -> Result<String, Fail> {
-    let mut text = write.path().text(alloc)?;
-    text.push(' ')?;
+fn write_text(rt: &impl Abort, alloc: Global, write: &Basic) -> String {
+    let mut text = write.path().text(alloc).expect(rt, "memory");
+    text.push(' ').expect(rt, "memory");
     match write.value() {
-        Some(value) => text.push_str(printed(alloc, value.copy(alloc)?)?.as_str())?,
-        None => text.push_str("none")?,
+        Some(value) => text
+            .push_str(printed(rt, alloc, value.copy(alloc).expect(rt, "memory")).as_str())
+            .expect(rt, "memory"),
+        None => text.push_str("none").expect(rt, "memory"),
     }
-    Ok(text)
+    text
 }
 
 // Copies of the write alone.
-fn copies_of(alloc: Global, write: Basic) -> Result<Items<Basic>, Fail> {
-    let one = Items::one(alloc, write)?;
+fn copies_of(rt: &impl Abort, alloc: Global, write: Basic) -> Items<Basic> {
+    let one = Items::one(alloc, write).expect(rt, "memory");
     let copies = copy_writes(alloc, one.as_slice());
     drop(one);
-    Ok(copies?)
+    copies.expect(rt, "memory")
 }
 
 // The first of copies of the write alone.
-fn copied_write(alloc: Global, write: Basic) -> Result<String, Fail> {
-    let copies = copies_of(alloc, write)?;
-    write_text(alloc, copies.as_slice().first().ok_or("no write")?)
+fn copied_write(rt: &impl Abort, alloc: Global, write: Basic) -> String {
+    let copies = copies_of(rt, alloc, write);
+    write_text(rt, alloc, copies.as_slice().first().expect(rt, "a write"))
 }
 
 // The write of a value at a path, or the name of its refusal.
-fn write_of(alloc: Global, case: &str) -> Result<String, Fail> {
-    let (path, value) = case.split_once(' ').ok_or("no value")?;
-    match basic_of(alloc, path, value)? {
-        Ok(write) => copied_write(alloc, write),
-        Err(fault) => Ok(String::from_str(alloc, fault.name())?),
+fn write_of(rt: &impl Abort, alloc: Global, case: &str) -> String {
+    let (path, value) = case.split_once(' ').expect(rt, "a value");
+    match basic_of(rt, alloc, path, value) {
+        Ok(write) => copied_write(rt, alloc, write),
+        Err(fault) => String::from_str(alloc, fault.name()).expect(rt, "memory"),
     }
 }
 
-fn placed(alloc: Global, path: &str, value: &str) -> Result<Op, Fail> {
-    let path = Path::parse(alloc, path)?;
-    let draft = draft_of(alloc, value)?;
-    Ok(Op::Set(Placement::new(path, draft)?))
+fn placed(rt: &impl Abort, alloc: Global, path: &str, value: &str) -> Op {
+    let path = Path::parse(alloc, path).expect(rt, "a path");
+    let draft = draft_of(rt, alloc, value);
+    Op::Set(Placement::new(path, draft).expect(rt, "a placement"))
 }
 
-fn expecting(alloc: Global, path: &str, value: &str) -> Result<Op, Fail> {
-    let path = Path::parse(alloc, path)?;
-    let draft = draft_of(alloc, value)?;
+fn expecting(rt: &impl Abort, alloc: Global, path: &str, value: &str) -> Op {
+    let path = Path::parse(alloc, path).expect(rt, "a path");
+    let draft = draft_of(rt, alloc, value);
     let expect = Tree::scalar(Scalar::Int(1));
-    Ok(Op::Tx(Transaction::new(path, expect, draft)?))
+    Op::Tx(Transaction::new(path, expect, draft).expect(rt, "a transaction"))
 }
 
 // The set of a value at a path, as it is printed.
-fn set_form(alloc: Global, case: &str) -> Result<String, Fail> {
-    let (path, value) = case.split_once(' ').ok_or("no value")?;
-    let op = placed(alloc, path, value)?;
-    form_of(alloc, op)
+fn set_form(rt: &impl Abort, alloc: Global, case: &str) -> String {
+    let (path, value) = case.split_once(' ').expect(rt, "a value");
+    let op = placed(rt, alloc, path, value);
+    form_of(rt, alloc, op)
 }
 
 // The transaction that expects 1 at a path, as it is printed.
-fn tx_form(alloc: Global, case: &str) -> Result<String, Fail> {
-    let (path, value) = case.split_once(' ').ok_or("no value")?;
-    let op = expecting(alloc, path, value)?;
-    form_of(alloc, op)
+fn tx_form(rt: &impl Abort, alloc: Global, case: &str) -> String {
+    let (path, value) = case.split_once(' ').expect(rt, "a value");
+    let op = expecting(rt, alloc, path, value);
+    form_of(rt, alloc, op)
 }
 
-fn unconditional_of(alloc: Global, text: &str) -> Result<Option<Unconditional>, Fail> {
-    let value = value_of(alloc, text)?;
+fn unconditional_of(rt: &impl Abort, alloc: Global, text: &str) -> Option<Unconditional> {
+    let value = value_of(rt, alloc, text);
     let op = Unconditional::from_value(alloc, &value);
     drop(value);
-    Ok(op?)
+    op.expect(rt, "an operation")
 }
 
 // The same, printed and read again.
-fn read_again(alloc: Global, op: Unconditional) -> Result<Unconditional, Fail> {
+fn read_again(rt: &impl Abort, alloc: Global, op: Unconditional) -> Unconditional {
     let value = op.to_value(alloc);
     drop(op);
-    let value = value?;
+    let value = value.expect(rt, "memory");
     let again = Unconditional::from_value(alloc, &value);
     drop(value);
-    Ok(again?.ok_or("a transaction")?)
+    again.expect(rt, "an operation").expect(rt, "a transaction")
 }
 
-fn copied_unconditional(alloc: Global, op: Unconditional) -> Result<Unconditional, Fail> {
-    let again = read_again(alloc, op)?;
+fn copied_unconditional(rt: &impl Abort, alloc: Global, op: Unconditional) -> Unconditional {
+    let again = read_again(rt, alloc, op);
     let copied = again.copy(alloc);
     drop(again);
-    Ok(copied?)
+    copied.expect(rt, "memory")
 }
 
-fn copied_puts(alloc: Global, puts: Puts) -> Result<Puts, Fail> {
+fn copied_puts(rt: &impl Abort, alloc: Global, puts: Puts) -> Puts {
     let copied = puts.copy(alloc);
     drop(puts);
-    Ok(copied?)
+    copied.expect(rt, "memory")
 }
 
-fn puts_of(alloc: Global, op: Unconditional) -> Result<Puts, Fail> {
-    let op = copied_unconditional(alloc, op)?;
+fn puts_of(rt: &impl Abort, alloc: Global, op: Unconditional) -> Puts {
+    let op = copied_unconditional(rt, alloc, op);
     let puts = op.puts(alloc);
     drop(op);
-    copied_puts(alloc, puts?)
+    copied_puts(rt, alloc, puts.expect(rt, "memory"))
 }
 
-fn put_text(alloc: Global, put: &Placement) -> Result<String, Fail> {
-    let path = put.path().text(alloc)?;
-    let value = put.draft().to_value(alloc)?;
-    Ok(format!(in alloc; " {path} {value}")?)
+fn put_text(rt: &impl Abort, alloc: Global, put: &Placement) -> String {
+    let path = put.path().text(alloc).expect(rt, "memory");
+    let value = put.draft().to_value(alloc).expect(rt, "memory");
+    format!(in alloc; " {path} {value}").expect(rt, "memory")
 }
 
-fn puts_text(alloc: Global, op: Unconditional) -> Result<String, Fail> {
-    let puts = puts_of(alloc, op)?.into_items();
-    let mut said = String::from_str(alloc, "puts")?;
+fn puts_text(rt: &impl Abort, alloc: Global, op: Unconditional) -> String {
+    let puts = puts_of(rt, alloc, op).into_items();
+    let mut said = String::from_str(alloc, "puts").expect(rt, "memory");
     for put in puts.as_slice() {
-        said.push_str(put_text(alloc, put)?.as_str())?;
+        said.push_str(put_text(rt, alloc, put).as_str())
+            .expect(rt, "memory");
     }
-    Ok(said)
+    said
 }
 
 // What the operation puts where, which is left for a disconnection.
-fn put_by(alloc: Global, text: &str) -> Result<String, Fail> {
-    match unconditional_of(alloc, text)? {
-        Some(op) => puts_text(alloc, op),
-        None => Ok(String::from_str(alloc, "transaction")?),
+fn put_by(rt: &impl Abort, alloc: Global, text: &str) -> String {
+    match unconditional_of(rt, alloc, text) {
+        Some(op) => puts_text(rt, alloc, op),
+        None => String::from_str(alloc, "transaction").expect(rt, "memory"),
     }
 }
 
-fn answer(alloc: Global, table: Table, case: &str) -> Result<String, Fail> {
+fn answer(rt: &impl Abort, alloc: Global, table: Table, case: &str) -> String {
     match table {
-        Table::Trees => left_and_printed(alloc, case),
-        Table::Faults => refused(alloc, case),
-        Table::Depths => number_text(alloc, set_below(alloc, case)?.as_str()),
-        Table::Places => number_text(alloc, update_of(alloc, case.parse()?)?.as_str()),
-        Table::Names => number_text(alloc, update_below(alloc, case)?.as_str()),
-        Table::Compares => held(alloc, case),
-        Table::Writes => write_of(alloc, case),
-        Table::Sets => set_form(alloc, case),
-        Table::Txs => tx_form(alloc, case),
-        Table::Puts => put_by(alloc, case),
+        Table::Trees => left_and_printed(rt, alloc, case),
+        Table::Faults => refused(rt, alloc, case),
+        Table::Depths => number_text(rt, alloc, set_below(rt, alloc, case).as_str()),
+        Table::Places => number_text(
+            rt,
+            alloc,
+            update_of(rt, alloc, case.parse().expect(rt, "a number")).as_str(),
+        ),
+        Table::Names => number_text(rt, alloc, update_below(rt, alloc, case).as_str()),
+        Table::Compares => held(rt, alloc, case),
+        Table::Writes => write_of(rt, alloc, case),
+        Table::Sets => set_form(rt, alloc, case),
+        Table::Txs => tx_form(rt, alloc, case),
+        Table::Puts => put_by(rt, alloc, case),
     }
 }
 
-fn try_line(alloc: Global, table: Table, line: &str, wrong: &mut String) -> Result<(), Fail> {
-    let (case, wanted) = line.split_once(" => ").ok_or("no answer")?;
-    let got = answer(alloc, table, case)?;
+fn try_line(rt: &impl Abort, alloc: Global, table: Table, line: &str, wrong: &mut String) {
+    let (case, wanted) = line.split_once(" => ").expect(rt, "an answer");
+    let got = answer(rt, alloc, table, case);
     if got.as_str() != wanted {
-        let line = format!(in alloc; "{case} => {got}\n")?;
-        wrong.push_str(line.as_str())?;
+        let line = format!(in alloc; "{case} => {got}\n").expect(rt, "memory");
+        wrong.push_str(line.as_str()).expect(rt, "memory");
     }
-    Ok(())
 }
 
 // The lines that answer something else, each with that.
-fn wrong_in(alloc: Global, table: Table, lines: &str) -> Result<String, Fail> {
+fn wrong_in(rt: &impl Abort, alloc: Global, table: Table, lines: &str) -> String {
     let mut wrong = String::new(alloc);
     for line in lines.lines() {
-        try_line(alloc, table, line, &mut wrong)?;
+        try_line(rt, alloc, table, line, &mut wrong);
     }
-    Ok(wrong)
+    wrong
 }
 
 // The lines of several tables that answer something else, each with that.
-fn wrong_in_all(alloc: Global, tables: &[(Table, &str)]) -> Result<String, Fail> {
+fn wrong_in_all(rt: &impl Abort, alloc: Global, tables: &[(Table, &str)]) -> String {
     let mut wrong = String::new(alloc);
     for (table, lines) in tables {
-        wrong.push_str(wrong_in(alloc, *table, lines)?.as_str())?;
+        wrong
+            .push_str(wrong_in(rt, alloc, *table, lines).as_str())
+            .expect(rt, "memory");
     }
-    Ok(wrong)
+    wrong
 }
 
 const REFUSED: &str = r#"{"op":"remove"} => 11 Shape
@@ -514,42 +495,37 @@ const TREES: &str =
 {"expect":[null,{}],"op":"tx","path":"/n","value":{"a":2}} => {"n":{"a":2}} by {"expect":null,"op":"tx","path":"/n","value":{"a":2}}"#;
 
 #[test]
-fn operations_leave_trees(rt: HostRuntime) -> Result<(), Fail> {
-    let wrong = wrong_in(rt.alloc(), Table::Trees, TREES)?;
+fn operations_leave_trees(rt: HostRuntime) {
+    let wrong = wrong_in(&rt, rt.alloc(), Table::Trees, TREES);
     assert_eq!(rt; wrong.as_str(), "");
-    Ok(())
 }
 
 #[test]
-fn operations_are_refused(rt: HostRuntime) -> Result<(), Fail> {
-    let wrong = wrong_in(rt.alloc(), Table::Faults, REFUSED)?;
+fn operations_are_refused(rt: HostRuntime) {
+    let wrong = wrong_in(&rt, rt.alloc(), Table::Faults, REFUSED);
     assert_eq!(rt; wrong.as_str(), "");
-    Ok(())
 }
 
 #[test]
-fn places_have_at_most_32_keys(rt: HostRuntime) -> Result<(), Fail> {
-    let wrong = wrong_in(rt.alloc(), Table::Depths, DEPTHS)?;
+fn places_have_at_most_32_keys(rt: HostRuntime) {
+    let wrong = wrong_in(&rt, rt.alloc(), Table::Depths, DEPTHS);
     assert_eq!(rt; wrong.as_str(), "");
-    Ok(())
 }
 
 #[test]
-fn updates_have_at_most_256_places(rt: HostRuntime) -> Result<(), Fail> {
+fn updates_have_at_most_256_places(rt: HostRuntime) {
     let tables = [
         (Table::Places, "256 => 0\n257 => 10"),
         (Table::Names, NAMES),
     ];
-    let wrong = wrong_in_all(rt.alloc(), &tables)?;
+    let wrong = wrong_in_all(&rt, rt.alloc(), &tables);
     assert_eq!(rt; wrong.as_str(), "");
-    Ok(())
 }
 
 #[test]
-fn transactions_compare_whole_values(rt: HostRuntime) -> Result<(), Fail> {
-    let wrong = wrong_in(rt.alloc(), Table::Compares, COMPARES)?;
+fn transactions_compare_whole_values(rt: HostRuntime) {
+    let wrong = wrong_in(&rt, rt.alloc(), Table::Compares, COMPARES);
     assert_eq!(rt; wrong.as_str(), "");
-    Ok(())
 }
 
 const WRITES: &str = r#"/a/b {"c":[1]} => /a/b {"c":{"0":1}}
@@ -562,15 +538,14 @@ const SETS: &str =
 const TXS: &str = r#"/a 2 => {"expect":1,"op":"tx","path":"/a","value":2}"#;
 
 #[test]
-fn writes_and_operations_are_made(rt: HostRuntime) -> Result<(), Fail> {
+fn writes_and_operations_are_made(rt: HostRuntime) {
     let tables = [
         (Table::Writes, WRITES),
         (Table::Sets, SETS),
         (Table::Txs, TXS),
     ];
-    let wrong = wrong_in_all(rt.alloc(), &tables)?;
+    let wrong = wrong_in_all(&rt, rt.alloc(), &tables);
     assert_eq!(rt; wrong.as_str(), "");
-    Ok(())
 }
 
 const PUTS: &str = r#"{"op":"set","path":"/a","value":{"b":1}} => puts /a {"b":1}
@@ -582,19 +557,17 @@ const PUTS: &str = r#"{"op":"set","path":"/a","value":{"b":1}} => puts /a {"b":1
 {"op":"tx","path":"/a.b"} => transaction"#;
 
 #[test]
-fn operations_put_drafts(rt: HostRuntime) -> Result<(), Fail> {
-    let wrong = wrong_in(rt.alloc(), Table::Puts, PUTS)?;
+fn operations_put_drafts(rt: HostRuntime) {
+    let wrong = wrong_in(&rt, rt.alloc(), Table::Puts, PUTS);
     assert_eq!(rt; wrong.as_str(), "");
-    Ok(())
 }
 
 #[test]
-fn moments_are_compared_and_printed(rt: HostRuntime) -> Result<(), Fail> {
+fn moments_are_compared_and_printed(rt: HostRuntime) {
     let early = Moment::at(5);
     let late = early.max(Moment::at(7));
     assert!(rt; early < late);
     assert_eq!(rt; late.millis(), 7);
-    let said = format!(in rt.alloc(); "{early} {}", Moment::at(u64::MAX))?;
+    let said = format!(in rt.alloc(); "{early} {}", Moment::at(u64::MAX)).expect(&rt, "memory");
     assert_eq!(rt; said.as_str(), "5 9007199254740991");
-    Ok(())
 }

@@ -5,14 +5,16 @@ use Rattle.tests_of_ring.proofs.Fed.{answered_at}
 use Rattle.tests_of_ring.proofs.run.done.Goals as goal
 
 pub invariant_of-result : goal.invariant_of-result
-invariant_of-result c =
+invariant_of-result g c =
     let busy = c.args.busy in
     let log = busy.state.log in
+    let answers = rw c.expect-server.ensures at c.done.ensures.answers in
+    let server = rw c.expect-server.ensures at c.done.ensures.server in
     record {
-      answered = answered_at log c.in_ok-server.server.log (batch_of log busy.moment busy.made) c.args.answers.items c.into_vec-more.result.items c.append.new.self.items
-          c.in_ok-append.ensures.items
-          (c.into_vec-more.ensures ∙ c.in_ok-server.ensures.answers)
-          (ap (λ (s : State). s.log) c.in_ok-server.ensures.server)
+      answered = answered_at log c.expect-server.result.0.log (batch_of log busy.moment busy.made) c.args.answers.items c.into_vec-more.result.items c.append.new.self.items
+          (rw c.expect.ensures at c.append.ensures.items)
+          (c.into_vec-more.ensures ∙ answers)
+          (ap (λ (s : State). s.log) server)
           (rw c.batch.ensures.made at c.batch.ensures.legal)
           c.requires;
     }
