@@ -110,6 +110,7 @@ fn accept_all<
 }
 
 // One connection, from its handshake to its end.
+#[inline(never)]
 fn connection<L: Ledger, K: Keeper + Drop, R: Net + Wait + Clock>(
     rt: &R,
     alloc: Global,
@@ -137,6 +138,7 @@ fn connection<L: Ledger, K: Keeper + Drop, R: Net + Wait + Clock>(
 }
 
 // Ends the sessions that are to end, each second. What is refused is tried again a second later.
+#[inline(never)]
 fn tick_on<L: Ledger, K: Keeper + Drop, R: Wait + Clock>(
     rt: &R,
     alloc: Global,

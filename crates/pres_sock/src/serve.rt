@@ -84,6 +84,7 @@ pub fn serve_stream<
 }
 
 // Before a session is open: reads until one is. None where the connection is over before.
+#[inline(never)]
 fn greet<
     L: Ledger,
     K: Keeper + Drop,
@@ -200,6 +201,7 @@ fn serve<
 }
 
 // One read, what it is answered with, and what waits for the session.
+#[inline(never)]
 fn turn<
     L: Ledger,
     K: Keeper + Drop,

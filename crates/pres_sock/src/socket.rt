@@ -27,7 +27,9 @@ fn config() -> WebSocketConfig {
     WebSocketConfig::default().read_buffer_size(READ_SIZE)
 }
 
-/// A server's handshake of RFC 6455, tried again after each read that gives nothing.
+/// A server's handshake of RFC 6455, tried again after each read that gives nothing. Its room on the
+/// stack is given back before a connection is idle.
+#[inline(never)]
 pub(crate) fn shake<S: Read + Write + Drop>(
     alloc: Global,
     stream: S,
