@@ -39,6 +39,7 @@ const BURST: usize = 256;
 /// the connection ended, where it wasn't closed. The seat that it joins is given to `leave`, so a
 /// parting counts a Hello at least, and there is none where the handshake failed. The bell is the
 /// connection's own: it is rung where something is to be sent, and ends a read that waits.
+#[inline(never)]
 pub fn serve_stream<
     L: Ledger,
     K: Keeper + Drop,
