@@ -1,5 +1,11 @@
--- The exit status of a server or a client that ended early.
+-- Why a server or a client ended early: as what a fault below is told, and the exit status.
 use Rattle.std.specs.Prelude.{ℕ}
+use Rattle.pres_table.specs.declared.fault.SavedFault.{SavedFault}
+use Rattle.pres_table.specs.declared.fault.SavedFault.TheVariants as saved
+use Rattle.pres_seats.specs.declared.fault.HubFault.{HubFault}
+use Rattle.pres_seats.specs.declared.fault.HubFault.TheVariants as hub
+use Rattle.pres_sock.specs.declared.fault.SockFault.{SockFault}
+use Rattle.pres_sock.specs.declared.fault.SockFault.TheVariants as sock
 use Rattle.pres_service.specs.declared.fault.ServiceFault.{ServiceFault}
 use Rattle.pres_service.specs.declared.fault.ServiceFault.TheVariants as fault
 
@@ -10,3 +16,19 @@ status_of (fault.Store e) = 3
 status_of fault.Address = 4
 status_of (fault.Sock e) = 4
 status_of fault.Memory = 5
+
+-- what the file is refused for is its own, but for memory
+abbrev pub of_saved : SavedFault → ServiceFault
+of_saved saved.Memory = fault.Memory
+of_saved e = fault.Store e
+
+-- what a hub refuses: its file, memory, or the connection
+abbrev pub of_hub : HubFault → ServiceFault
+of_hub hub.Memory = fault.Memory
+of_hub (hub.Keeper e) = of_saved e
+of_hub e = fault.Sock (sock.Hub e)
+
+abbrev pub of_sock : SockFault → ServiceFault
+of_sock sock.Memory = fault.Memory
+of_sock (sock.Hub e) = of_hub e
+of_sock e = fault.Sock e

@@ -1,13 +1,18 @@
 //! `presence client`: the calls of a client over TCP.
 
+ghost use Rattle.std.specs.Prelude.{◌≡◌, ◌⊎◌, ℕ, map, IfOk, IfErr, IfSome, OnOk, MatchResult, Some, option_map};
+ghost use Rattle.pres_service.specs.declared.client.Unmade.TheVariants as unmade;
+ghost use Rattle.pres_service.specs.declared.fault.ServiceFault.TheVariants as fault;
+ghost use Rattle.pres_service.specs.Lines.{AreLines, first_bad, line_of_bytes, lines_in, lines_of, without_last_feed, said};
+
 use crate::fault::ServiceFault;
 use crate::lines::line_of;
 use pres_client::Client;
 use pres_ids::{ClientId, Number};
 use pres_sock::{Line, drive_client};
-use std::alloc::Global;
+use std::alloc::{AllocError, AllocFailed, Global};
 use std::io;
-use std::io::{BufRead, ErrorKind, Read, Write};
+use std::io::{ErrorKind, Read, Write};
 use std::net::{Net, TcpListener, TcpStream};
 use std::random::RandomSource;
 use std::time::Duration;
@@ -46,9 +51,47 @@ pub fn client_run<
     visit: Visit<'_>,
     input: &mut I,
     output: &mut W,
-) -> Result<(), ServiceFault> {
+) -> Result<(), ServiceFault>
+    ensures lines { MatchResult result
+        (λ _. IfSome (I.remaining input.old) AreLines)
+        (λ e. (e ≡ fault.Memory) ⊎ ((e ≡ fault.Input) ⊎ IfSome (I.remaining input.old) AreLines)) }
+    ensures unreached { IfErr result (λ e. e ≡ fault.Address → output.new ≡ output.old) }
+{
+    let lines = lines_from(alloc, input, output)?;
+    follow(rt, alloc, visit, lines, output)
+}
+
+// Reads the lines of the input. The first that is none is told.
+fn lines_from<I: Read, W: Write>(
+    alloc: Global,
+    input: &mut I,
+    output: &mut W,
+) -> Result<Vec<Line>, ServiceFault>
+    ensures lines { IfOk result (λ _. IfSome (I.remaining input.old) AreLines) }
+    ensures quiet { OnOk result (output.new ≡ output.old) }
+    ensures err { IfErr result (λ e. (e ≡ fault.Memory) ⊎ (e ≡ fault.Input)) }
+{
     let bytes = bytes_of(alloc, input)?;
-    let lines = lines_of(alloc, bytes.as_slice(), output)?;
+    match lines_of(alloc, bytes.as_slice()) {
+        Ok(lines) => Ok(lines),
+        Err(Unmade::Memory) => Err(ServiceFault::Memory),
+        Err(Unmade::BadLine(number)) => {
+            let _ = write!(output, "bad line {number}\n");
+            Err(ServiceFault::Input)
+        }
+    }
+}
+
+// Connects, and does what the lines say.
+fn follow<R: Net<Listener = TcpListener, Stream = TcpStream> + RandomSource + Copy, W: Write>(
+    rt: &R,
+    alloc: Global,
+    visit: Visit<'_>,
+    lines: Vec<Line>,
+    output: &mut W,
+) -> Result<(), ServiceFault>
+    ensures unreached { IfErr result (λ e. e ≡ fault.Address → output.new ≡ output.old) }
+{
     let Visit {
         address,
         id,
@@ -68,47 +111,107 @@ pub fn client_run<
 }
 
 // All of the input.
-fn bytes_of<I: Read>(alloc: Global, input: &mut I) -> Result<Vec<u8>, ServiceFault> {
+fn bytes_of<I: Read>(alloc: Global, input: &mut I) -> Result<Vec<u8>, ServiceFault>
+    ensures read { IfOk result (λ read. IfSome (I.remaining input.old) (λ bytes.
+        read.items ≡ bytes)) }
+    ensures err { IfErr result (λ e. (e ≡ fault.Memory) ⊎ (e ≡ fault.Input)) }
+{
     let mut bytes = Vec::new(alloc);
     let mut room = vec![in alloc; 0u8; ROOM]?;
+    let piece = room.as_mut_slice();
     for _ in 0..MOST_READS {
-        match input.read(room.as_mut_slice()) {
+        match input.read(piece) {
             Ok(0) => return Ok(bytes),
-            Ok(count) => bytes.extend_from_slice(&room[..count])?,
+            Ok(count) => bytes.extend_from_slice(&piece[..count])?,
             Err(error) => return Err(input_fault(&error)),
         }
     }
     Err(ServiceFault::Input)
 }
 
-// What the lines say. The first that is none is told, with its number from 1 on.
-fn lines_of<W: Write>(
-    alloc: Global,
-    bytes: &[u8],
-    output: &mut W,
-) -> Result<Vec<Line>, ServiceFault> {
+// Why there is no list of lines.
+#[derive(Drop)]
+enum Unmade {
+    // The line of this number, from 1 on, says nothing.
+    BadLine(u64),
+    // An allocation was refused.
+    Memory,
+}
+
+impl From<AllocError> for Unmade {
+    ghost use Rattle.std.specs.Prelude.{◌≡◌};
+
+    ghost from_gives = { λ _ e. e ≡ unmade.Memory };
+
+    fn from(_refused: AllocError) -> Unmade {
+        Unmade::Memory
+    }
+}
+
+impl<T: Drop> From<AllocFailed<T>> for Unmade {
+    ghost use Rattle.std.specs.Prelude.{◌≡◌};
+
+    ghost from_gives = { λ _ e. e ≡ unmade.Memory };
+
+    fn from(_refused: AllocFailed<T>) -> Unmade {
+        Unmade::Memory
+    }
+}
+
+// What the lines of the input say.
+fn lines_of(alloc: Global, input: &[u8]) -> Result<Vec<Line>, Unmade>
+    ensures lines { IfOk result (λ lines. lines_in input.now
+        ≡ map (λ line. Some (said line)) lines.items) }
+    ensures bad { IfErr result (λ e. (e ≡ unmade.Memory)
+        ⊎ ((k : ℕ) × (e ≡ unmade.BadLine k) × (first_bad 1 (lines_in input.now) ≡ Some k))) }
+{
+    let texts = texts_of(alloc, input)?;
     let mut lines = Vec::new(alloc);
-    let mut number: u64 = 0;
-    for piece in BufRead::split(bytes, alloc, b'\n') {
-        number = number.saturating_add(1);
-        let piece = piece.map_err(|error| input_fault(&error))?;
-        let line = match std::str::from_utf8(piece.as_slice()) {
-            Ok(text) => line_of(alloc, text)?,
-            Err(_) => None,
-        };
-        match line {
+    for bytes in texts.iter() {
+        match line_in(alloc, bytes)? {
             Some(line) => lines.push(line)?,
-            None => {
-                let _ = write!(output, "bad line {number}\n");
-                return Err(ServiceFault::Input);
-            }
+            None => return Err(Unmade::BadLine(lines.len() as u64 + 1)),
         }
     }
     Ok(lines)
 }
 
+// The lines of the input, without what ends them.
+fn texts_of(alloc: Global, input: &[u8]) -> Result<Vec<&[u8]>, AllocError>
+    ensures { IfOk result (λ texts. map (λ text. text.now) texts.items ≡ lines_of input.now) }
+{
+    if input.is_empty() {
+        return Ok(Vec::new(alloc));
+    }
+    without_last_feed(input)
+        .split(|byte| *byte == b'\n')
+        .collect(alloc)
+}
+
+// The input without the line feed that ends its last line.
+fn without_last_feed(input: &[u8]) -> &[u8]
+    ensures { result.now ≡ without_last_feed input.now }
+{
+    match input.strip_suffix(b"\n") {
+        Some(rest) => rest,
+        None => input,
+    }
+}
+
+// What the bytes of a line say.
+fn line_in(alloc: Global, bytes: &[u8]) -> Result<Option<Line>, AllocError>
+    ensures { IfOk result (λ line. option_map said line ≡ line_of_bytes bytes.now) }
+{
+    match std::str::from_utf8(bytes) {
+        Ok(text) => line_of(alloc, text),
+        Err(_) => Ok(None),
+    }
+}
+
 // The fault of the input's error, with want of memory apart.
-fn input_fault(error: &io::Error) -> ServiceFault {
+fn input_fault(error: &io::Error) -> ServiceFault
+    ensures { (result ≡ fault.Memory) ⊎ (result ≡ fault.Input) }
+{
     match error.kind() {
         ErrorKind::OutOfMemory => ServiceFault::Memory,
         _ => ServiceFault::Input,

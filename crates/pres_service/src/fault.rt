@@ -44,6 +44,11 @@ impl ServiceFault {
 }
 
 impl From<SavedFault> for ServiceFault {
+    ghost use Rattle.std.specs.Prelude.{◌≡◌};
+    ghost use Rattle.pres_service.specs.Faults.{of_saved};
+
+    ghost from_gives = { λ fault e. e ≡ of_saved fault };
+
     fn from(fault: SavedFault) -> ServiceFault {
         match fault {
             SavedFault::Memory => ServiceFault::Memory,
@@ -53,6 +58,11 @@ impl From<SavedFault> for ServiceFault {
 }
 
 impl From<HubFault> for ServiceFault {
+    ghost use Rattle.std.specs.Prelude.{◌≡◌};
+    ghost use Rattle.pres_service.specs.Faults.{of_hub};
+
+    ghost from_gives = { λ fault e. e ≡ of_hub fault };
+
     fn from(fault: HubFault) -> ServiceFault {
         match fault {
             HubFault::Memory => ServiceFault::Memory,
@@ -63,6 +73,11 @@ impl From<HubFault> for ServiceFault {
 }
 
 impl From<SockFault> for ServiceFault {
+    ghost use Rattle.std.specs.Prelude.{◌≡◌};
+    ghost use Rattle.pres_service.specs.Faults.{of_sock};
+
+    ghost from_gives = { λ fault e. e ≡ of_sock fault };
+
     fn from(fault: SockFault) -> ServiceFault {
         match fault {
             SockFault::Memory => ServiceFault::Memory,
@@ -73,12 +88,22 @@ impl From<SockFault> for ServiceFault {
 }
 
 impl From<AllocError> for ServiceFault {
+    ghost use Rattle.std.specs.Prelude.{◌≡◌};
+    ghost use Rattle.pres_service.specs.declared.fault.ServiceFault.TheVariants.{Memory};
+
+    ghost from_gives = { λ _ e. e ≡ Memory };
+
     fn from(_refused: AllocError) -> ServiceFault {
         ServiceFault::Memory
     }
 }
 
 impl<T: Drop> From<AllocFailed<T>> for ServiceFault {
+    ghost use Rattle.std.specs.Prelude.{◌≡◌};
+    ghost use Rattle.pres_service.specs.declared.fault.ServiceFault.TheVariants.{Memory};
+
+    ghost from_gives = { λ _ e. e ≡ Memory };
+
     fn from(_refused: AllocFailed<T>) -> ServiceFault {
         ServiceFault::Memory
     }

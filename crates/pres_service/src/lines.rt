@@ -1,10 +1,20 @@
 //! The lines of a client's calls.
 
+ghost use Rattle.std.specs.Prelude.{◌≡◌, List, IfOk, option_map};
+ghost use Rattle.serde_json.specs.Read.{read};
+ghost use Rattle.serde_json.specs.View.{members_view, view};
+ghost use Rattle.pres_tree.specs.Paths.{Path};
+ghost use Rattle.pres_tree.specs.Rows.{Rows};
+ghost use Rattle.pres_write.specs.declared.draft.Slot.{Slot};
+ghost use Rattle.pres_wire.specs.Fields.{path_in};
+ghost use Rattle.pres_service.specs.declared.lines.Unread.TheVariants as unread;
+ghost use Rattle.pres_service.specs.Lines.{IsPart, IsRead, IsWhole, Said, said, of_fault, draft_in, draft_read, places_in, places_of, places_read, whole_in, with_json, answering, waiting, path_line, given_line, bare_line, line_in};
+
 use pres_client::{Answer, Call};
 use pres_sock::Line;
 use pres_tree::{Path, TreeFault};
 use pres_write::Draft;
-use serde_json::Value;
+use serde_json::{Map, Value};
 use std::alloc::{AllocError, AllocFailed, Global};
 
 // The greatest number of messages that a line waits for.
@@ -22,28 +32,29 @@ enum Unread {
 }
 
 impl From<AllocError> for Unread {
+    ghost use Rattle.std.specs.Prelude.{◌≡◌};
+
+    ghost from_gives = { λ _ e. e ≡ unread.Memory };
+
     fn from(_refused: AllocError) -> Unread {
         Unread::Memory
     }
 }
 
 impl<T: Drop> From<AllocFailed<T>> for Unread {
+    ghost use Rattle.std.specs.Prelude.{◌≡◌};
+
+    ghost from_gives = { λ _ e. e ≡ unread.Memory };
+
     fn from(_refused: AllocFailed<T>) -> Unread {
         Unread::Memory
     }
 }
 
-impl From<TreeFault> for Unread {
-    fn from(fault: TreeFault) -> Unread {
-        match fault {
-            TreeFault::Memory => Unread::Memory,
-            _ => Unread::Refused,
-        }
-    }
-}
-
 /// What the line says: none where it is no line of a client.
-pub fn line_of(alloc: Global, text: &str) -> Result<Option<Line>, AllocError> {
+pub fn line_of(alloc: Global, text: &str) -> Result<Option<Line>, AllocError>
+    ensures { IfOk result (λ line. option_map said line ≡ line_in text.now) }
+{
     match read_line(alloc, text) {
         Ok(line) => Ok(Some(line)),
         Err(Unread::Refused) => Ok(Some(Line::Refused)),
@@ -52,96 +63,127 @@ pub fn line_of(alloc: Global, text: &str) -> Result<Option<Line>, AllocError> {
     }
 }
 
-fn read_line(alloc: Global, text: &str) -> Result<Line, Unread> {
+fn read_line(alloc: Global, text: &str) -> Result<Line, Unread>
+    ensures { IsRead said (line_in text.now) result }
+{
     match text.split_once(' ') {
-        Some((word, given)) => {
-            if word == "wait" {
-                Ok(Line::Wait(waited(given)?))
-            } else {
-                Ok(Line::Call(call_with(alloc, word, given)?))
-            }
-        }
-        None => Ok(Line::Call(bare_call(text)?)),
+        Some((word, given)) => line_with(alloc, word, given),
+        None => bare_line(text),
     }
 }
 
-// How many messages a line waits for.
-fn waited(count: &str) -> Result<u64, Unread> {
+// The line of a word that is given nothing.
+fn bare_line(word: &str) -> Result<Line, Unread>
+    ensures { IsRead said (bare_line word.now) result }
+{
+    match word {
+        "online" => Ok(Line::Call(Call::GoOnline)),
+        "offline" => Ok(Line::Call(Call::GoOffline)),
+        "lost" => Ok(Line::Call(Call::Lost)),
+        "beat" => Ok(Line::Call(Call::Beat)),
+        "resend" => Ok(Line::Call(Call::Resend)),
+        _ => Err(Unread::Bad),
+    }
+}
+
+// The line of a word with what it is given.
+fn line_with(alloc: Global, word: &str, given: &str) -> Result<Line, Unread>
+    ensures { IsRead said (given_line word.now given.now) result }
+{
+    match word {
+        "wait" => waiting(given),
+        "set" => {
+            let (path, draft) = placed(alloc, given)?;
+            Ok(Line::Call(Call::Set(path, draft)))
+        }
+        "od-set" => {
+            let (path, draft) = placed(alloc, given)?;
+            Ok(Line::Call(Call::OnDisconnectSet(path, draft)))
+        }
+        "update" => {
+            let (path, places) = all_placed(alloc, given)?;
+            Ok(Line::Call(Call::Update(path, places)))
+        }
+        "od-update" => {
+            let (path, places) = all_placed(alloc, given)?;
+            Ok(Line::Call(Call::OnDisconnectUpdate(path, places)))
+        }
+        "answer" => answering(alloc, given),
+        "abort" => Ok(Line::Call(Call::Answer(whole(given)?, Answer::Abort))),
+        _ => at_path(alloc, word, given),
+    }
+}
+
+// The line of a word with a path alone.
+fn at_path(alloc: Global, word: &str, path: &str) -> Result<Line, Unread>
+    ensures { IsRead said (path_line word.now path.now) result }
+{
+    let call = match word {
+        "remove" => Call::Remove(path_of(alloc, path)?),
+        "transact" => Call::Transact(path_of(alloc, path)?),
+        "od-remove" => Call::OnDisconnectRemove(path_of(alloc, path)?),
+        "od-cancel" => Call::OnDisconnectCancel(path_of(alloc, path)?),
+        "listen" => Call::Listen(path_of(alloc, path)?),
+        "unlisten" => Call::Unlisten(path_of(alloc, path)?),
+        _ => return Err(Unread::Bad),
+    };
+    Ok(Line::Call(call))
+}
+
+// A wait for so many messages.
+fn waiting(count: &str) -> Result<Line, Unread>
+    ensures { IsRead said (waiting count.now) result }
+{
     let count = whole(count)?;
     if count == 0 || count > MOST_WAIT {
         return Err(Unread::Bad);
     }
-    Ok(count)
+    Ok(Line::Wait(count))
+}
+
+// The answer to a transaction that asks: its request, and the JSON of the new value.
+fn answering(alloc: Global, given: &str) -> Result<Line, Unread>
+    ensures { IsRead said (answering given.now) result }
+{
+    let (request, json) = given.split_once(' ').ok_or(Unread::Bad)?;
+    let request = whole(request)?;
+    let answer = Answer::New(draft_of(alloc, json)?);
+    Ok(Line::Call(Call::Answer(request, answer)))
 }
 
 // A whole number.
-fn whole(text: &str) -> Result<u64, Unread> {
+fn whole(text: &str) -> Result<u64, Unread>
+    ensures { IsWhole (whole_in text.now) result }
+{
     match text.parse::<u64>() {
         Ok(number) => Ok(number),
         Err(_) => Err(Unread::Bad),
     }
 }
 
-// The call that is given nothing.
-fn bare_call(word: &str) -> Result<Call, Unread> {
-    match word {
-        "online" => Ok(Call::GoOnline),
-        "offline" => Ok(Call::GoOffline),
-        "lost" => Ok(Call::Lost),
-        "beat" => Ok(Call::Beat),
-        "resend" => Ok(Call::Resend),
-        _ => Err(Unread::Bad),
+fn path_of(alloc: Global, text: &str) -> Result<Path, Unread>
+    ensures { IsPart (λ path. path) (path_in text.now) result }
+{
+    match Path::parse(alloc, text) {
+        Ok(path) => Ok(path),
+        Err(fault) => Err(unread_of(fault)),
     }
 }
 
-// The call with what it is given.
-fn call_with(alloc: Global, word: &str, given: &str) -> Result<Call, Unread> {
-    match word {
-        "set" => {
-            let (path, draft) = placed(alloc, given)?;
-            Ok(Call::Set(path, draft))
-        }
-        "od-set" => {
-            let (path, draft) = placed(alloc, given)?;
-            Ok(Call::OnDisconnectSet(path, draft))
-        }
-        "update" => {
-            let (path, places) = all_placed(alloc, given)?;
-            Ok(Call::Update(path, places))
-        }
-        "od-update" => {
-            let (path, places) = all_placed(alloc, given)?;
-            Ok(Call::OnDisconnectUpdate(path, places))
-        }
-        "answer" => answering(alloc, given),
-        "abort" => Ok(Call::Answer(whole(given)?, Answer::Abort)),
-        _ => at_path(alloc, word, given),
+// Why what the tree refuses names no call.
+fn unread_of(fault: TreeFault) -> Unread
+    ensures { result ≡ of_fault fault }
+{
+    match fault {
+        TreeFault::Memory => Unread::Memory,
+        _ => Unread::Refused,
     }
-}
-
-// The call with a path alone.
-fn at_path(alloc: Global, word: &str, given: &str) -> Result<Call, Unread> {
-    let call: fn(Path) -> Call = match word {
-        "remove" => Call::Remove,
-        "transact" => Call::Transact,
-        "od-remove" => Call::OnDisconnectRemove,
-        "od-cancel" => Call::OnDisconnectCancel,
-        "listen" => Call::Listen,
-        "unlisten" => Call::Unlisten,
-        _ => return Err(Unread::Bad),
-    };
-    Ok(call(Path::parse(alloc, given)?))
-}
-
-// The answer to a transaction that asks: its request, and the JSON of the new value.
-fn answering(alloc: Global, given: &str) -> Result<Call, Unread> {
-    let (request, json) = given.split_once(' ').ok_or(Unread::Bad)?;
-    let request = whole(request)?;
-    Ok(Call::Answer(request, Answer::New(draft(alloc, json)?)))
 }
 
 // The value of a JSON text.
-fn json_of(alloc: Global, text: &str) -> Result<Value, Unread> {
+fn json_of(alloc: Global, text: &str) -> Result<Value, Unread>
+    ensures { IsPart view (read text.now) result }
+{
     match Value::from_str(alloc, text) {
         Ok(value) => Ok(value),
         Err(error) => Err(if error.is_memory() {
@@ -152,40 +194,73 @@ fn json_of(alloc: Global, text: &str) -> Result<Value, Unread> {
     }
 }
 
+// The draft that a JSON value is.
+fn draft_in(alloc: Global, value: &Value) -> Result<Draft, Unread>
+    ensures { IsPart (λ draft. draft) (draft_in (view value.now)) result }
+{
+    match Draft::from_value(alloc, value) {
+        Ok(draft) => Ok(draft),
+        Err(fault) => Err(unread_of(fault)),
+    }
+}
+
 // The draft of a JSON text.
-fn draft(alloc: Global, text: &str) -> Result<Draft, Unread> {
+fn draft_of(alloc: Global, text: &str) -> Result<Draft, Unread>
+    ensures { IsPart (λ draft. draft) (draft_read text.now) result }
+{
     let value = json_of(alloc, text)?;
-    let draft = Draft::from_value(alloc, &value);
-    drop(value);
-    Ok(draft?)
+    draft_in(alloc, &value)
 }
 
 // A path, and the draft at it.
-fn placed(alloc: Global, given: &str) -> Result<(Path, Draft), Unread> {
+fn placed(alloc: Global, given: &str) -> Result<(Path, Draft), Unread>
+    ensures { (says : Path → Rows Slot → Said)
+        → IsRead (λ p. says p.0 p.1) (with_json draft_read says given.now) result }
+{
     let (path, json) = given.split_once(' ').ok_or(Unread::Bad)?;
-    let path = Path::parse(alloc, path)?;
-    let draft = draft(alloc, json)?;
+    let path = path_of(alloc, path)?;
+    let draft = draft_of(alloc, json)?;
     Ok((path, draft))
 }
 
-// A path, and drafts at places below it: a JSON object of theirs.
-fn all_placed(alloc: Global, given: &str) -> Result<(Path, Vec<(Path, Draft)>), Unread> {
-    let (path, json) = given.split_once(' ').ok_or(Unread::Bad)?;
-    let path = Path::parse(alloc, path)?;
-    let value = json_of(alloc, json)?;
-    let places = places_in(alloc, &value);
-    drop(value);
-    Ok((path, places?))
+// The drafts of a JSON text, an object of them.
+fn drafts_of(alloc: Global, text: &str) -> Result<Vec<(Path, Draft)>, Unread>
+    ensures { IsPart (λ places. places.items) (places_read text.now) result }
+{
+    let value = json_of(alloc, text)?;
+    places_in(alloc, &value)
 }
 
-fn places_in(alloc: Global, value: &Value) -> Result<Vec<(Path, Draft)>, Unread> {
-    let Value::Object(members) = value else {
-        return Err(Unread::Refused);
-    };
+// A path, and drafts at places below it: a JSON object of theirs.
+fn all_placed(alloc: Global, given: &str) -> Result<(Path, Vec<(Path, Draft)>), Unread>
+    ensures { (says : Path → List (Path × Rows Slot) → Said)
+        → IsRead (λ p. says p.0 p.1.items) (with_json places_read says given.now) result }
+{
+    let (path, json) = given.split_once(' ').ok_or(Unread::Bad)?;
+    let path = path_of(alloc, path)?;
+    let places = drafts_of(alloc, json)?;
+    Ok((path, places))
+}
+
+// The drafts of an object.
+fn places_in(alloc: Global, value: &Value) -> Result<Vec<(Path, Draft)>, Unread>
+    ensures { IsPart (λ places. places.items) (places_in (view value.now)) result }
+{
+    match value {
+        Value::Object(members) => places_of(alloc, members),
+        _ => Err(Unread::Refused),
+    }
+}
+
+// The drafts of an object's members, each at the path that is its name.
+fn places_of(alloc: Global, members: &Map<String, Value>) -> Result<Vec<(Path, Draft)>, Unread>
+    ensures { IsPart (λ places. places.items)
+        (places_of (members_view members.now.entries)) result }
+{
     let mut places = Vec::new(alloc);
     for (name, value) in members.iter() {
-        let place = Path::parse(alloc, name.as_str())?;
-        let draft = Draft::from_value(alloc, value)?;
+        let place = path_of(alloc, name.as_str())?;
+        let draft = draft_in(alloc, value)?;
         places.push((place, draft))?;
     }
     Ok(places)

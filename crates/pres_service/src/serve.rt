@@ -1,7 +1,10 @@
 //! `presence serve`: a server over TCP, kept in a file.
 
-ghost use Rattle.std.specs.Prelude.{◌≡◌, ◌^◌};
+ghost use Rattle.std.specs.Prelude.{◌≡◌, ◌≢◌, ◌^◌, ◌++◌, ℕ, IfErr, OnOk};
+ghost use Rattle.std.specs.Io.KnownBytes.{Appends};
 ghost use Rattle.pres_saved.specs.Keeps.{IsReady};
+ghost use Rattle.pres_service.specs.declared.fault.ServiceFault.TheVariants as fault;
+ghost use Rattle.pres_service.specs.Outputs.{listening_line, number_line};
 
 use crate::fault::ServiceFault;
 use pres_engine::{Premise, SavedFault, SqlKeeper, Supposed};
@@ -42,6 +45,10 @@ pub fn serve_run<R, W: Write, F: Write>(
 ) -> Result<(), ServiceFault>
 where
     R: Net<Listener = TcpListener, Stream = TcpStream> + Threads + Wait + Clock + Sync,
+    ensures said { OnOk result ((number : ℕ) × Appends
+        (W.contents output.old) (W.contents output.new)
+        (listening_line serving.entry.address.now ++ number_line number)) }
+    ensures silent { IfErr result (λ e. e ≢ fault.Input → output.new ≡ output.old) }
 {
     let is_new = is_empty(host, serving.file);
     let Ok(connection) = Connection::open(host, serving.file) else {
@@ -117,6 +124,9 @@ fn granted<S: Alter + Drop + Send, R, W: Write, F: Write>(
 ) -> Result<u64, ServiceFault>
 where
     R: Net<Listener = TcpListener, Stream = TcpStream> + Threads + Wait + Clock + Sync,
+    ensures said { OnOk result (Appends (W.contents output.old) (W.contents output.new)
+        (listening_line serving.entry.address.now)) }
+    ensures silent { IfErr result (λ e. e ≢ fault.Input → output.new ≡ output.old) }
 {
     supposing::<Brand, S, R, W, F>(rt, alloc, keeper, serving, is_new, output, faults)
 }
@@ -134,6 +144,9 @@ fn supposing<P: Premise + Send, S: Alter + Drop + Send, R, W: Write, F: Write>(
 where
     R: Net<Listener = TcpListener, Stream = TcpStream> + Threads + Wait + Clock + Sync,
     requires { P.holds → IsReady S.Store keeper }
+    ensures said { OnOk result (Appends (W.contents output.old) (W.contents output.new)
+        (listening_line serving.entry.address.now)) }
+    ensures silent { IfErr result (λ e. e ≢ fault.Input → output.new ≡ output.old) }
 {
     let keeper = Supposed::<SqlKeeper<S>, P>::new(keeper);
     counted::<Supposed<SqlKeeper<S>, P>, R, W, F>(
@@ -154,6 +167,9 @@ fn counted<K: Keeper + Drop + Send, R, W: Write, F: Write>(
 where
     R: Net<Listener = TcpListener, Stream = TcpStream> + Threads + Wait + Clock + Sync,
     requires ready { K.ready keeper }
+    ensures said { OnOk result (Appends (W.contents output.old) (W.contents output.new)
+        (listening_line serving.entry.address.now)) }
+    ensures silent { IfErr result (λ e. e ≢ fault.Input → output.new ≡ output.old) }
 {
     let blank = Blank::new(1 << 53);
     served::<Brand, K, R, W, F>(rt, alloc, blank, keeper, serving, is_new, output, faults)
@@ -176,6 +192,9 @@ where
     requires parts { blank.parts ≡ L.parts }
     requires whole { blank.parts ≡ 2 ^ 53 }
     requires ready { K.ready keeper }
+    ensures said { OnOk result (Appends (W.contents output.old) (W.contents output.new)
+        (listening_line serving.entry.address.now)) }
+    ensures silent { IfErr result (λ e. e ≢ fault.Input → output.new ≡ output.old) }
 {
     let start = Instant::now(rt).ok();
     let now = Moment::at(pres_sock::Clock::now(&mut WallClock::new(rt)));
@@ -207,7 +226,11 @@ fn listening<R: Net<Listener = TcpListener, Stream = TcpStream>, W: Write>(
     rt: &R,
     address: &str,
     output: &mut W,
-) -> Result<TcpListener, ServiceFault> {
+) -> Result<TcpListener, ServiceFault>
+    ensures said { OnOk result (Appends (W.contents output.old) (W.contents output.new)
+        (listening_line address.now)) }
+    ensures silent { IfErr result (λ e. e ≢ fault.Input → output.new ≡ output.old) }
+{
     let Ok(listener) = TcpListener::bind(rt, address) else {
         return Err(ServiceFault::Address);
     };
