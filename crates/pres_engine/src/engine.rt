@@ -6,14 +6,14 @@ ghost use Rattle.pres_server.specs.LegalLog.{IsLegal};
 ghost use Rattle.pres_server.specs.Replays.{made_from};
 ghost use Rattle.pres_server.specs.Streams.{answers};
 ghost use Rattle.pres_server.specs.Turns.{state_after};
-ghost use Rattle.pres_saved.specs.Saved.{IsNoServer};
-ghost use Rattle.pres_saved.specs.Settled.{log_with};
+ghost use Rattle.pres_keeper.specs.Keepers.{IsNoServer};
+ghost use Rattle.pres_keeper.specs.Settled.{log_with};
 ghost use Rattle.pres_engine.specs.Engines.{Runs};
 ghost use Rattle.pres_engine.specs.Turned.{IsTurned, IsNotTurned, IsUndone, KeepsGone};
 ghost use Rattle.pres_engine.specs.declared.fault.EngineFault.TheVariants.{Keeper as Unkept, Down as Gone};
 
 use crate::fault::EngineFault;
-use pres_saved::{Keeper, Unsettled, settle};
+use pres_keeper::{Keeper, Unsettled, settle};
 use pres_server::{Busy, Down, Fault, Input, Items, Moment, Server, Turn};
 use std::marker::Model;
 

@@ -1,6 +1,6 @@
 //! Why an engine refuses.
 
-use pres_saved::SavedFault;
+use pres_keeper::SavedFault;
 use pres_server::Fault;
 use std::alloc::AllocError;
 use thiserror::Error;

@@ -7,6 +7,6 @@ mod supposed;
 
 pub use engine::Engine;
 pub use fault::EngineFault;
-pub use pres_saved::{Keeper, MemKeeper, SavedFault, SqlKeeper};
+pub use pres_keeper::{Keeper, MemKeeper, SavedFault};
 pub use pres_server::{Fault, Input};
 pub use supposed::{Premise, Supposed};

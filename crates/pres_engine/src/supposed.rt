@@ -2,7 +2,7 @@
 
 ghost use Rattle.std.specs.Prelude.{◌≡◌};
 
-use pres_saved::{Keeper, SavedFault};
+use pres_keeper::{Keeper, SavedFault};
 use pres_server::{Batch, Server};
 use std::marker::{Brand, Model, PhantomData};
 

@@ -7,6 +7,6 @@ mod exchange;
 
 pub use bells::{Bell, NoBell};
 pub use exchange::Exchange;
-pub use pres_engine::{EngineFault, Input, Keeper, MemKeeper, SqlKeeper};
+pub use pres_engine::{EngineFault, Input, Keeper, MemKeeper};
 pub use pres_ring::Outbox;
 pub use pres_server::{Count, Fault, Moment, Server, SessionId, Up, Why};

@@ -45,11 +45,11 @@ use Rattle.pres_wire.specs.contracts.values.Values as values
 use Rattle.pres_wire.specs.contracts.down.Down as down
 use Rattle.pres_ring.specs.contracts.feed.Feed as feed
 use Rattle.pres_lines.specs.contracts.lines.Lines as lines
-use Rattle.pres_saved.specs.contracts.memory.MemKeeper as keeper
+use Rattle.pres_keeper.specs.contracts.memory.MemKeeper as keeper
 use Rattle.pres_lines.specs.contracts.place.Place as place
 use denote.RattleType.{RattleType}
 use Rattle.std.specs.declared.sync.ledger.Ledger as ledger
-use Rattle.pres_saved.specs.declared.keeper.Keeper as keeping
+use Rattle.pres_keeper.specs.declared.keeper.Keeper as keeping
 use Rattle.pres_engine.specs.contracts.engine.Engine as engine
 use Rattle.pres_exchange.specs.contracts.exchange.Exchange as exchange
 use Rattle.pres_exchange.specs.contracts.bells.Bells as bells

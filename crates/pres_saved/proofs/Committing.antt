@@ -23,7 +23,8 @@ use Rattle.pres_table.specs.Kept.{Kept, Serves, AddsRow, IsLeft}
 use Rattle.pres_table.specs.Opened.{greatest_in}
 use Rattle.pres_table.proofs.Finding.{greatest_push}
 use Rattle.pres_table.proofs.Growing.{map_push}
-use Rattle.pres_saved.specs.Saved.{batch_of, batch_in, saved_log, HasOneNull}
+use Rattle.pres_keeper.specs.Keepers.{HasOneNull}
+use Rattle.pres_saved.specs.Saved.{batch_of, batch_in, saved_log}
 use Rattle.pres_saved.specs.Keeps.{Works, IsReady, KeepsLog, LeavesLog}
 use Rattle.pres_saved.proofs.Reading.{kept_next, kept_more, kept_count}
 

@@ -8,7 +8,8 @@ use Rattle.pres_table.specs.declared.fault.SavedFault.TheVariants.{Memory, Datab
 use Rattle.pres_table.specs.Saved.{Saved, saved_front}
 use Rattle.pres_table.specs.Taking.{TakesAll, GoesOver, MeetsBadRow, IsRefused}
 use Rattle.pres_server.specs.LegalLog.{IsLegal}
-use Rattle.pres_saved.specs.Saved.{batch_in, log_after, saved_log, IsOfStore, IsNoServer}
+use Rattle.pres_keeper.specs.Keepers.{IsOfStore, IsNoServer}
+use Rattle.pres_saved.specs.Saved.{batch_in, log_after, saved_log}
 use Rattle.pres_saved.specs.Taking.{Extends, IsNotTaken, Follows, IsNoFollower, IsUnread, IsUnserved}
 use Rattle.pres_saved.proofs.Counted.{due_is}
 use Rattle.pres_saved.proofs.Reading.{taken_log, log_of_read, stopped_log, log_unread, log_stopped, length_after}

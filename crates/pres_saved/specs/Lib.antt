@@ -1,4 +1,3 @@
 pub mod Saved
 pub mod Taking
 pub mod Keeps
-pub mod Settled

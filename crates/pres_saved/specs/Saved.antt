@@ -1,17 +1,12 @@
 -- What saved rows stand for: the batches of a log, each under the number that is due.
-use Rattle.std.specs.Prelude.{◌≡◌, ◌⊎◌, ℕ, ◌+◌, nat_le, if◌then◌else◌, List, [], ◌∷◌, ◌++◌, length, map, Option, Some, None, option_and_then, Result, Ok, Err}
+use Rattle.std.specs.Prelude.{ℕ, ◌+◌, nat_le, if◌then◌else◌, List, [], ◌∷◌, ◌++◌, length, Option, Some, None, option_and_then, Result, Ok, Err}
 use Rattle.sqlite.specs.Order.{Row}
 use Rattle.pres_ids.specs.Numbers.{greatest_number}
 use Rattle.pres_log.specs.declared.entry.Batch.{Batch}
 use Rattle.pres_log.specs.declared.entry.Entry.{Entry}
 use Rattle.pres_log.specs.Logs.{Log, number}
-use Rattle.pres_body.specs.Reads.{entries_in, with_one_null}
-use Rattle.pres_table.specs.declared.fault.SavedFault.{SavedFault}
-use Rattle.pres_table.specs.declared.fault.SavedFault.TheVariants.{Memory, Database, BadRow}
+use Rattle.pres_body.specs.Reads.{entries_in}
 use Rattle.pres_table.specs.Saved.{Saved, saved_rows, saved_front}
-use Rattle.pres_server.specs.declared.replay.ReplayFault.{ReplayFault}
-use Rattle.pres_server.specs.declared.replay.ReplayFault.TheVariants.{Memory as OutOfMemory, NotLegal}
-use Rattle.pres_server.specs.Replays.{IsFirstIllegal}
 
 abbrev pub batch_of : ℕ → ℕ → List Entry → Option Batch
 batch_of first moment es = if nat_le first greatest_number then Some (record { first = first; moment = moment; entries = es }) else None
@@ -38,24 +33,3 @@ if_all_read (Ok rows) (Ok log) = Ok log
 -- has a text that isn't, or the row itself isn't read
 abbrev pub saved_log : List Row → Result Log ℕ
 saved_log shown = if_all_read (saved_rows shown) (log_after [] (saved_front shown))
-
--- no value is held as null and not as none; so it is with what a turn makes
-abbrev pub HasOneNull : List Entry → Type 0
-HasOneNull es = map with_one_null es ≡ es
-
--- ---- a server made of its batches
-
--- a batch that may not follow is a bad row
-abbrev pub bad_batch : ReplayFault → SavedFault
-bad_batch OutOfMemory = Memory
-bad_batch (NotLegal k) = BadRow k
-
--- the fault is want of memory, or the database's
-abbrev pub IsOfStore : SavedFault → Type 0
-IsOfStore e = (e ≡ Memory) ⊎ (e ≡ Database)
-
--- why no server is made of a log: the batch with that number is the first that may not follow, or memory or the
--- database refused
-abbrev pub IsNoServer : Log → SavedFault → Type 0
-IsNoServer log (BadRow k) = IsFirstIllegal log k
-IsNoServer log e = IsOfStore e

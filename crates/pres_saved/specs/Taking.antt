@@ -7,7 +7,8 @@ use Rattle.pres_table.specs.declared.fault.SavedFault.{SavedFault}
 use Rattle.pres_table.specs.declared.fault.SavedFault.TheVariants.{BadRow}
 use Rattle.pres_table.specs.Saved.{Saved, saved_rows, saved_front}
 use Rattle.pres_server.specs.LegalLog.{IsLegal, MayFollow}
-use Rattle.pres_saved.specs.Saved.{batch_in, log_after, saved_log, IsOfStore}
+use Rattle.pres_keeper.specs.Keepers.{IsOfStore}
+use Rattle.pres_saved.specs.Saved.{batch_in, log_after, saved_log}
 
 -- the row's batch stands behind the log
 pub record Extends (old : Log) (row : Saved) (new : Log) : Type 0 where

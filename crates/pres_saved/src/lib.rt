@@ -1,15 +1,8 @@
-//! The log of a server, saved: a keeper is given each batch before the turn that made it is done,
-//! and a server is made again from the batches that it holds.
+//! A keeper whose batches are rows of a SQLite database, of which a server is made again.
 #![tactic(auto)]
 
-mod keeper;
-mod memory;
-mod settlement;
 mod sql;
 mod taker;
 
-pub use keeper::Keeper;
-pub use memory::MemKeeper;
-pub use pres_table::SavedFault;
-pub use settlement::{Unsettled, settle};
+pub use pres_keeper::{Keeper, SavedFault};
 pub use sql::SqlKeeper;

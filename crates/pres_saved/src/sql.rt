@@ -13,9 +13,9 @@ ghost use Rattle.pres_saved.specs.Saved.{saved_log};
 ghost use Rattle.pres_saved.specs.Keeps.{IsReady, WasShut, KeepsLog};
 ghost use Rattle.pres_saved.specs.Taking.{IsUnread, IsUnserved};
 
-use crate::keeper::Keeper;
 use crate::taker::{Batches, Remaking};
 use pres_body::print_entries;
+use pres_keeper::Keeper;
 use pres_log::{Batch, Log};
 use pres_server::{Replay, Server};
 use pres_table::{SavedFault, Table};

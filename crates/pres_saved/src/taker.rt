@@ -6,9 +6,9 @@ ghost use Rattle.pres_ids.specs.Numbers.{greatest_number};
 ghost use Rattle.pres_saved.specs.Saved.{batch_in};
 ghost use Rattle.pres_table.specs.Saved.{saved_of};
 
-use crate::keeper::bad_batch;
 use pres_body::read_entries;
 use pres_ids::{Count, Number};
+use pres_keeper::bad_batch;
 use pres_log::{Batch, Log};
 use pres_server::Replay;
 use pres_table::{SavedFault, SavedRow, Take};

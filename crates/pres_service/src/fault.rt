@@ -4,7 +4,7 @@ ghost use Rattle.std.specs.Prelude.{◌≡◌};
 ghost use Rattle.pres_service.specs.Faults.{status_of};
 
 use pres_hub::HubFault;
-use pres_saved::SavedFault;
+use pres_keeper::SavedFault;
 use pres_sock::SockFault;
 use std::alloc::{AllocError, AllocFailed};
 use thiserror::Error;

@@ -7,9 +7,10 @@ ghost use Rattle.pres_service.specs.declared.fault.ServiceFault.TheVariants as f
 ghost use Rattle.pres_service.specs.Outputs.{listening_line, number_line};
 
 use crate::fault::ServiceFault;
-use pres_engine::{Premise, SavedFault, SqlKeeper, Supposed};
+use pres_engine::{Premise, SavedFault, Supposed};
 use pres_hub::{Core, Hub, Keeper, OpenGate};
 use pres_net::{StreamBell, WallClock, serve_connections};
+use pres_saved::SqlKeeper;
 use pres_server::Moment;
 use sqlite::{Alter, Connection};
 use std::alloc::Global;

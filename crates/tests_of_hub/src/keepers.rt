@@ -2,7 +2,7 @@
 
 use pres_body::print_entries;
 use pres_hub::{Keeper, MemKeeper};
-use pres_saved::SavedFault;
+use pres_keeper::SavedFault;
 use pres_server::{Batch, Path, Server, Tree};
 use std::alloc::Global;
 use std::process::Abort;

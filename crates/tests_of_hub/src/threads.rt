@@ -6,9 +6,8 @@ use crate::gates::Holding;
 use crate::keepers::tree_text;
 use crate::scene::{Counts, Place, counted, next_text, session};
 use pres_exchange::Outbox;
-use pres_hub::{
-    Core, Gate, Hub, Keeper, MemKeeper, NoBell, OpenGate, Parting, Report, Seat, SqlKeeper,
-};
+use pres_hub::{Core, Gate, Hub, Keeper, MemKeeper, NoBell, OpenGate, Parting, Report, Seat};
+use pres_saved::SqlKeeper;
 use pres_server::{Moment, Up, Why};
 use sqlite::Connection;
 use std::alloc::Global;

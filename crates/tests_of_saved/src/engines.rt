@@ -5,9 +5,8 @@ ghost use Rattle.pres_saved.specs.Keeps.{IsReady};
 
 use crate::turns::{given, texts};
 use crate::words::{note, said};
-use pres_engine::{
-    Engine, EngineFault, Keeper, MemKeeper, Premise, SavedFault, SqlKeeper, Supposed,
-};
+use pres_engine::{Engine, EngineFault, Keeper, MemKeeper, Premise, SavedFault, Supposed};
+use pres_saved::SqlKeeper;
 use pres_server::{Batch, Server};
 use sqlite::{Alter, Connection};
 use std::alloc::Global;

@@ -2,7 +2,8 @@
 
 use crate::turns::step;
 use crate::words::{note, refused, run_sql, said};
-use pres_saved::{Keeper, MemKeeper, SqlKeeper};
+use pres_keeper::{Keeper, MemKeeper};
+use pres_saved::SqlKeeper;
 use sqlite::{Alter, Connection, Row, params};
 use std::alloc::Global;
 use std::process::Abort;

@@ -6,7 +6,8 @@ ghost use Rattle.std.specs.Prelude.{IsTrue};
 
 use crate::turns::{listed, turn};
 use crate::words::{refused, said};
-use pres_saved::{Keeper, SqlKeeper};
+use pres_keeper::Keeper;
+use pres_saved::SqlKeeper;
 use sqlite::{Alter, Connection, FileStore, Files, Options};
 use sqlite_disk::{Crash, Disk, Fuse, Memory};
 use std::alloc::Global;

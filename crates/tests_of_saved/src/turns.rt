@@ -2,7 +2,7 @@
 
 use crate::words::{refused, said};
 use pres_body::print_entries;
-use pres_saved::{Keeper, Unsettled, settle};
+use pres_keeper::{Keeper, Unsettled, settle};
 use pres_server::{
     Batch, Busy, ClientId, Down, Fault, Input, Moment, Path, ReplayFault, Server, Turn, Up,
 };

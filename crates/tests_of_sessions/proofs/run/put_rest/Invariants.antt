@@ -1,6 +1,6 @@
 use Rattle.std.proofs.Common.{length}
-use Rattle.tests_of_ring.specs.Runs.{IsFed}
-use Rattle.tests_of_ring.proofs.run.put_rest.Given as goal
+use Rattle.tests_of_sessions.specs.Runs.{IsFed}
+use Rattle.tests_of_sessions.proofs.run.put_rest.Given as goal
 
 abbrev pub invariant-loop-message : goal.invariant-loop-message
 invariant-loop-message l = IsFed l.feed l.rest.items

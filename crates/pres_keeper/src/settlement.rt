@@ -4,7 +4,7 @@ ghost use Rattle.std.specs.Prelude.{◌≡◌, IfOk, IfErr};
 ghost use Rattle.pres_log.specs.Logs.{entries};
 ghost use Rattle.pres_server.specs.Turns.{batch_of, state_after};
 ghost use Rattle.pres_server.specs.Streams.{answers};
-ghost use Rattle.pres_saved.specs.Settled.{IsUndone, KeepsUndone};
+ghost use Rattle.pres_keeper.specs.Settled.{IsUndone, KeepsUndone};
 
 use crate::keeper::Keeper;
 use pres_server::{Busy, Down, Items, Server};

@@ -14,7 +14,7 @@ use Rattle.pres_ring.specs.Told.{told, names, those_for, IsToldOf}
 use Rattle.pres_ring.specs.Ends.{Puts}
 use Rattle.pres_ring.proofs.ForSession.{those-append}
 use Rattle.pres_ring.proofs.Answered.{answers_are_told}
-use Rattle.tests_of_ring.specs.Runs.{IsAnswered}
+use Rattle.tests_of_sessions.specs.Runs.{IsAnswered}
 
 pub answered_at : (log later : Log) (b : Batch) (xs more all : List Down) → all ≡ xs ++ more → more ≡ answers (entries log) b.entries → later ≡ log ++ b ∷ [] → IsLegal (log ++ b ∷ []) → IsAnswered log xs → IsAnswered later all
 answered_at log later b xs more all e a l legal h =

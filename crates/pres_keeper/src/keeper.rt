@@ -4,14 +4,15 @@ ghost use Rattle.std.specs.Prelude.{◌≡◌, ◌+◌, ◌++◌, ◌∷◌, [],
 ghost use Rattle.pres_log.specs.declared.entry.Batch.{Batch as Logged};
 ghost use Rattle.pres_log.specs.Logs.{Log, number};
 ghost use Rattle.pres_server.specs.Replays.{made_from};
-ghost use Rattle.pres_saved.specs.Saved.{HasOneNull, IsNoServer, bad_batch};
+ghost use Rattle.pres_keeper.specs.Keepers.{HasOneNull, IsNoServer, bad_batch};
 
 use pres_log::Batch;
 use pres_server::{ReplayFault, Server};
 use pres_table::SavedFault;
 
-// The refusal of rows of which no server is made.
-pub(crate) fn bad_batch(fault: ReplayFault) -> SavedFault
+/// The refusal of batches of which no server is made: BadRow with the number of the first that may
+/// not follow, or Memory.
+pub fn bad_batch(fault: ReplayFault) -> SavedFault
     ensures { result ≡ bad_batch fault }
 {
     match fault {

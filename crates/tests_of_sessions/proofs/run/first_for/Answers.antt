@@ -3,8 +3,8 @@ use Rattle.pres_wire.specs.Messages.{session_for}
 use Rattle.pres_log.specs.Logs.{entries}
 use Rattle.pres_server.specs.Sessions.{is_open}
 use Rattle.pres_ring.specs.Told.{names}
-use Rattle.tests_of_ring.proofs.Fed.{first_told}
-use Rattle.tests_of_ring.proofs.run.first_for.Goals as goal
+use Rattle.tests_of_sessions.proofs.Fed.{first_told}
+use Rattle.tests_of_sessions.proofs.run.first_for.Goals as goal
 
 pub returns : goal.returns
 returns c =

@@ -1,7 +1,7 @@
 use Rattle.std.proofs.Common.{◌∷◌, []}
 use Rattle.pres_ring.specs.Told.{those_for}
 use Rattle.pres_ring.proofs.Begins.{told_front}
-use Rattle.tests_of_ring.proofs.run.welcomed.Goals as goal
+use Rattle.tests_of_sessions.proofs.run.welcomed.Goals as goal
 
 pub welcome-feed-requires : goal.welcome-feed-requires
 welcome-feed-requires g c =

@@ -3,8 +3,8 @@ use Rattle.std.proofs.lemmas.Option.{IfSome_then}
 use Rattle.pres_wire.specs.Messages.{session_for}
 use Rattle.pres_ring.specs.Told.{names, those_for}
 use Rattle.pres_ring.proofs.Begins.{told_front}
-use Rattle.tests_of_ring.proofs.Fed.{next_told, fed_put}
-use Rattle.tests_of_ring.proofs.run.put_rest.Goals as goal
+use Rattle.tests_of_sessions.proofs.Fed.{next_told, fed_put}
+use Rattle.tests_of_sessions.proofs.run.put_rest.Goals as goal
 
 pub put-requires : goal.put-requires
 put-requires c =

@@ -17,7 +17,7 @@ use Rattle.pres_log.specs.declared.entry.Entry.TheVariants as entry
 use Rattle.pres_log.specs.Logs.{Log, entries}
 use Rattle.pres_body.specs.Reads.{one_null, with_one_null}
 use Rattle.pres_server.specs.LegalLog.{MayCome, MayComeTogether, MayFollow, IsLegal, IsLegalAfter}
-use Rattle.pres_saved.specs.Saved.{HasOneNull}
+use Rattle.pres_keeper.specs.Keepers.{HasOneNull}
 
 compared_has : (tree : Rows Scalar) (moment : ℕ) (t : Comparison) (b : Bool)
     → one_null (if b then Wrote (basic t.path (settled moment t.new) ∷ []) else Stale (option_of (value_at t.path tree)))

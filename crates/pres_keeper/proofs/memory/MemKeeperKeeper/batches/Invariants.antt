@@ -1,5 +1,5 @@
 use Rattle.std.proofs.Common.{◌≡◌, take}
-use Rattle.pres_saved.proofs.memory.MemKeeperKeeper.batches.Given as goal
+use Rattle.pres_keeper.proofs.memory.MemKeeperKeeper.batches.Given as goal
 
 -- the first ones are copied
 abbrev pub invariant-loop-batch : goal.invariant-loop-batch

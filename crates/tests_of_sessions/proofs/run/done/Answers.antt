@@ -1,8 +1,8 @@
 use Rattle.std.proofs.Common.{◌∙◌, ap}
 use Rattle.pres_server.specs.Heard.{State}
 use Rattle.pres_server.specs.Turns.{batch_of}
-use Rattle.tests_of_ring.proofs.Fed.{answered_at}
-use Rattle.tests_of_ring.proofs.run.done.Goals as goal
+use Rattle.tests_of_sessions.proofs.Fed.{answered_at}
+use Rattle.tests_of_sessions.proofs.run.done.Goals as goal
 
 pub invariant_of-result : goal.invariant_of-result
 invariant_of-result g c =

@@ -3,7 +3,7 @@
 ghost use Rattle.std.specs.Prelude.{◌≡◌, ◌∷◌, [], IfSome};
 ghost use Rattle.pres_wire.specs.Messages.{session_for};
 ghost use Rattle.pres_ring.specs.Told.{IsToldOf, names, those_for};
-ghost use Rattle.tests_of_ring.specs.Runs.{IsAnswered, IsFed};
+ghost use Rattle.tests_of_sessions.specs.Runs.{IsAnswered, IsFed};
 
 use pres_ring::{Feed, Outbox, open};
 use pres_server::{Busy, Down, Input, Moment, Server, SessionId, Turn, Up};

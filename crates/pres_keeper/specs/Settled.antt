@@ -3,8 +3,8 @@ use Rattle.std.specs.Prelude.{◌≡◌, [], ◌∷◌, ◌++◌}
 use Rattle.pres_log.specs.Logs.{Log}
 use Rattle.pres_server.specs.Heard.{State, Pending}
 use Rattle.pres_server.specs.Turns.{batch_of}
-use Rattle.pres_saved.specs.declared.settlement.Unsettled.{Unsettled}
-use Rattle.pres_saved.specs.declared.settlement.Unsettled.TheVariants.{Refused, Reopen}
+use Rattle.pres_keeper.specs.declared.settlement.Unsettled.{Unsettled}
+use Rattle.pres_keeper.specs.declared.settlement.Unsettled.TheVariants.{Refused, Reopen}
 
 -- a refused batch leaves the server as it was
 abbrev pub IsUndone : State → Unsettled → Type 0

@@ -1,0 +1,2 @@
+pub mod Keepers
+pub mod Settled
