@@ -1,2 +1,3 @@
+pub mod Driven
 pub mod Ends
 pub mod Refusals

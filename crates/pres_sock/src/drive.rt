@@ -1,6 +1,8 @@
 //! The client's side of a connection.
 
-ghost use Rattle.std.specs.Prelude.{◌≡◌, true, false, [], IfOk, IfErr, OnOk};
+ghost use Rattle.std.specs.Prelude.{◌≡◌, ◌∷◌, ◌++◌, true, false, [], IfOk, IfErr, OnOk};
+ghost use Rattle.pres_client.specs.declared.call.Call.TheVariants.{GoOnline, GoOffline};
+ghost use Rattle.pres_sock.specs.Driven.{HasMade, calls_in};
 ghost use Rattle.pres_sock.specs.Ends.{is_handshake};
 
 use crate::fault::SockFault;
@@ -40,6 +42,8 @@ pub fn drive_client<S: Read + Write + Drop, M: MaskKeys + Drop, W: Write>(
     lines: Vec<Line>,
     output: &mut W,
 ) -> Result<Client, (SockFault, Client)>
+    ensures made { IfOk result (λ c.
+        HasMade client (GoOnline ∷ calls_in lines.items ++ GoOffline ∷ []) c) }
     ensures sent { IfOk result (λ client. client.sends ≡ []) }
     ensures told { IfOk result (λ client. client.notices ≡ []) }
     ensures handshake { IfErr result (λ e. is_handshake e.0 ≡ true → e.1 ≡ client) }
@@ -68,6 +72,8 @@ fn drive<S: Read + Write + Drop, M: MaskKeys + Drop, W: Write>(
     lines: Vec<Line>,
     output: &mut W,
 ) -> Result<(), SockFault>
+    ensures made { OnOk result
+        (HasMade client.old (GoOnline ∷ calls_in lines.items ++ GoOffline ∷ []) client.new) }
     ensures sent { OnOk result (client.new.sends ≡ []) }
     ensures told { OnOk result (client.new.notices ≡ []) }
     ensures err { IfErr result (λ e. is_handshake e ≡ false) }
@@ -90,13 +96,14 @@ fn follow<S: Read + Write + Drop, M: MaskKeys + Drop, W: Write>(
     line: Line,
     output: &mut W,
 ) -> Result<(), SockFault>
-    ensures { IfErr result (λ e. is_handshake e ≡ false) }
+    ensures made { OnOk result (HasMade client.old (calls_in (line ∷ [])) client.new) }
+    ensures err { IfErr result (λ e. is_handshake e ≡ false) }
 {
     match line {
         Line::Call(call) => make(alloc, client, call, output),
         Line::Refused => tell_refusal(alloc, output, REFUSED),
         Line::Wait(count) => {
-            for _ in 0..count {
+            'reads: for _ in 0..count {
                 receive(alloc, socket, client, output)?;
             }
             Ok(())
@@ -111,12 +118,15 @@ fn make<W: Write>(
     call: Call,
     output: &mut W,
 ) -> Result<(), SockFault>
-    ensures { IfErr result (λ e. is_handshake e ≡ false) }
+    ensures made { OnOk result (HasMade client.old (call ∷ []) client.new) }
+    ensures err { IfErr result (λ e. is_handshake e ≡ false) }
 {
-    match client.make(call) {
-        Ok(_) => Ok(()),
-        Err(ClientFault::Memory) => Err(SockFault::Memory),
-        Err(fault) => tell_refusal(alloc, output, fault.number()),
+    let Err(fault) = client.make(call) else {
+        return Ok(());
+    };
+    match fault {
+        ClientFault::Memory => Err(SockFault::Memory),
+        _ => tell_refusal(alloc, output, fault.number()),
     }
 }
 
@@ -127,10 +137,11 @@ fn settle<S: Read + Write + Drop, M: MaskKeys + Drop, W: Write>(
     client: &mut Client,
     output: &mut W,
 ) -> Result<(), SockFault>
-    ensures { IfErr result (λ e. is_handshake e ≡ false) }
+    ensures made { OnOk result (HasMade client.old [] client.new) }
+    ensures err { IfErr result (λ e. is_handshake e ≡ false) }
 {
     hand_out(alloc, socket, client, output)?;
-    for _ in 0..u64::MAX {
+    'reads: for _ in 0..u64::MAX {
         if client.unanswered() == 0 {
             return Ok(());
         }
@@ -146,13 +157,14 @@ fn receive<S: Read + Write + Drop, M: MaskKeys + Drop, W: Write>(
     client: &mut Client,
     output: &mut W,
 ) -> Result<(), SockFault>
-    ensures { IfErr result (λ e. is_handshake e ≡ false) }
+    ensures made { OnOk result (HasMade client.old [] client.new) }
+    ensures err { IfErr result (λ e. is_handshake e ≡ false) }
 {
     let message = next_message(alloc, socket)?;
-    if client.receive(message).is_err() {
-        return Err(SockFault::Memory);
+    match client.receive(message) {
+        Ok(()) => hand_out(alloc, socket, client, output),
+        Err(_) => Err(SockFault::Memory),
     }
-    hand_out(alloc, socket, client, output)
 }
 
 // The next message of a server. What is none is passed over.
@@ -195,6 +207,7 @@ fn hand_out<S: Read + Write + Drop, M: MaskKeys + Drop, W: Write>(
     client: &mut Client,
     output: &mut W,
 ) -> Result<(), SockFault>
+    ensures made { OnOk result (HasMade client.old [] client.new) }
     ensures sent { OnOk result (client.new.sends ≡ []) }
     ensures told { OnOk result (client.new.notices ≡ []) }
     ensures err { IfErr result (λ e. is_handshake e ≡ false) }
