@@ -1,6 +1,6 @@
 -- The lines of an input.
-use Rattle.std.proofs.Common.{◌≡◌, ◌==◌, ◌+◌, ℕ, Bool, true, false, if◌then◌else◌, List, [], ◌∷◌, ◌++◌, length, map, Option, Some, None, refl, sym, ap, ◌∙◌, arith, Bor, IfSome, append_assoc, append-nil}
-use Rattle.std.specs.Io.KnownBytes.{Appends, Consumes, IsAtEnd}
+use Rattle.std.proofs.Common.{◌≡◌, ◌==◌, ◌+◌, ℕ, Bool, true, false, if◌then◌else◌, List, [], ◌∷◌, ◌++◌, length, map, Option, Some, None, refl, sym, ap, ◌∙◌, arith, Bor, IfSome, append-nil}
+use Rattle.std.specs.Io.KnownBytes.{Consumes, IsAtEnd}
 use Rattle.std.specs.Str.{is_utf8, IsUtf8}
 use Rattle.std.proofs.lemmas.Str.{IsUtf8-from_is_utf8, is_utf8-from_IsUtf8}
 use Rattle.std.specs.List.{slice_split}
@@ -39,31 +39,18 @@ lines_of-some input rest some is = ap (slice_split (λ b. b == 10)) is ∙ ap (�
 
 -- ---- bytes that are read
 
-pub consumes_none : (o : Option (List ℕ)) → Consumes o o []
-consumes_none None = tt
-consumes_none (Some xs) = refl
-
-pub consumes_more : (a b c : Option (List ℕ)) (xs ys : List ℕ) → Consumes a b xs → Consumes b c ys → Consumes a c (xs ++ ys)
-consumes_more None b c xs ys h k = tt
-consumes_more (Some zs) None c xs ys h k = absurd h
-consumes_more (Some zs) (Some bs) None xs ys h k = k
-consumes_more (Some zs) (Some bs) (Some cs) xs ys h k = h ∙ ap (λ z. xs ++ z) k ∙ sym (append_assoc xs ys cs)
-
 -- where all is read, what was read is the input
 pub all_read : (input rest : Option (List ℕ)) (seen : List ℕ) → Consumes input rest seen → IsAtEnd rest → IfSome input (λ bytes. seen ≡ bytes)
 all_read None rest seen h k = tt
 all_read (Some input) None seen h k = absurd h
 all_read (Some input) (Some xs) seen h k = sym (h ∙ ap (λ z. seen ++ z) k ∙ append-nil seen)
 
+-- the lines of a known input
+pub says_known : (input : Option (List ℕ)) (seen text : List ℕ) (good : List Line) → IfSome input (λ bytes. seen ≡ bytes) → text ≡ seen → lines_in text ≡ map (λ line. Some (said line)) good → IfSome input (λ bytes. lines_in bytes ≡ map (λ line. Some (said line)) good)
+says_known None seen text good h same says = tt
+says_known (Some bytes) seen text good h same says = ap lines_in (sym (same ∙ h)) ∙ says
+
 -- an input whose lines all say something
 pub known_lines : (input : Option (List ℕ)) (seen text : List ℕ) (good : List Line) → IfSome input (λ bytes. seen ≡ bytes) → text ≡ seen → lines_in text ≡ map (λ line. Some (said line)) good → IfSome input AreLines
 known_lines None seen text good h same says = tt
 known_lines (Some bytes) seen text good h same says = ap (λ b. first_bad 1 (lines_in b)) (sym (same ∙ h)) ∙ ap (first_bad 1) says ∙ all_good 1 good
-
--- ---- bytes that are written
-
-pub appends_more : (a b c : Option (List ℕ)) (xs ys : List ℕ) → Appends a b xs → Appends b c ys → Appends a c (xs ++ ys)
-appends_more None b c xs ys h k = tt
-appends_more (Some zs) None c xs ys h k = absurd h
-appends_more (Some zs) (Some bs) None xs ys h k = k
-appends_more (Some zs) (Some bs) (Some cs) xs ys h k = k ∙ ap (λ z. z ++ ys) h ∙ append_assoc zs xs ys

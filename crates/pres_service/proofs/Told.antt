@@ -12,7 +12,8 @@ use Rattle.pres_write.specs.declared.draft.Slot.{Slot}
 use Rattle.pres_wire.specs.Fields.{path_in}
 use Rattle.pres_service.specs.declared.lines.Unread.{Unread}
 use Rattle.pres_service.specs.declared.lines.Unread.TheVariants as unread
-use Rattle.pres_service.specs.Lines.{IsPart, IsRead, IsRefusal, Said, draft_in, is_numeral, places_of, whole_in}
+use Rattle.pres_service.specs.Reading.{IsPart, IsRead, IsRefusal}
+use Rattle.pres_service.specs.Lines.{Said, draft_in, is_numeral, places_of, whole_in}
 
 -- what `?` makes of a refusal
 pub part_refused : {A B : Type 0} (view : A → B) (part : Option B) (r : Result A Unread) (e : Unread) → IsErr r × IsErrAnd r (λ x. x ≡ e) → ((e ≡ unread.Memory) ⊎ ((e ≡ unread.Refused) × (part ≡ None))) → IsPart view part r

@@ -1,3 +1,4 @@
 pub mod Faults
 pub mod Lines
 pub mod Outputs
+pub mod Reading

@@ -1,5 +1,5 @@
 -- The lines of a client's input, and what each says.
-use Rattle.std.specs.Prelude.{◌≡◌, ◌⊎◌, ◌==◌, ◌&&◌, ◌+◌, ◌-◌, ◌^◌, ⊤, ℕ, Bool, List, [], ◌∷◌, if◌then◌else◌, codes, drop, take, length, map, nat_lt, nat_le, Option, Some, None, is_none, option_map, option_and_then, Result, Ok, Err}
+use Rattle.std.specs.Prelude.{◌≡◌, ◌==◌, ◌&&◌, ◌+◌, ◌-◌, ◌^◌, ℕ, Bool, List, [], ◌∷◌, if◌then◌else◌, codes, drop, take, length, map, nat_lt, nat_le, Option, Some, None, is_none, option_map, option_and_then}
 use Rattle.std.specs.Cmp.Lexicographic.{pointwise}
 use Rattle.std.specs.List.{after_first, before_first, list_all, position_or_len, slice_split}
 use Rattle.std.specs.Char.{digit_value}
@@ -7,8 +7,6 @@ use Rattle.std.specs.Str.{is_utf8}
 use Rattle.std.specs.Str.Parse.{digits_value, without_leading_plus}
 use Rattle.serde_json.specs.Data.{Data, null, boolean, number, string, array, object, Members, no_members, member}
 use Rattle.serde_json.specs.Read.{read}
-use Rattle.pres_tree.specs.declared.fault.TreeFault.{TreeFault}
-use Rattle.pres_tree.specs.declared.fault.TreeFault.TheVariants as tree
 use Rattle.pres_tree.specs.Paths.{Path, max_depth}
 use Rattle.pres_tree.specs.Reading.{rows_of, fault_of}
 use Rattle.pres_tree.specs.Rows.{Rows}
@@ -21,8 +19,6 @@ use Rattle.pres_client.specs.declared.call.Call.{Call}
 use Rattle.pres_client.specs.declared.call.Call.TheVariants as call
 use Rattle.pres_sock.specs.declared.drive.Line.{Line}
 use Rattle.pres_sock.specs.declared.drive.Line.TheVariants as line
-use Rattle.pres_service.specs.declared.lines.Unread.{Unread}
-use Rattle.pres_service.specs.declared.lines.Unread.TheVariants as unread
 
 abbrev pub Text : Type 0
 Text = List ℕ
@@ -56,7 +52,7 @@ halves text = if nat_lt (position_or_len is_space text) (length text) then Some 
 abbrev pub is_numeral : Text → Bool
 is_numeral digits = nat_lt 0 (length digits) && list_all (λ c. nat_lt (digit_value c) 10) digits
 
--- a whole number below 2^64, in decimal digits
+-- a whole number below 2^64: decimal digits, behind a plus or without
 abbrev pub whole_in : Text → Option ℕ
 whole_in text = let digits = without_leading_plus text in
     if is_numeral digits && nat_lt (digits_value 10 digits) (2 ^ 64) then Some (digits_value 10 digits) else None
@@ -173,31 +169,3 @@ first_bad n (Some s ∷ lines) = first_bad (n + 1) lines
 -- each line of the input says something
 abbrev pub AreLines : List ℕ → Type 0
 AreLines input = first_bad 1 (lines_in input) ≡ None
-
--- ---- reading
-
--- why nothing was read: the line says nothing, or its path or JSON is refused
-abbrev pub IsRefusal : Option Said → Unread → Type 0
-IsRefusal line unread.Bad = line ≡ None
-IsRefusal line unread.Refused = line ≡ Some refused
-IsRefusal line unread.Memory = ⊤
-
--- what was read of a line, or of what its word is given
-abbrev pub IsRead : {A : Type 0} → (A → Said) → Option Said → Result A Unread → Type 0
-IsRead says line (Ok a) = line ≡ Some (says a)
-IsRead says line (Err e) = IsRefusal line e
-
--- a path or JSON that was read: none where it is refused
-abbrev pub IsPart : {A B : Type 0} → (A → B) → Option B → Result A Unread → Type 0
-IsPart view part (Ok a) = part ≡ Some (view a)
-IsPart view part (Err e) = (e ≡ unread.Memory) ⊎ ((e ≡ unread.Refused) × (part ≡ None))
-
--- a number that was read: none where it is no number
-abbrev pub IsWhole : Option ℕ → Result ℕ Unread → Type 0
-IsWhole read (Ok n) = read ≡ Some n
-IsWhole read (Err e) = (e ≡ unread.Bad) × (read ≡ None)
-
--- why the tree's refusal of a path or a value names no call
-abbrev pub of_fault : TreeFault → Unread
-of_fault tree.Memory = unread.Memory
-of_fault e = unread.Refused

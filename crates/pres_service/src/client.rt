@@ -67,7 +67,9 @@ fn lines_from<I: Read, W: Write>(
     input: &mut I,
     output: &mut W,
 ) -> Result<Vec<Line>, ServiceFault>
-    ensures lines { IfOk result (λ _. IfSome (I.remaining input.old) AreLines) }
+    ensures lines { IfOk result (λ lines. IfSome (I.remaining input.old) (λ bytes.
+        lines_in bytes ≡ map (λ line. Some (said line)) lines.items)) }
+    ensures good { IfOk result (λ _. IfSome (I.remaining input.old) AreLines) }
     ensures quiet { OnOk result (output.new ≡ output.old) }
     ensures err { IfErr result (λ e. (e ≡ fault.Memory) ⊎ (e ≡ fault.Input)) }
 {

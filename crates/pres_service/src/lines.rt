@@ -8,7 +8,8 @@ ghost use Rattle.pres_tree.specs.Rows.{Rows};
 ghost use Rattle.pres_write.specs.declared.draft.Slot.{Slot};
 ghost use Rattle.pres_wire.specs.Fields.{path_in};
 ghost use Rattle.pres_service.specs.declared.lines.Unread.TheVariants as unread;
-ghost use Rattle.pres_service.specs.Lines.{IsPart, IsRead, IsWhole, Said, said, of_fault, draft_in, draft_read, places_in, places_of, places_read, whole_in, with_json, answering, waiting, path_line, given_line, bare_line, line_in};
+ghost use Rattle.pres_service.specs.Reading.{IsPart, IsRead, IsWhole, of_fault};
+ghost use Rattle.pres_service.specs.Lines.{Said, said, draft_in, draft_read, places_in, places_of, places_read, whole_in, with_json, answering, waiting, path_line, given_line, bare_line, line_in};
 
 use pres_client::{Answer, Call};
 use pres_sock::Line;

@@ -1,5 +1,5 @@
+use Rattle.tungstenite.proofs.SocketLemmas.{appends-chain}
 use Rattle.pres_service.specs.Outputs.{listening_line, number_line}
-use Rattle.pres_service.proofs.Inputs.{appends_more}
 use Rattle.pres_service.proofs.serve.serve_run.Goals as goal
 
 -- the line at its end follows the one with which it began
@@ -8,4 +8,4 @@ returns-in-Ok-writeln-clause-said g c =
     let before = g.W.Write.contents c.args.output.now in
     let listening = g.W.Write.contents c.granted.new.output in
     let after = g.W.Write.contents c.writeln.new.self in
-    (c.in_ok-number.number, appends_more before listening after (listening_line c.args.serving.address.now) (number_line c.in_ok-number.number) c.in_ok-number.ensures.said c.in-Ok-writeln.ensures.bytes)
+    (c.in_ok-number.number, appends-chain before listening after (listening_line c.args.serving.address.now) (number_line c.in_ok-number.number) c.in_ok-number.ensures.said c.in-Ok-writeln.ensures.bytes)
