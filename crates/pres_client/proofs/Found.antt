@@ -98,7 +98,7 @@ less Equal h = absurd (true≢false (sym h))
 less Greater h = absurd (true≢false (sym h))
 
 -- what comes after a path that is before the first is elsewhere
-rises_apart : (p : Path) (vs : List PathValue) → rise (p ∷ map (λ v. v.path) vs) ≡ true → value_in p vs ≡ None
+pub rises_apart : (p : Path) (vs : List PathValue) → rise (p ∷ map (λ v. v.path) vs) ≡ true → value_in p vs ≡ None
 rises_apart p [] h = refl
 rises_apart p (v ∷ vs) h =
     let a = and_parts (is_lt (path_cmp p v.path)) _ h in
@@ -111,7 +111,7 @@ rises_apart p (v ∷ vs) h =
           let c = and_parts (is_lt (path_cmp v.path u.path)) _ k in
           (λ i. is_lt (path_total.trans p v.path u.path b (less _ c.0) i) && rise (u.path ∷ map (λ u. u.path) us)) ∙ c.1
 
-rest_rises : (v : PathValue) (vs : List PathValue) → Rising (v ∷ vs) → Rising vs
+pub rest_rises : (v : PathValue) (vs : List PathValue) → Rising (v ∷ vs) → Rising vs
 rest_rises v [] h = refl
 rest_rises v (u ∷ vs) h = (and_parts (is_lt (path_cmp v.path u.path)) _ h).1
 

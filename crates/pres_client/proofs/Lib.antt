@@ -5,6 +5,7 @@ pub mod Welcomes
 pub mod Denials
 pub mod Phases
 pub mod Found
+pub mod Noted
 pub mod Trails
 pub mod Sent
 pub mod SentSteps

@@ -1,5 +1,6 @@
 //! Laws of clients, over every list of what may happen to one.
 
+ghost use Rattle.pres_client.specs.Shown.{CallsNote, MessagesNote};
 ghost use Rattle.pres_client.specs.Trails.{ViewsHold};
 ghost use Rattle.pres_client.specs.Sends.{SendsHold, StepSends};
 
@@ -18,4 +19,11 @@ pub fn sends_hold()
 /// What a step sends is a Hello or a Beat of its session, or stands in the session's list.
 pub fn steps_send()
     ensures { StepSends }
+{}
+
+/// What a client notes of values is what it shows: behind each call and each message, a value that
+/// was noted is the view of its path, at the view's number.
+pub fn notes_are_shown()
+    ensures calls { CallsNote }
+    ensures messages { MessagesNote }
 {}
