@@ -1,15 +1,21 @@
--- What a client that is driven has made, step by step.
-use Rattle.std.proofs.Common.{◌≡◌, List, [], ◌∷◌, ◌++◌, if◌then◌else◌, Option, Some, None, Result, Ok, Err, OnOk, IfSome, length, arith, refl, sym, ap, subst, ◌∙◌, append-nil, append_assoc}
+-- What a client that is driven does, and what is printed of it, event by event.
+use Rattle.std.proofs.Common.{◌≡◌, List, [], ◌∷◌, ◌++◌, if◌then◌else◌, Option, Some, None, IfSome, length, arith, refl, sym, ap, subst, ◌∙◌, append-nil, append_assoc}
 use Rattle.std.specs.Option.{is_none, unwrap_or}
+use Rattle.std.specs.Io.KnownBytes.{Appends}
+use Rattle.std.proofs.lemmas.List.Elements.{All-nil, All-cons, All-append}
+use Rattle.tungstenite.proofs.SocketLemmas.{appends-chain}
 use Rattle.pres_wire.specs.declared.down.Down.{Down}
+use Rattle.pres_mail.specs.declared.notice.Notice.{Notice}
 use Rattle.pres_client.specs.declared.call.Call.{Call}
 use Rattle.pres_client.specs.declared.fault.ClientFault.{ClientFault}
 use Rattle.pres_client.specs.declared.fault.ClientFault.TheVariants.{Memory}
 use Rattle.pres_client.specs.Calls.{Does, Refuses, refusal, after_call}
 use Rattle.pres_client.specs.Clients.{State}
+use Rattle.pres_client.specs.Faults.{number_of}
 use Rattle.pres_client.specs.Receiving.{after_receive}
-use Rattle.pres_client.specs.Steps.{Step, calls, receives, hands_out_sends, hands_out_notices, after, run}
-use Rattle.pres_sock.specs.Driven.{HasMade, calls_in, calls_of}
+use Rattle.pres_client.specs.Steps.{Step, calls, receives, hands_out_sends, hands_out_notices, after, run, IsMessage, IsStep, AreMessages}
+use Rattle.pres_sock.specs.Driven.{Event, does, refuses, Drives, steps_of, asked_in, asked_of, printed, printed_of}
+use Rattle.pres_sock.specs.Printed.{Text, line_of, notice_text, notice_lines, refusal_text, refusal_line}
 use Rattle.pres_sock.specs.declared.drive.Line.{Line}
 use Rattle.pres_sock.specs.declared.drive.Line.TheVariants as line
 
@@ -17,68 +23,113 @@ run_append : (c : State) (xs ys : List Step) → run c (xs ++ ys) ≡ run (run c
 run_append c [] ys = refl
 run_append c (s ∷ xs) ys = run_append (after c s) xs ys
 
-calls_append : (xs ys : List Step) → calls_of (xs ++ ys) ≡ calls_of xs ++ calls_of ys
-calls_append [] ys = refl
-calls_append (calls k ∷ xs) ys = ap (λ ks. k ∷ ks) (calls_append xs ys)
-calls_append (receives m ∷ xs) ys = calls_append xs ys
-calls_append (hands_out_sends ∷ xs) ys = calls_append xs ys
-calls_append (hands_out_notices ∷ xs) ys = calls_append xs ys
+steps_append : (xs ys : List Event) → steps_of (xs ++ ys) ≡ steps_of xs ++ steps_of ys
+steps_append [] ys = refl
+steps_append (does s ∷ xs) ys = ap (λ ss. s ∷ ss) (steps_append xs ys)
+steps_append (refuses ∷ xs) ys = steps_append xs ys
+
+asked_append : (xs ys : List Event) → asked_of (xs ++ ys) ≡ asked_of xs ++ asked_of ys
+asked_append [] ys = refl
+asked_append (does (calls k) ∷ xs) ys = ap (λ ks. Some k ∷ ks) (asked_append xs ys)
+asked_append (does (receives m) ∷ xs) ys = asked_append xs ys
+asked_append (does hands_out_sends ∷ xs) ys = asked_append xs ys
+asked_append (does hands_out_notices ∷ xs) ys = asked_append xs ys
+asked_append (refuses ∷ xs) ys = ap (λ ks. None ∷ ks) (asked_append xs ys)
+
+printed_append : (c : State) (xs ys : List Event) → printed_of c (xs ++ ys) ≡ printed_of c xs ++ printed_of (run c (steps_of xs)) ys
+printed_append c [] ys = refl
+printed_append c (does s ∷ xs) ys = ap (λ t. printed c s ++ t) (printed_append (after c s) xs ys) ∙ sym (append_assoc (printed c s) (printed_of (after c s) xs) (printed_of (run (after c s) (steps_of xs)) ys))
+printed_append c (refuses ∷ xs) ys = ap (λ t. line_of (refusal_text 5) ++ t) (printed_append c xs ys) ∙ sym (append_assoc (line_of (refusal_text 5)) (printed_of c xs) (printed_of (run c (steps_of xs)) ys))
+
+-- an output that nothing was written to
+pub unwritten : (old : Option Text) → Appends old old []
+unwritten None = tt
+unwritten (Some xs) = sym (append-nil xs)
+
+no_steps : AreMessages []
+no_steps = All-nil IsStep
+
+one_step : (s : Step) → IsStep s → AreMessages (s ∷ [])
+one_step s h = All-cons IsStep s [] h no_steps
 
 -- nothing happened
-pub nothing_made : (c : State) → HasMade c [] c
-nothing_made c = record { steps = []; came = refl; made_them = refl }
+pub nothing_done : (c : State) (old : Option Text) → Drives c [] c old old
+nothing_done c old = record { events = []; came = refl; asked_them = refl; heard = no_steps; printed_them = unwritten old }
 
 -- one after the other
-pub made_then : (a b c : State) (xs ys : List Call) → HasMade a xs b → HasMade b ys c → HasMade a (xs ++ ys) c
-made_then a b c xs ys h k = record {
-  steps = h.steps ++ k.steps;
-  came = run_append a h.steps k.steps ∙ ap (λ s. run s k.steps) h.came ∙ k.came;
-  made_them = calls_append h.steps k.steps ∙ ap (λ z. z ++ calls_of k.steps) h.made_them ∙ ap (λ z. xs ++ z) k.made_them;
+pub drives_then : (a b c : State) (xs ys : List (Option Call)) (old mid new : Option Text) → Drives a xs b old mid → Drives b ys c mid new → Drives a (xs ++ ys) c old new
+drives_then a b c xs ys old mid new h k = record {
+  events = h.events ++ k.events;
+  came = ap (run a) (steps_append h.events k.events) ∙ run_append a (steps_of h.events) (steps_of k.events) ∙ ap (λ s. run s (steps_of k.events)) h.came ∙ k.came;
+  asked_them = asked_append h.events k.events ∙ ap (λ z. z ++ asked_of k.events) h.asked_them ∙ ap (λ z. xs ++ z) k.asked_them;
+  heard = subst AreMessages (sym (steps_append h.events k.events)) (All-append IsStep (steps_of h.events) (steps_of k.events) h.heard k.heard);
+  printed_them = subst (Appends old new) (ap (λ s. printed_of a h.events ++ printed_of s k.events) (sym h.came) ∙ sym (printed_append a h.events k.events)) (appends-chain old mid new (printed_of a h.events) (printed_of b k.events) h.printed_them k.printed_them);
 }
 
-pub received : (c d : State) (m : Down) → d ≡ after_receive c m → HasMade c [] d
-received c d m is = record { steps = receives m ∷ []; came = sym is; made_them = refl }
+pub received : (c d : State) (m : Down) (old : Option Text) → IsMessage m → d ≡ after_receive c m → Drives c [] d old old
+received c d m old message is = record { events = does (receives m) ∷ []; came = sym is; asked_them = refl; heard = one_step (receives m) message; printed_them = unwritten old }
 
 abbrev without_notices : State → State
 without_notices c = record c { notices = [] }
 
-pub handed_out : (c d e : State) → d ≡ record c { sends = [] } → e ≡ record d { notices = [] } → HasMade c [] e
-handed_out c d e sent told = record { steps = hands_out_sends ∷ hands_out_notices ∷ []; came = ap without_notices (sym sent) ∙ sym told; made_them = refl }
-
--- what holds holds where it went well
-pub on_ok : {A E P : Type 0} (r : Result A E) → P → OnOk r P
-on_ok (Ok x) p = p
-on_ok (Err e) p = tt
-
-pub on_ok_then : {A E P Q : Type 0} (r : Result A E) → (P → Q) → OnOk r P → OnOk r Q
-on_ok_then (Ok x) f p = f p
-on_ok_then (Err e) f p = tt
+pub handed_out : (c d e : State) (ns : List Notice) (old new : Option Text) → d ≡ record c { sends = [] } → ns ≡ d.notices → e ≡ record d { notices = [] } → Appends old new (notice_lines ns) → Drives c [] e old new
+handed_out c d e ns old new sent given left told = record {
+  events = does hands_out_sends ∷ does hands_out_notices ∷ [];
+  came = ap without_notices (sym sent) ∙ sym left;
+  asked_them = refl;
+  heard = All-cons IsStep hands_out_sends (hands_out_notices ∷ []) tt (one_step hands_out_notices tt);
+  printed_them = subst (Appends old new) (ap notice_lines (given ∙ ap (λ s. s.notices) sent) ∙ sym (append-nil (notice_lines c.notices))) told;
+}
 
 -- a call that is made
 by_refusal : (c d : State) (k : Call) (r : Option ClientFault) → r ≡ None → d ≡ after_call c k → (if is_none r then after_call c k else c) ≡ d
 by_refusal c d k (Some e) unlike is = absurd (subst (λ r. IfSome r (λ _. ⊥)) (sym unlike) tt)
 by_refusal c d k None _ is = sym is
 
-pub called : (c d : State) (k : Call) → Does c k d → HasMade c (k ∷ []) d
-called c d k h = record { steps = calls k ∷ []; came = by_refusal c d k (refusal c k) h.0 h.1; made_them = refl }
+pub called : (c d : State) (k : Call) (old : Option Text) → Does c k d → Drives c (Some k ∷ []) d old old
+called c d k old h = record {
+  events = does (calls k) ∷ [];
+  came = by_refusal c d k (refusal c k) h.0 h.1;
+  asked_them = refl;
+  heard = one_step (calls k) tt;
+  printed_them = subst (λ r. Appends old old (refusal_line r ++ [])) (sym h.0) (unwritten old);
+}
 
 -- a call that is refused, but for want of memory
-by_fault : (c d : State) (k : Call) (r : Option ClientFault) (e : ClientFault) → e ≡ unwrap_or r Memory → (e ≡ Memory → ⊥) → d ≡ c → (if is_none r then after_call c k else c) ≡ d
-by_fault c d k (Some f) e why other same = sym same
-by_fault c d k None e why other same = absurd (other why)
+is_refusal : (r : Option ClientFault) (e : ClientFault) → e ≡ unwrap_or r Memory → (e ≡ Memory → ⊥) → r ≡ Some e
+is_refusal (Some f) e why other = ap Some (sym why)
+is_refusal None e why other = absurd (other why)
 
-pub refused : (c d : State) (k : Call) (e : ClientFault) → Refuses c k d e → (e ≡ Memory → ⊥) → HasMade c (k ∷ []) d
-refused c d k e h other = record { steps = calls k ∷ []; came = by_fault c d k (refusal c k) e h.0 other h.1; made_them = refl }
+pub refused : (c d : State) (k : Call) (e : ClientFault) (old new : Option Text) → Refuses c k d e → (e ≡ Memory → ⊥) → Appends old new (line_of (refusal_text (number_of e))) → Drives c (Some k ∷ []) d old new
+refused c d k e old new h other told = let why = is_refusal (refusal c k) e h.0 other in record {
+  events = does (calls k) ∷ [];
+  came = ap (λ r. if is_none r then after_call c k else c) why ∙ sym h.1;
+  asked_them = refl;
+  heard = one_step (calls k) tt;
+  printed_them = subst (λ r. Appends old new (refusal_line r ++ [])) (sym why) (subst (Appends old new) (sym (append-nil (line_of (refusal_text (number_of e))))) told);
+}
 
--- the calls of a line, and then those behind it
-calls_next : (l : Line) (lines : List Line) → calls_in (l ∷ []) ++ calls_in lines ≡ calls_in (l ∷ lines)
-calls_next (line.Call k) lines = refl
-calls_next line.Refused lines = refl
-calls_next (line.Wait n) lines = refl
+-- a line that is refused
+pub passed_over : (c : State) (old new : Option Text) → Appends old new (line_of (refusal_text 5)) → Drives c (None ∷ []) c old new
+passed_over c old new told = record { events = refuses ∷ []; came = refl; asked_them = refl; heard = no_steps; printed_them = subst (Appends old new) (sym (append-nil (line_of (refusal_text 5)))) told }
 
-pub calls_more : (made : List Call) (l : Line) (rest lines : List Line) → rest ≡ l ∷ lines → (made ++ calls_in (l ∷ [])) ++ calls_in lines ≡ made ++ calls_in rest
-calls_more made l rest lines is = append_assoc made (calls_in (l ∷ [])) (calls_in lines) ∙ ap (λ z. made ++ z) (calls_next l lines ∙ ap calls_in (sym is))
+-- what a line asks for, and then those behind it
+asked_next : (l : Line) (lines : List Line) → asked_in (l ∷ []) ++ asked_in lines ≡ asked_in (l ∷ lines)
+asked_next (line.Call k) lines = refl
+asked_next line.Refused lines = refl
+asked_next (line.Wait n) lines = refl
 
-pub calls_done : (made all : List Call) (rest : List Line) → length rest ≡ 0 → made ++ calls_in rest ≡ all → made ≡ all
-calls_done made all [] none is = sym (append-nil made) ∙ is
-calls_done made all (l ∷ rest) none is = absurd (omega (arith, none))
+pub asked_more : (asked : List (Option Call)) (l : Line) (rest lines : List Line) → rest ≡ l ∷ lines → (asked ++ asked_in (l ∷ [])) ++ asked_in lines ≡ asked ++ asked_in rest
+asked_more asked l rest lines is = append_assoc asked (asked_in (l ∷ [])) (asked_in lines) ∙ ap (λ z. asked ++ z) (asked_next l lines ∙ ap asked_in (sym is))
+
+pub asked_done : (asked all : List (Option Call)) (rest : List Line) → length rest ≡ 0 → asked ++ asked_in rest ≡ all → asked ≡ all
+asked_done asked all [] none is = sym (append-nil asked) ∙ is
+asked_done asked all (l ∷ rest) none is = absurd (omega (arith, none))
+
+-- the notices' lines so far, and one more
+pub lines_more : (text : Text) (n : Notice) (rest notices : List Notice) → rest ≡ n ∷ notices → (text ++ line_of (notice_text n)) ++ notice_lines notices ≡ text ++ notice_lines rest
+lines_more text n rest notices is = append_assoc text (line_of (notice_text n)) (notice_lines notices) ∙ ap (λ ns. text ++ notice_lines ns) (sym is)
+
+pub lines_done : (text all : Text) (rest : List Notice) → length rest ≡ 0 → text ++ notice_lines rest ≡ all → text ≡ all
+lines_done text all [] none is = sym (append-nil text) ∙ is
+lines_done text all (n ∷ rest) none is = absurd (omega (arith, none))

@@ -1,1 +1,2 @@
 mod Driven
+mod Messages

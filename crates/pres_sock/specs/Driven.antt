@@ -1,28 +1,59 @@
--- What a client that is driven does: the calls that it makes.
-use Rattle.std.specs.Prelude.{◌≡◌, List, [], ◌∷◌}
+-- What happens while a client is driven: what it is asked for, and what is printed.
+use Rattle.std.specs.Prelude.{◌≡◌, List, [], ◌∷◌, ◌++◌, Option, Some, None}
+use Rattle.std.specs.Io.KnownBytes.{Appends}
 use Rattle.pres_client.specs.declared.call.Call.{Call}
 use Rattle.pres_client.specs.Clients.{State}
-use Rattle.pres_client.specs.Steps.{Step, calls, receives, hands_out_sends, hands_out_notices, run}
+use Rattle.pres_client.specs.Calls.{refusal}
+use Rattle.pres_client.specs.Steps.{Step, calls, receives, hands_out_sends, hands_out_notices, after, run, AreMessages}
 use Rattle.pres_sock.specs.declared.drive.Line.{Line}
 use Rattle.pres_sock.specs.declared.drive.Line.TheVariants as line
+use Rattle.pres_sock.specs.Printed.{Text, line_of, refusal_text, refusal_line, notice_lines}
 
--- the calls of the lines, in their order
-abbrev pub calls_in : List Line → List Call
-calls_in [] = []
-calls_in (line.Call k ∷ lines) = k ∷ calls_in lines
-calls_in (line.Refused ∷ lines) = calls_in lines
-calls_in (line.Wait count ∷ lines) = calls_in lines
+-- a step of the client, or a line whose JSON or path is refused
+pub data Event : Type 0 where
+  does : Step → Event
+  refuses : Event
 
--- the calls among the steps, in their order
-abbrev pub calls_of : List Step → List Call
-calls_of [] = []
-calls_of (calls k ∷ steps) = k ∷ calls_of steps
-calls_of (receives m ∷ steps) = calls_of steps
-calls_of (hands_out_sends ∷ steps) = calls_of steps
-calls_of (hands_out_notices ∷ steps) = calls_of steps
+-- the steps among the events
+abbrev pub steps_of : List Event → List Step
+steps_of [] = []
+steps_of (does s ∷ events) = s ∷ steps_of events
+steps_of (refuses ∷ events) = steps_of events
 
--- between the two the client made these calls, in this order, beside what it received and handed out
-pub record HasMade (before : State) (made : List Call) (now : State) : Type 0 where
-  pub steps : List Step
-  pub came : run before steps ≡ now
-  pub made_them : calls_of steps ≡ made
+-- what lines ask for, in their order: a call, or none where it is refused
+abbrev pub asked_in : List Line → List (Option Call)
+asked_in [] = []
+asked_in (line.Call k ∷ lines) = Some k ∷ asked_in lines
+asked_in (line.Refused ∷ lines) = None ∷ asked_in lines
+asked_in (line.Wait count ∷ lines) = asked_in lines
+
+-- what was asked for among the events, in their order
+abbrev pub asked_of : List Event → List (Option Call)
+asked_of [] = []
+asked_of (does (calls k) ∷ events) = Some k ∷ asked_of events
+asked_of (does (receives m) ∷ events) = asked_of events
+asked_of (does hands_out_sends ∷ events) = asked_of events
+asked_of (does hands_out_notices ∷ events) = asked_of events
+asked_of (refuses ∷ events) = None ∷ asked_of events
+
+-- what is printed of a step: why a call is refused, and what is handed out of the client's notices
+abbrev pub printed : State → Step → Text
+printed c (calls k) = refusal_line (refusal c k)
+printed c (receives m) = []
+printed c hands_out_sends = []
+printed c hands_out_notices = notice_lines c.notices
+
+-- what is printed of the events, from this state on; JSON or a path that is refused has the number 5
+abbrev pub printed_of : State → List Event → Text
+printed_of c [] = []
+printed_of c (does s ∷ events) = printed c s ++ printed_of (after c s) events
+printed_of c (refuses ∷ events) = line_of (refusal_text 5) ++ printed_of c events
+
+-- Between the two states the client was asked for this, in this order, what it received are messages as a server makes
+-- them, and the output grew by what was printed.
+pub record Drives (before : State) (asked : List (Option Call)) (now : State) (old new : Option Text) : Type 0 where
+  pub events : List Event
+  pub came : run before (steps_of events) ≡ now
+  pub asked_them : asked_of events ≡ asked
+  pub heard : AreMessages (steps_of events)
+  pub printed_them : Appends old new (printed_of before events)

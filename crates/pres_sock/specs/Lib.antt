@@ -1,3 +1,4 @@
 pub mod Driven
 pub mod Ends
+pub mod Printed
 pub mod Refusals

@@ -1,16 +1,19 @@
 //! The client's side of a connection.
 
-ghost use Rattle.std.specs.Prelude.{◌≡◌, ◌∷◌, ◌++◌, true, false, [], IfOk, IfErr, OnOk};
+ghost use Rattle.std.specs.Prelude.{◌≡◌, ◌∷◌, ◌++◌, true, false, [], Some, IfOk, IfErr, IfSome, OnOk, option_map, string_bytes};
+ghost use Rattle.std.specs.Io.KnownBytes.{Appends};
 ghost use Rattle.pres_client.specs.declared.call.Call.TheVariants.{GoOnline, GoOffline};
-ghost use Rattle.pres_sock.specs.Driven.{HasMade, calls_in};
+ghost use Rattle.pres_client.specs.Steps.{IsMessage};
+ghost use Rattle.pres_sock.specs.Driven.{Drives, asked_in};
+ghost use Rattle.pres_sock.specs.Printed.{place_text, words_of, value_in, notice_text, notice_lines, refusal_text, line_of};
 ghost use Rattle.pres_sock.specs.Ends.{is_handshake};
 
 use crate::fault::SockFault;
 use crate::socket;
 use crate::socket::{Came, Socket, close, connect, flush};
 use pres_client::{Call, Client, ClientFault, Notice};
-use pres_tree::Tree;
-use pres_wire::{Down, Up, WireFault};
+use pres_tree::{Path, Tree};
+use pres_wire::{Down, Number, Up, WireFault};
 use std::alloc::{AllocError, Global};
 use std::io::{Read, Write};
 use tungstenite::{Error, MaskKeys};
@@ -42,11 +45,13 @@ pub fn drive_client<S: Read + Write + Drop, M: MaskKeys + Drop, W: Write>(
     lines: Vec<Line>,
     output: &mut W,
 ) -> Result<Client, (SockFault, Client)>
-    ensures made { IfOk result (λ c.
-        HasMade client (GoOnline ∷ calls_in lines.items ++ GoOffline ∷ []) c) }
+    ensures driven { IfOk result (λ c.
+        Drives client (Some GoOnline ∷ asked_in lines.items ++ Some GoOffline ∷ []) c
+        (W.contents output.old) (W.contents output.new)) }
     ensures sent { IfOk result (λ client. client.sends ≡ []) }
     ensures told { IfOk result (λ client. client.notices ≡ []) }
-    ensures handshake { IfErr result (λ e. is_handshake e.0 ≡ true → e.1 ≡ client) }
+    ensures handshake { IfErr result (λ e. is_handshake e.0 ≡ true →
+        (e.1 ≡ client) × (output.new ≡ output.old)) }
 {
     let mut socket = match connect(alloc, stream, keys) {
         Ok(socket) => socket,
@@ -72,8 +77,9 @@ fn drive<S: Read + Write + Drop, M: MaskKeys + Drop, W: Write>(
     lines: Vec<Line>,
     output: &mut W,
 ) -> Result<(), SockFault>
-    ensures made { OnOk result
-        (HasMade client.old (GoOnline ∷ calls_in lines.items ++ GoOffline ∷ []) client.new) }
+    ensures driven { OnOk result
+        (Drives client.old (Some GoOnline ∷ asked_in lines.items ++ Some GoOffline ∷ []) client.new
+        (W.contents output.old) (W.contents output.new)) }
     ensures sent { OnOk result (client.new.sends ≡ []) }
     ensures told { OnOk result (client.new.notices ≡ []) }
     ensures err { IfErr result (λ e. is_handshake e ≡ false) }
@@ -96,7 +102,8 @@ fn follow<S: Read + Write + Drop, M: MaskKeys + Drop, W: Write>(
     line: Line,
     output: &mut W,
 ) -> Result<(), SockFault>
-    ensures made { OnOk result (HasMade client.old (calls_in (line ∷ [])) client.new) }
+    ensures driven { OnOk result (Drives client.old (asked_in (line ∷ [])) client.new
+        (W.contents output.old) (W.contents output.new)) }
     ensures err { IfErr result (λ e. is_handshake e ≡ false) }
 {
     match line {
@@ -118,7 +125,8 @@ fn make<W: Write>(
     call: Call,
     output: &mut W,
 ) -> Result<(), SockFault>
-    ensures made { OnOk result (HasMade client.old (call ∷ []) client.new) }
+    ensures driven { OnOk result (Drives client.old (Some call ∷ []) client.new
+        (W.contents output.old) (W.contents output.new)) }
     ensures err { IfErr result (λ e. is_handshake e ≡ false) }
 {
     let Err(fault) = client.make(call) else {
@@ -137,7 +145,8 @@ fn settle<S: Read + Write + Drop, M: MaskKeys + Drop, W: Write>(
     client: &mut Client,
     output: &mut W,
 ) -> Result<(), SockFault>
-    ensures made { OnOk result (HasMade client.old [] client.new) }
+    ensures driven { OnOk result (Drives client.old [] client.new
+        (W.contents output.old) (W.contents output.new)) }
     ensures err { IfErr result (λ e. is_handshake e ≡ false) }
 {
     hand_out(alloc, socket, client, output)?;
@@ -157,7 +166,8 @@ fn receive<S: Read + Write + Drop, M: MaskKeys + Drop, W: Write>(
     client: &mut Client,
     output: &mut W,
 ) -> Result<(), SockFault>
-    ensures made { OnOk result (HasMade client.old [] client.new) }
+    ensures driven { OnOk result (Drives client.old [] client.new
+        (W.contents output.old) (W.contents output.new)) }
     ensures err { IfErr result (λ e. is_handshake e ≡ false) }
 {
     let message = next_message(alloc, socket)?;
@@ -172,7 +182,8 @@ fn next_message<S: Read + Write + Drop, M: MaskKeys + Drop>(
     alloc: Global,
     socket: &mut Socket<S, M>,
 ) -> Result<Down, SockFault>
-    ensures { IfErr result (λ e. is_handshake e ≡ false) }
+    ensures message { IfOk result IsMessage }
+    ensures err { IfErr result (λ e. is_handshake e ≡ false) }
 {
     for _ in 0..u64::MAX {
         match message_in(alloc, socket::read(socket)?) {
@@ -186,7 +197,8 @@ fn next_message<S: Read + Write + Drop, M: MaskKeys + Drop>(
 
 // The message of a server, where what came is one.
 fn message_in(alloc: Global, came: Came) -> Result<Option<Down>, SockFault>
-    ensures { IfErr result (λ e. is_handshake e ≡ false) }
+    ensures message { IfOk result (λ message. IfSome message IsMessage) }
+    ensures err { IfErr result (λ e. is_handshake e ≡ false) }
 {
     let text = match came {
         Came::Text(text) => text,
@@ -207,7 +219,8 @@ fn hand_out<S: Read + Write + Drop, M: MaskKeys + Drop, W: Write>(
     client: &mut Client,
     output: &mut W,
 ) -> Result<(), SockFault>
-    ensures made { OnOk result (HasMade client.old [] client.new) }
+    ensures driven { OnOk result (Drives client.old [] client.new
+        (W.contents output.old) (W.contents output.new)) }
     ensures sent { OnOk result (client.new.sends ≡ []) }
     ensures told { OnOk result (client.new.notices ≡ []) }
     ensures err { IfErr result (λ e. is_handshake e ≡ false) }
@@ -242,68 +255,88 @@ fn put<S: Read + Write + Drop, M: MaskKeys + Drop>(
     socket::write(alloc, socket, text.as_str())
 }
 
-// Tells the notices.
+// Tells the notices, each as a line.
 fn tell_all<W: Write>(alloc: Global, output: &mut W, notices: Vec<Notice>) -> Result<(), SockFault>
-    ensures { IfErr result (λ e. is_handshake e ≡ false) }
+    ensures told { OnOk result (Appends (W.contents output.old) (W.contents output.new)
+        (notice_lines notices.items)) }
+    ensures err { IfErr result (λ e. is_handshake e ≡ false) }
 {
-    for notice in notices.iter() {
-        tell(output, notice_text(alloc, notice)?.as_str())?;
+    for notice in notices {
+        let line = notice_line(alloc, &notice);
+        drop(notice);
+        tell(output, line?.as_slice())?;
     }
     Ok(())
 }
 
 // Writes the line.
-fn tell<W: Write>(output: &mut W, line: &str) -> Result<(), SockFault>
-    ensures { IfErr result (λ e. is_handshake e ≡ false) }
+fn tell<W: Write>(output: &mut W, line: &[u8]) -> Result<(), SockFault>
+    ensures told { OnOk result (Appends (W.contents output.old) (W.contents output.new) line.now) }
+    ensures err { IfErr result (λ e. is_handshake e ≡ false) }
 {
-    let told = match output.write_all(line.as_bytes()) {
-        Ok(()) => output.write_all(b"\n"),
-        Err(error) => Err(error),
-    };
-    match told {
+    match output.write_all(line) {
         Ok(()) => Ok(()),
         Err(error) => Err(SockFault::Stream(Error::Io(error))),
     }
 }
 
+// Tells that a call was refused, and why.
 fn tell_refusal<W: Write>(alloc: Global, output: &mut W, number: u8) -> Result<(), SockFault>
-    ensures { IfErr result (λ e. is_handshake e ≡ false) }
+    ensures told { OnOk result (Appends (W.contents output.old) (W.contents output.new)
+        (line_of (refusal_text number))) }
+    ensures err { IfErr result (λ e. is_handshake e ≡ false) }
 {
-    tell(output, format!(in alloc; "refused {number}")?.as_str())
-}
-
-// The tree's JSON.
-fn tree_text(alloc: Global, tree: &Tree) -> Result<String, AllocError> {
-    let value = tree.to_value(alloc)?;
-    value.to_string(alloc)
+    tell(output, format!(in alloc; "refused {number}\n")?.as_bytes())
 }
 
 // The notice's line.
-fn notice_text(alloc: Global, notice: &Notice) -> Result<String, AllocError> {
+fn notice_line(alloc: Global, notice: &Notice) -> Result<Vec<u8>, AllocError>
+    ensures { IfOk result (λ line. line.items ≡ line_of (notice_text notice.now)) }
+{
+    let mut line = words_of(alloc, notice)?.into_bytes();
+    if let Some(value) = value_in(notice) {
+        value.print(alloc, &mut line)?;
+    }
+    line.push(b'\n')?;
+    Ok(line)
+}
+
+// What the notice tells before its value.
+fn words_of(alloc: Global, notice: &Notice) -> Result<String, AllocError>
+    ensures { IfOk result (λ text. string_bytes text ≡ words_of notice.now) }
+{
     match notice {
         Notice::Done { request, number } => { format!(in alloc; "done {request} {}", number.get()) }
         Notice::Ask {
             request,
             attempt,
-            value,
-        } => {
-            let value = tree_text(alloc, value)?;
-            format!(in alloc; "ask {request} {attempt} {value}")
-        }
+            ..
+        } => { format!(in alloc; "ask {request} {attempt} ") }
         Notice::TooManyTries { request } => format!(in alloc; "toomany {request}"),
         Notice::Aborted { request } => format!(in alloc; "aborted {request}"),
         Notice::Armed { request } => format!(in alloc; "armed {request}"),
         Notice::ActionLost { request } => format!(in alloc; "lost {request}"),
-        Notice::Value {
-            path,
-            number,
-            value,
-        } => {
-            let (path, value) = (path.text(alloc)?, tree_text(alloc, value)?);
-            format!(in alloc; "value {path} {} {value}", number.get())
-        }
+        Notice::Value { path, number, .. } => place_text(alloc, path, *number),
         Notice::Connected(is_open) => format!(in alloc; "connected {is_open}"),
         Notice::Denied { request, why } => format!(in alloc; "denied {request} {}", why.number()),
         Notice::Faulted(code) => format!(in alloc; "faulted {}", code.number()),
+    }
+}
+
+// Where a value stands, and at which number.
+fn place_text(alloc: Global, path: &Path, number: Number) -> Result<String, AllocError>
+    ensures { IfOk result (λ text. string_bytes text ≡ place_text path.now number) }
+{
+    let path = path.text(alloc)?;
+    format!(in alloc; "value {path} {} ", number.get())
+}
+
+// The value that the notice shows.
+fn value_in(notice: &Notice) -> Option<&Tree>
+    ensures { option_map (λ value. value.now) result ≡ value_in notice.now }
+{
+    match notice {
+        Notice::Ask { value, .. } | Notice::Value { value, .. } => Some(value),
+        _ => None,
     }
 }

@@ -1,9 +1,9 @@
--- the calls so far, and those of the lines that are still to come, are the first and those of the lines
-use Rattle.std.proofs.Common.{◌≡◌, ◌∷◌, ◌++◌, List}
+-- what was asked for so far, and what the lines that are still to come ask for, are the first and what the lines ask for
+use Rattle.std.proofs.Common.{◌≡◌, ◌∷◌, ◌++◌, List, Option, Some}
 use Rattle.pres_client.specs.declared.call.Call.{Call}
 use Rattle.pres_client.specs.declared.call.Call.TheVariants.{GoOnline}
-use Rattle.pres_sock.specs.Driven.{HasMade, calls_in}
+use Rattle.pres_sock.specs.Driven.{Drives, asked_in}
 use Rattle.pres_sock.proofs.drive.drive.Given as goal
 
 abbrev pub invariant-loop-line : goal.invariant-loop-line
-invariant-loop-line g l = (made : List Call) × HasMade l.fn.client made l.client × (made ++ calls_in l.line-iterator.rest.items ≡ GoOnline ∷ calls_in l.fn.lines.items)
+invariant-loop-line g l = (asked : List (Option Call)) × Drives l.fn.client asked l.client (g.W.Write.contents l.fn.output) (g.W.Write.contents l.output) × (asked ++ asked_in l.line-iterator.rest.items ≡ Some GoOnline ∷ asked_in l.fn.lines.items)
