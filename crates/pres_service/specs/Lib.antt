@@ -2,3 +2,4 @@ pub mod Faults
 pub mod Lines
 pub mod Outputs
 pub mod Reading
+pub mod Visits

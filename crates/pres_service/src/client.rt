@@ -3,6 +3,7 @@
 ghost use Rattle.std.specs.Prelude.{◌≡◌, ◌⊎◌, ℕ, map, IfOk, IfErr, IfSome, OnOk, MatchResult, Some, option_map};
 ghost use Rattle.pres_service.specs.declared.client.Unmade.TheVariants as unmade;
 ghost use Rattle.pres_service.specs.declared.fault.ServiceFault.TheVariants as fault;
+ghost use Rattle.pres_service.specs.Visits.{HasVisited, Visits};
 ghost use Rattle.pres_service.specs.Lines.{AreLines, first_bad, line_of_bytes, lines_in, lines_of, without_last_feed, said};
 
 use crate::fault::ServiceFault;
@@ -55,6 +56,8 @@ pub fn client_run<
     ensures lines { MatchResult result
         (λ _. IfSome (I.remaining input.old) AreLines)
         (λ e. (e ≡ fault.Memory) ⊎ ((e ≡ fault.Input) ⊎ IfSome (I.remaining input.old) AreLines)) }
+    ensures visited { OnOk result (HasVisited visit.entry.id visit.entry.incarnation
+        (I.remaining input.old) (W.contents output.old) (W.contents output.new)) }
     ensures unreached { IfErr result (λ e. e ≡ fault.Address → output.new ≡ output.old) }
 {
     let lines = lines_from(alloc, input, output)?;
@@ -92,6 +95,8 @@ fn follow<R: Net<Listener = TcpListener, Stream = TcpStream> + RandomSource + Co
     lines: Vec<Line>,
     output: &mut W,
 ) -> Result<(), ServiceFault>
+    ensures visited { OnOk result (Visits visit.entry.id visit.entry.incarnation lines.items
+        (W.contents output.old) (W.contents output.new)) }
     ensures unreached { IfErr result (λ e. e ≡ fault.Address → output.new ≡ output.old) }
 {
     let Visit {
@@ -107,8 +112,14 @@ fn follow<R: Net<Listener = TcpListener, Stream = TcpStream> + RandomSource + Co
     let _ = stream.set_read_timeout(Some(Duration::from_millis(READ_MILLIS)));
     let client = Client::new(alloc, id, incarnation);
     match drive_client(alloc, client, stream, RandomKeys::new(*rt), lines, output) {
-        Ok(_) => Ok(()),
-        Err((fault, _)) => Err(ServiceFault::from(fault)),
+        Ok(client) => {
+            drop(client);
+            Ok(())
+        }
+        Err((fault, client)) => {
+            drop(client);
+            Err(ServiceFault::from(fault))
+        }
     }
 }
 

@@ -1,0 +1,19 @@
+-- What a client's run prints.
+use Rattle.std.specs.Prelude.{◌≡◌, ℕ, List, [], ◌∷◌, ◌++◌, map, Option, Some, IfSome}
+use Rattle.pres_ids.specs.Ids.{ClientId}
+use Rattle.pres_client.specs.declared.call.Call.TheVariants.{GoOnline, GoOffline}
+use Rattle.pres_client.specs.Clients.{State, start}
+use Rattle.pres_sock.specs.declared.drive.Line.{Line}
+use Rattle.pres_sock.specs.Driven.{Drives, asked_in}
+use Rattle.pres_service.specs.Lines.{lines_in, said}
+
+-- a new client was asked to go online, for what the lines say, and to go offline, and the output grew by what was printed
+pub record Visits (id : ClientId) (incarnation : ℕ) (lines : List Line) (old new : Option (List ℕ)) : Type 0 where
+  pub now : State
+  pub driven : Drives (start id incarnation) (Some GoOnline ∷ asked_in lines ++ Some GoOffline ∷ []) now old new
+
+-- the same, by the lines of the input, where that is known
+pub record HasVisited (id : ClientId) (incarnation : ℕ) (input old new : Option (List ℕ)) : Type 0 where
+  pub lines : List Line
+  pub read : IfSome input (λ bytes. lines_in bytes ≡ map (λ line. Some (said line)) lines)
+  pub visits : Visits id incarnation lines old new
