@@ -1,5 +1,5 @@
 -- The words that ask for `apply` are taken.
-use Rattle.std.proofs.Common.{◌≡◌, ap, ap₂, sym, refl, ◌∙◌, true, List, [], ◌∷◌, codes, Option, Some, None, option_map}
+use Rattle.std.proofs.Common.{◌≡◌, ap, ap₂, sym, subst, refl, ◌∙◌, true, inl, inr, List, [], ◌∷◌, codes, Option, Some, None, option_map}
 use Rattle.std.specs.Prelude.{◌&&◌}
 use Rattle.std.proofs.lemmas.Option.{none-some}
 use Rattle.clap.specs.Simple.{built, is_simple, names_of, entered, subcommand_of}
@@ -12,9 +12,11 @@ use Rattle.clap.specs.declared.parser.matches.ArgMatches.{ArgMatches}
 use Rattle.clap.specs.declared.parser.matches.ArgMatches.TheViews.{out-ArgMatches, out-SubCommand}
 use Rattle.clap.specs.declared.parser.matches.SubCommand.{SubCommand}
 use Rattle.clap.proofs.OnLiterals.{clap_on_literals}
-use Rattle.clap.specs.Words.{fault_of, is_simple_and_free}
+use Rattle.clap.specs.Words.{fault_of, is_simple_and_free, kind_of, HasKind}
+use Rattle.clap.specs.declared.error.Error.{Error}
+use Rattle.clap.specs.declared.error.kind.ErrorKind.{ErrorKind}
 use Rattle.clap.specs.declared.error.kind.ErrorKind.TheVariants as kind
-use Rattle.pres_command.specs.Words.{AreTaken, AsksApply, program}
+use Rattle.pres_command.specs.Words.{AreTaken, AsksApply, IsMistake, program}
 
 pub simple : is_simple program ≡ true
 unfolding clap_on_literals
@@ -73,6 +75,18 @@ free = refl
 -- a parse that succeeds found no fault
 pub parsed_is_taken : (app : App) (words : List Text) → app ≡ program → (is_simple_and_free app ≡ true → fault_of app words ≡ []) → AreTaken words
 parsed_is_taken app words same none = ap (λ a. fault_of a words) (sym same) ∙ none (ap is_simple_and_free same ∙ free)
+
+memory_is_mistake : (k : ErrorKind) → k ≡ kind.OutOfMemory → IsMistake k
+memory_is_mistake k is = (λ help. absurd cc, λ version. absurd cc)
+
+no_kind : (e : Error) → HasKind [] e → IsMistake (kind_of e)
+no_kind e (inl memory) = memory_is_mistake (kind_of e) memory
+no_kind e (inr none) = absurd none
+
+-- what a parse of words that are taken fails for
+pub refused_is_mistake : (app : App) (words : List Text) (e : Error) → app ≡ program → (is_simple_and_free app ≡ true → HasKind (fault_of app words) e) → AreTaken words → IsMistake (kind_of e)
+refused_is_mistake app words e same has taken =
+    no_kind e (subst (λ kinds. HasKind kinds e) (ap (λ a. fault_of a words) same ∙ taken) (has (ap is_simple_and_free same ∙ free)))
 
 -- mistakes, and words that ask for help or the version
 no_word : fault_of program (codes "presence" ∷ []) ≡ kind.MissingSubcommand ∷ []

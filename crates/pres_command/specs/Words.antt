@@ -1,9 +1,11 @@
 -- The words of the command line.
-use Rattle.std.specs.Prelude.{◌≡◌, ◌⊎◌, ◌<◌, ◌^◌, ℕ, true, false, List, Option, Some, None, [], ◌∷◌, drop, codes, option_map}
+use Rattle.std.specs.Prelude.{◌≡◌, ◌≢◌, ◌⊎◌, ◌<◌, ◌^◌, ℕ, true, false, List, Option, Some, None, [], ◌∷◌, drop, codes, option_map}
 use Rattle.std.specs.Option.{SomeIff}
 use Rattle.std.specs.Str.Parse.{IsNumeral, digits_value, without_leading_plus}
 use Rattle.clap.specs.Words.{App, Row, Rule, Shape, Text, first_of, one_of, new_app, new_rule, subcommand_of, with_rule, with_subcommand, fault_of}
 use Rattle.clap.specs.declared.builder.command.Command.{Command}
+use Rattle.clap.specs.declared.error.kind.ErrorKind.{ErrorKind}
+use Rattle.clap.specs.declared.error.kind.ErrorKind.TheVariants as kind
 use Rattle.clap.specs.declared.builder.command.Command.TheViews.{out-Command}
 use Rattle.clap.specs.declared.builder.value_parser.ValueParser.TheVariants as parser
 use Rattle.pres_command.specs.declared.words.Calling.{Calling}
@@ -60,6 +62,10 @@ AsksNet words = Names (codes "serve") words ⊎ Names (codes "client") words
 -- the words are no mistake, and ask for no help and no version
 abbrev pub AreTaken : List Text → Type 0
 AreTaken words = fault_of program words ≡ []
+
+-- no help and no version is asked for
+abbrev pub IsMistake : ErrorKind → Type 0
+IsMistake k = (k ≢ kind.DisplayHelp) × (k ≢ kind.DisplayVersion)
 
 -- the number of so many bits that the text's decimal digits tell: none without a text, or where they tell none
 abbrev pub IsReadAs : ℕ → Option Text → Option ℕ → Type 0

@@ -1,10 +1,14 @@
 //! The program, over its words and streams.
 
-ghost use Rattle.std.specs.Prelude.{◌≡◌, ◌⊎◌, ◌≢◌, map};
-ghost use Rattle.clap.specs.Words.{kind_of};
+ghost use Rattle.std.specs.Prelude.{◌≡◌, ◌⊎◌, ◌≢◌, ◌++◌, ℕ, List, codes, map};
+ghost use Rattle.std.specs.Io.KnownBytes.{Appends};
+ghost use Rattle.clap.specs.Words.{Row, kind_of};
 ghost use Rattle.pres_apply.specs.Lines.{Finished, Stopped};
+ghost use Rattle.pres_service.specs.Outputs.{listening_line, number_line};
+ghost use Rattle.pres_service.specs.Visits.{HasVisited};
+ghost use Rattle.pres_command.specs.Runs.{Asks, HasCalled, HasServed};
 ghost use Rattle.pres_command.specs.Statuses.{IsStatus};
-ghost use Rattle.pres_command.specs.Words.{AreTaken, AsksApply, AsksNet};
+ghost use Rattle.pres_command.specs.Words.{AreTaken, AsksApply, AsksNet, IsMistake};
 
 use crate::words::{Calling, Request, read_words};
 use clap::Error;
@@ -49,6 +53,12 @@ pub fn presence_run<
     ensures asked { AsksApply (map (λ word. word.now) words.now) → result ≢ 2 }
     ensures applied { AsksApply (map (λ word. word.now) words.now) → result ≡ 0
         → Finished (R.remaining input.old) (W.contents output.old) (W.contents output.new) }
+    ensures served { (rows : List Row)
+        → Asks (codes "serve") rows (map (λ word. word.now) words.now) → result ≡ 0
+        → HasServed rows (W.contents output.old) (W.contents output.new) }
+    ensures called { (rows : List Row)
+        → Asks (codes "client") rows (map (λ word. word.now) words.now) → result ≡ 0
+        → HasCalled rows (R.remaining input.old) (W.contents output.old) (W.contents output.new) }
     ensures untaken { ¬ AreTaken (map (λ word. word.now) words.now) → input.new ≡ input.old }
     ensures done { ¬ AsksNet (map (λ word. word.now) words.now) → result ≡ 0
         → Finished (R.remaining input.old) (W.contents output.old) (W.contents output.new)
@@ -109,6 +119,9 @@ fn serve_status<
 ) -> u8
     ensures status { IsStatus result }
     ensures words { result ≢ 2 }
+    ensures done { result ≡ 0 → (number : ℕ) × Appends
+        (W.contents output.old) (W.contents output.new)
+        (listening_line serving.entry.address.now ++ number_line number) }
 {
     match serve_run(host, rt, alloc, serving, output, faults) {
         Ok(()) => DONE,
@@ -132,6 +145,8 @@ fn client_status<
 >(rt: &H, alloc: Global, calling: Calling<'_>, input: &mut R, output: &mut W, faults: &mut F) -> u8
     ensures status { IsStatus result }
     ensures words { result ≡ 2 → (input.new ≡ input.old) × (output.new ≡ output.old) }
+    ensures done { result ≡ 0 → HasVisited calling.entry.id.now calling.entry.incarnation
+        (R.remaining input.old) (W.contents output.old) (W.contents output.new) }
 {
     let id = match ClientId::parse(alloc, calling.id) {
         Ok(id) => id,
@@ -159,6 +174,7 @@ fn client_status<
 fn tell_fault<F: Write>(fault: &ServiceFault, faults: &mut F) -> u8
     ensures status { IsStatus result }
     ensures words { result ≢ 2 }
+    ensures early { result ≢ 0 }
 {
     let _ = write!(faults, "presence: {fault}\n");
     fault.status()
@@ -182,6 +198,7 @@ fn explain<W: Write, F: Write>(error: &Error, output: &mut W, faults: &mut F) ->
     ensures words { result ≡ 2 → output.new ≡ output.old }
     ensures memory { result ≡ 5 → output.new ≡ output.old }
     ensures refused { kind_of error.now ≡ ErrorKind.OutOfMemory → result ≡ 5 }
+    ensures mistake { IsMistake (kind_of error.now) → result ≢ 0 }
 {
     if error.kind() == ErrorKind::OutOfMemory {
         tell(NO_MEMORY, faults);

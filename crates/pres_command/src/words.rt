@@ -1,9 +1,9 @@
 //! The words of the command line.
 
-ghost use Rattle.std.specs.Prelude.{◌≡◌, Some, IfOk, IfSome, MatchResult, codes, map};
+ghost use Rattle.std.specs.Prelude.{◌≡◌, Some, IfErr, IfOk, IfSome, MatchResult, codes, map};
 ghost use Rattle.clap.specs.Words.{app_of, found_of, kind_of, rows_of, subcommand_of};
 ghost use Rattle.clap.specs.declared.error.kind.ErrorKind.TheVariants.{OutOfMemory};
-ghost use Rattle.pres_command.specs.Words.{AreTaken, AsksApply, HasNoGlobals, IsAskedBy, IsCalled, IsServed};
+ghost use Rattle.pres_command.specs.Words.{AreTaken, AsksApply, HasNoGlobals, IsAskedBy, IsCalled, IsMistake, IsServed};
 ghost use Rattle.pres_command.specs.Words.{apply_shape, client_shape, program, serve_shape};
 
 use clap::builder::ValueParser;
@@ -111,6 +111,8 @@ pub fn read_words<'a>(alloc: Global, words: &'a [&'a str]) -> Result<Request<'a>
         (λ request. request ≡ Request.Apply)
         (λ e. kind_of e ≡ OutOfMemory) }
     ensures taken { IfOk result (λ _. AreTaken (map (λ word. word.now) words.now)) }
+    ensures mistaken { IfErr result (λ e.
+        AreTaken (map (λ word. word.now) words.now) → IsMistake (kind_of e)) }
     ensures asked { IfOk result (λ request.
         IsAskedBy request (subcommand_of program (map (λ word. word.now) words.now))) }
 {
@@ -172,6 +174,8 @@ fn client_of<'a>(given: &ArgMatches<'a>) -> Option<Calling<'a>>
 }
 
 // The mistake that a subcommand lacks what it needs.
-fn lacking(alloc: Global) -> Result<Error, AllocError> {
+fn lacking(alloc: Global) -> Result<Error, AllocError>
+    ensures { IfOk result (λ e. IsMistake (kind_of e)) }
+{
     command(alloc)?.error(ErrorKind::MissingRequiredArgument, "an argument is missing")
 }
