@@ -1,14 +1,15 @@
 -- What the index says of sessions is what the log says.
-use Rattle.std.proofs.Common.{refl, sym, ◌∙◌, ap, ◌≡◌, List, [], ◌∷◌, Bool, true, false, cond, ◌||◌, Option, Some, None, is_some}
+use Rattle.std.proofs.Common.{refl, sym, ◌∙◌, ap, ◌≡◌, List, [], ◌∷◌, Bool, true, false, cond, ◌||◌, Option, Some, None, is_some, subst, MatchOption}
 use Rattle.std.specs.List.{list_any, filter}
 use Rattle.std.specs.Option.{option_map}
 use Rattle.pres_ids.specs.declared.id.SessionId.{SessionId}
+use Rattle.pres_ids.specs.declared.id.Stamp.{Stamp}
 use Rattle.pres_ids.specs.Ids.{ClientId, stamp_of}
 use Rattle.pres_log.specs.declared.entry.Entry.{Entry}
 use Rattle.pres_server.specs.declared.index.Index.{Index}
-use Rattle.pres_server.specs.Sessions.{is_open, count, has_open, sessions_of}
-use Rattle.pres_server.specs.Parts.{Part, LivePart, Sound, part_of, live_in, is_live, count_in}
-use Rattle.pres_server.specs.Places.{Session, moment_at, live_part}
+use Rattle.pres_server.specs.Sessions.{is_open, count, has_open, sessions_of, open_sessions_of}
+use Rattle.pres_server.specs.Parts.{Part, LivePart, Sound, part_of, live_in, is_live, count_in, listed, session_with}
+use Rattle.pres_server.specs.Places.{Session, moment_at, stamp_at, live_part}
 use Rattle.pres_server.specs.Index.{session_at, part_at, Indexed}
 use Rattle.pres_server.proofs.Parts.{only_open}
 use Rattle.pres_server.proofs.Decide.{live_is, stamp_itself}
@@ -45,3 +46,11 @@ has_open_is es index c ix =
     some_moment (session_at index c)
     ∙ ap (λ (p : Part). is_some p.live) (ix.parts c)
     ∙ some_live (λ s. is_open s es) es (sessions_of c es)
+
+-- the client's open session, where there is one
+pub listed_is : (es : List Entry) (index : Index) (c : ClientId) → Sound es → Indexed es index → open_sessions_of c es ≡ listed c (option_map live_part (session_at index c))
+listed_is es index c sound ix = sound.one_open c ∙ ap (λ (p : Part). listed c p.live) (sym (ix.parts c))
+
+pub stamp_tells : (c : ClientId) (r : Option Stamp) (session : Option Session) (found : List SessionId) → r ≡ stamp_at session → found ≡ listed c (option_map live_part session) → MatchOption r (found ≡ []) (λ stamp. found ≡ session_with c stamp ∷ [])
+stamp_tells c r None found e o = subst (λ x. MatchOption x (found ≡ []) (λ stamp. found ≡ session_with c stamp ∷ [])) (sym e) o
+stamp_tells c r (Some session) found e o = subst (λ x. MatchOption x (found ≡ []) (λ stamp. found ≡ session_with c stamp ∷ [])) (sym e) o

@@ -44,6 +44,10 @@ sent_one live = option_map (λ session. record { stamp = session.stamp; count = 
 abbrev pub moment_at : Option Session → Option ℕ
 moment_at live = option_map (λ session. session.heard) live
 
+-- its stamp
+abbrev pub stamp_at : Option Session → Option Stamp
+stamp_at live = option_map (λ session. session.stamp) live
+
 -- what answers and checks need of it
 abbrev pub live_part : Session → LivePart
 live_part session = record { stamp = session.stamp; count = session.count; plan = session.plan }

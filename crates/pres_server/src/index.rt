@@ -13,7 +13,7 @@ ghost use Rattle.pres_server.specs.Heard.{Heard, heard_after_all};
 ghost use Rattle.pres_server.specs.Pushes.{MayPushAll, pushes};
 ghost use Rattle.pres_server.specs.Index.{Indexed, Carries, StepsAt, Takes, MayTake, MayCarry, Tells, answer_on, live_at, session_at};
 ghost use Rattle.pres_server.specs.Invariants.{MayTakeAll};
-ghost use Rattle.pres_server.specs.Places.{moment_at};
+ghost use Rattle.pres_server.specs.Places.{moment_at, stamp_at};
 ghost use Rattle.pres_server.specs.Parts.{count_in};
 
 use crate::places::Places;
@@ -23,7 +23,7 @@ use pres_fan::{FanFault, Listeners};
 use pres_log::Entry;
 use pres_retry::{RetryTable, Verdict};
 use pres_tree::{Path, Tree};
-use pres_wire::{ClientId, Count, Down, Limit, Number, SessionId, Why};
+use pres_wire::{ClientId, Count, Down, Limit, Number, SessionId, Stamp, Why};
 use pres_write::{Basic, Moment, Outcome, Puts, apply};
 use std::alloc::Global;
 
@@ -79,6 +79,14 @@ impl Index {
     {
         let live = self.places.session(client)?;
         Some(live.heard())
+    }
+
+    /// The stamp of the client's open session.
+    pub(crate) fn open_stamp(&self, client: &ClientId) -> Option<Stamp>
+        ensures { result ≡ stamp_at (session_at self.now client.now) }
+    {
+        let live = self.places.session(client)?;
+        Some(live.stamp())
     }
 
     // Takes in that the session was opened, and answers it.

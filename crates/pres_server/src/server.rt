@@ -5,7 +5,8 @@ ghost use Rattle.pres_tree.specs.Rows.{is_null, value_at};
 ghost use Rattle.pres_log.specs.Logs.{number, entries, tree};
 ghost use Rattle.pres_log.specs.declared.fault.Fault.TheVariants.{Busy as OutOfMemory};
 ghost use Rattle.pres_ids.specs.Ids.{ClientId};
-ghost use Rattle.pres_server.specs.Sessions.{is_open, count, has_open};
+ghost use Rattle.pres_server.specs.Sessions.{is_open, count, has_open, open_sessions_of};
+ghost use Rattle.pres_server.specs.Parts.{session_with};
 ghost use Rattle.pres_server.specs.Heard.{heard_last, heard_again, blank};
 ghost use Rattle.pres_server.specs.Outcomes.{rows_for};
 ghost use Rattle.pres_server.specs.LegalLog.{IsLegal, MayFollow};
@@ -20,7 +21,7 @@ use crate::turn::{Now, Step};
 use pres_log::{Batch, Entry, Fault, Log};
 use pres_retry::Row;
 use pres_tree::{Path, Tree};
-use pres_wire::{ClientId, Count, Down, Number, SessionId};
+use pres_wire::{ClientId, Count, Down, Number, SessionId, Stamp};
 use pres_write::{Items, Moment};
 use std::alloc::{AllocError, Global};
 use std::marker::Model;
@@ -151,6 +152,16 @@ impl Server {
         ensures open { is_some result ≡ has_open client.now (entries self.now.log) }
     {
         self.index.heard(client)
+    }
+
+    /// The stamp of the client's open session: a client has one at the most.
+    pub fn open_stamp(&self, client: &ClientId) -> Option<Stamp>
+        ensures { MatchOption result
+            (open_sessions_of client.now (entries self.now.log) ≡ [])
+            (λ stamp. open_sessions_of client.now (entries self.now.log)
+            ≡ session_with client.now stamp ∷ []) }
+    {
+        self.index.open_stamp(client)
     }
 
     /// The first client, in byte order, that has a session open.
