@@ -135,6 +135,13 @@ impl Client {
         }
     }
 
+    /// Which start of the client's program this is.
+    pub fn incarnation(&self) -> Number
+        ensures { result ≡ self.now.session.incarnation }
+    {
+        self.session.incarnation
+    }
+
     /// What is shown of the path: the server's number and the value, which is null where the tree
     /// is empty. None before the first value came, and of a path that isn't listened to. After a
     /// loss it stays as it was until the next session tells a value.

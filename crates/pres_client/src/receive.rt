@@ -544,9 +544,9 @@ impl Client {
         Ok(())
     }
 
-    // Whether the message is for this client now: the Welcome that it waits for, the next one of
-    // its session's stream, or a Fault.
-    fn accepts(&self, message: &Down) -> bool
+    /// Whether the message is for this client now: the Welcome that it waits for, the next one of
+    /// its session's stream, or a Fault. Any other is passed over.
+    pub fn accepts(&self, message: &Down) -> bool
         ensures { result ≡ accepts self.now message.now }
     {
         match message {
