@@ -7,10 +7,13 @@ use Rattle.pres_sock.specs.declared.drive.Line.{Line}
 use Rattle.pres_sock.specs.Driven.{Drives, asked_in}
 use Rattle.pres_service.specs.Lines.{lines_in, said}
 
--- a new client was asked to go online, for what the lines say, and to go offline, and the output grew by what was printed
+-- a new client was asked to go online, for what the lines say, and to go offline, the output grew by what was printed, and
+-- nothing was left to send or to tell
 pub record Visits (id : ClientId) (incarnation : ℕ) (lines : List Line) (old new : Option (List ℕ)) : Type 0 where
   pub now : State
   pub driven : Drives (start id incarnation) (Some GoOnline ∷ asked_in lines ++ Some GoOffline ∷ []) now old new
+  pub sent : now.sends ≡ []
+  pub told : now.notices ≡ []
 
 -- the same, by the lines of the input, where that is known
 pub record HasVisited (id : ClientId) (incarnation : ℕ) (input old new : Option (List ℕ)) : Type 0 where

@@ -1,8 +1,8 @@
 -- What happens while a client is driven: what it is asked for, and what is printed.
-use Rattle.std.specs.Prelude.{◌≡◌, List, [], ◌∷◌, ◌++◌, Option, Some, None}
+use Rattle.std.specs.Prelude.{◌≡◌, ⊤, List, [], ◌∷◌, ◌++◌, Option, Some, None}
 use Rattle.std.specs.Io.KnownBytes.{Appends}
 use Rattle.pres_client.specs.declared.call.Call.{Call}
-use Rattle.pres_client.specs.Clients.{State}
+use Rattle.pres_client.specs.Clients.{State, unanswered}
 use Rattle.pres_client.specs.Calls.{refusal}
 use Rattle.pres_client.specs.Steps.{Step, calls, receives, hands_out_sends, hands_out_notices, after, run, AreMessages}
 use Rattle.pres_sock.specs.declared.drive.Line.{Line}
@@ -49,11 +49,33 @@ printed_of c [] = []
 printed_of c (does s ∷ events) = printed c s ++ printed_of (after c s) events
 printed_of c (refuses ∷ events) = line_of (refusal_text 5) ++ printed_of c events
 
--- Between the two states the client was asked for this, in this order, what it received are messages as a server makes
--- them, and the output grew by what was printed.
+-- nothing waits for an answer, to be sent or to be told
+pub record IsSettled (c : State) : Type 0 where
+  pub answered : unanswered c ≡ 0
+  pub sent : c.sends ≡ []
+  pub told : c.notices ≡ []
+
+-- wherever something is asked for among the events, from this state on, the client is settled
+abbrev pub AsksSettled : State → List Event → Type 0
+AsksSettled c [] = ⊤
+AsksSettled c (does (calls k) ∷ events) = IsSettled c × AsksSettled (after c (calls k)) events
+AsksSettled c (does (receives m) ∷ events) = AsksSettled (after c (receives m)) events
+AsksSettled c (does hands_out_sends ∷ events) = AsksSettled (after c hands_out_sends) events
+AsksSettled c (does hands_out_notices ∷ events) = AsksSettled (after c hands_out_notices) events
+AsksSettled c (refuses ∷ events) = IsSettled c × AsksSettled c events
+
+-- the same of all events but the first
+abbrev pub AsksMoreSettled : State → List Event → Type 0
+AsksMoreSettled c [] = ⊤
+AsksMoreSettled c (does s ∷ events) = AsksSettled (after c s) events
+AsksMoreSettled c (refuses ∷ events) = AsksSettled c events
+
+-- Between the two states the client was asked for this, in this order, each time but the first once it was settled, what it
+-- received are messages as a server makes them, and the output grew by what was printed.
 pub record Drives (before : State) (asked : List (Option Call)) (now : State) (old new : Option Text) : Type 0 where
   pub events : List Event
   pub came : run before (steps_of events) ≡ now
   pub asked_them : asked_of events ≡ asked
   pub heard : AreMessages (steps_of events)
+  pub waited : AsksMoreSettled before events
   pub printed_them : Appends old new (printed_of before events)

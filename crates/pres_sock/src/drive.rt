@@ -4,7 +4,7 @@ ghost use Rattle.std.specs.Prelude.{◌≡◌, ◌∷◌, ◌++◌, true, false,
 ghost use Rattle.std.specs.Io.KnownBytes.{Appends};
 ghost use Rattle.pres_client.specs.declared.call.Call.TheVariants.{GoOnline, GoOffline};
 ghost use Rattle.pres_client.specs.Steps.{IsMessage};
-ghost use Rattle.pres_sock.specs.Driven.{Drives, asked_in};
+ghost use Rattle.pres_sock.specs.Driven.{Drives, IsSettled, asked_in};
 ghost use Rattle.pres_sock.specs.Printed.{place_text, words_of, value_in, notice_text, notice_lines, refusal_text, line_of};
 ghost use Rattle.pres_sock.specs.Ends.{is_handshake};
 
@@ -147,6 +147,7 @@ fn settle<S: Read + Write + Drop, M: MaskKeys + Drop, W: Write>(
 ) -> Result<(), SockFault>
     ensures driven { OnOk result (Drives client.old [] client.new
         (W.contents output.old) (W.contents output.new)) }
+    ensures settled { OnOk result (IsSettled client.new) }
     ensures err { IfErr result (λ e. is_handshake e ≡ false) }
 {
     hand_out(alloc, socket, client, output)?;
@@ -168,6 +169,8 @@ fn receive<S: Read + Write + Drop, M: MaskKeys + Drop, W: Write>(
 ) -> Result<(), SockFault>
     ensures driven { OnOk result (Drives client.old [] client.new
         (W.contents output.old) (W.contents output.new)) }
+    ensures sent { OnOk result (client.new.sends ≡ []) }
+    ensures told { OnOk result (client.new.notices ≡ []) }
     ensures err { IfErr result (λ e. is_handshake e ≡ false) }
 {
     let message = next_message(alloc, socket)?;

@@ -10,4 +10,6 @@ returns-in-Ok-drive_client-clause-visited g c =
     record {
       now = c.in-Ok-drive_client.client;
       driven = subst (λ client. Drives client (Some GoOnline ∷ asked_in c.args.lines.items ++ Some GoOffline ∷ []) c.in-Ok-drive_client.client (text c.args.output.now) (text c.drive_client.new.output)) c.new-client.ensures c.in-Ok-drive_client.ensures.driven;
+      sent = c.in-Ok-drive_client.ensures.sent;
+      told = c.in-Ok-drive_client.ensures.told;
     }

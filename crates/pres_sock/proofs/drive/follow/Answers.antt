@@ -1,13 +1,13 @@
 use Rattle.std.proofs.Common.{[], ◌∷◌, sym, subst, OnOk}
 use Rattle.std.proofs.lemmas.Result.{on_ok_weaker}
 use Rattle.pres_sock.specs.Driven.{Drives, asked_in}
-use Rattle.pres_sock.proofs.Driven.{nothing_done, drives_then, passed_over}
+use Rattle.pres_sock.proofs.Driven.{nothing_done, goes_on, passed_over}
 use Rattle.pres_sock.proofs.drive.follow.Goals as goal
 
 pub reads-preserved : goal.reads-preserved
 reads-preserved g c =
     let text = g.W.Write.contents in
-    drives_then c.args.client.now c.reads.client c.receive.new.client [] [] (text c.args.output.now) (text c.reads.output) (text c.receive.new.output) c.reads.invariant c.in_ok-receive-in-Wait.ensures.driven
+    goes_on c.args.client.now c.reads.client c.receive.new.client [] (text c.args.output.now) (text c.reads.output) (text c.receive.new.output) c.reads.invariant c.in_ok-receive-in-Wait.ensures.driven
 
 pub reads-init : goal.reads-init
 reads-init g c = nothing_done c.args.client.now (g.W.Write.contents c.args.output.now)
