@@ -1,13 +1,13 @@
 //! The server.
 
-ghost use Rattle.std.specs.Prelude.{◌≡◌, ◌↔◌, ◌++◌, ◌∷◌, [], IsTrue, IfOk, IfErr, IfSome, IfNone, MatchOption, Some, None, true, false, is_some, if◌then◌else◌};
+ghost use Rattle.std.specs.Prelude.{◌≡◌, ◌↔◌, ◌++◌, ◌∷◌, [], IsTrue, IfOk, IfErr, IfSome, IfNone, MatchOption, Some, None, true, false, is_some, option_copied, if◌then◌else◌};
 ghost use Rattle.pres_tree.specs.Rows.{is_null, value_at};
 ghost use Rattle.pres_log.specs.Logs.{number, entries, tree};
 ghost use Rattle.pres_log.specs.declared.fault.Fault.TheVariants.{Busy as OutOfMemory};
 ghost use Rattle.pres_ids.specs.Ids.{ClientId};
 ghost use Rattle.pres_server.specs.Sessions.{is_open, count, has_open, open_sessions_of};
 ghost use Rattle.pres_server.specs.Parts.{session_with};
-ghost use Rattle.pres_server.specs.Heard.{heard_last, heard_again, blank};
+ghost use Rattle.pres_server.specs.Heard.{heard_last, heard_again, blank, first_client};
 ghost use Rattle.pres_server.specs.Outcomes.{rows_for};
 ghost use Rattle.pres_server.specs.LegalLog.{IsLegal, MayFollow};
 ghost use Rattle.pres_server.specs.Turns.{turn, batch_of, state_after, IsTurn, IsRefusal};
@@ -166,6 +166,7 @@ impl Server {
 
     /// The first client, in byte order, that has a session open.
     pub fn first_open(&self) -> Option<&ClientId>
+        ensures first { option_copied result ≡ first_client self.now.heard }
         ensures open { IfSome result (λ c. has_open c.now (entries self.now.log) ≡ true) }
         ensures none { IfNone result
             ((c : ClientId) → has_open c (entries self.now.log) ≡ false) }

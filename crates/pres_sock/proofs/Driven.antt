@@ -52,19 +52,19 @@ unasked c (refuses ∷ xs) none = absurd (omega (arith, ap length none))
 
 settled_first : (c : State) (xs : List Event) → IsSettled c → AsksMoreSettled c xs → AsksSettled c xs
 settled_first c [] settled h = tt
-settled_first c (does (calls k) ∷ xs) settled h = settled, h
+settled_first c (does (calls k) ∷ xs) settled h = (settled, h)
 settled_first c (does (receives m) ∷ xs) settled h = h
 settled_first c (does hands_out_sends ∷ xs) settled h = h
 settled_first c (does hands_out_notices ∷ xs) settled h = h
-settled_first c (refuses ∷ xs) settled h = settled, h
+settled_first c (refuses ∷ xs) settled h = (settled, h)
 
 settled_append : (c : State) (xs ys : List Event) → AsksSettled c xs → AsksSettled (run c (steps_of xs)) ys → AsksSettled c (xs ++ ys)
 settled_append c [] ys h k = k
-settled_append c (does (calls m) ∷ xs) ys h k = h.0, settled_append (after c (calls m)) xs ys h.1 k
+settled_append c (does (calls m) ∷ xs) ys h k = (h.0, settled_append (after c (calls m)) xs ys h.1 k)
 settled_append c (does (receives m) ∷ xs) ys h k = settled_append (after c (receives m)) xs ys h k
 settled_append c (does hands_out_sends ∷ xs) ys h k = settled_append (after c hands_out_sends) xs ys h k
 settled_append c (does hands_out_notices ∷ xs) ys h k = settled_append (after c hands_out_notices) xs ys h k
-settled_append c (refuses ∷ xs) ys h k = h.0, settled_append c xs ys h.1 k
+settled_append c (refuses ∷ xs) ys h k = (h.0, settled_append c xs ys h.1 k)
 
 more_settled_append : (c : State) (xs ys : List Event) → AsksMoreSettled c xs → AsksMoreSettled (run c (steps_of xs)) ys → AsksSettled (run c (steps_of xs)) ys → AsksMoreSettled c (xs ++ ys)
 more_settled_append c [] ys h first k = first

@@ -1,10 +1,13 @@
-use Rattle.std.proofs.Common.{◌≡◌, true, false, subst, IfSome, IfNone}
+use Rattle.std.proofs.Common.{◌≡◌, ◌∙◌, ap, true, false, subst, IfSome, IfNone}
 use Rattle.pres_log.specs.Logs.{entries}
 use Rattle.pres_ids.specs.Ids.{ClientId}
-use Rattle.pres_server.specs.Heard.{State}
+use Rattle.pres_server.specs.Heard.{State, first_client}
 use Rattle.pres_server.specs.Sessions.{has_open}
 use Rattle.pres_server.proofs.Heard.{first_tells, first_none}
 use Rattle.pres_server.proofs.server.Server.first_open.Goals as goal
+
+pub returns-clause-first : goal.returns-clause-first
+returns-clause-first c = c.first.ensures ∙ ap (λ (x : State). first_client x.heard) c.self.view_is
 
 pub returns-clause-open : goal.returns-clause-open
 returns-clause-open c =
