@@ -1,0 +1,4 @@
+pub mod Faults
+pub mod Members
+pub mod Served
+pub mod Worlds

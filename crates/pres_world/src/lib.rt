@@ -1,0 +1,15 @@
+//! A world: a server, its clients and the packets between them. A packet may come any number of
+//! times, in any order, or never.
+#![tactic(auto)]
+
+mod event;
+mod fault;
+mod member;
+mod members;
+mod room;
+mod serving;
+mod world;
+
+pub use event::{Ending, Event};
+pub use fault::WorldFault;
+pub use world::World;

@@ -1,0 +1,193 @@
+//! A world.
+
+ghost use Rattle.std.specs.Prelude.{◌≡◌, ◌⊎◌, ◌++◌, [], ℕ, Some, None, IfOk, IfErr, OnOk, OnErr, MatchOption, option_copied};
+ghost use Rattle.std.specs.FinMap.Entries.{find, put};
+ghost use Rattle.pres_ids.specs.Ids.{ClientId, client_cmp};
+ghost use Rattle.pres_client.specs.Clients.{State};
+ghost use Rattle.pres_log.specs.Logs.{item_at};
+ghost use Rattle.pres_server.specs.LegalLog.{IsLegal};
+ghost use Rattle.pres_world.specs.Served.{Serves};
+ghost use Rattle.pres_world.specs.Worlds.{IsCall, IsArrival, IsDelivery, IsLoss, IsStart, IsRestart, IsStep, IsStop, IsRefused, IsCutShort, Lacks, Reaches, new_world};
+ghost use Rattle.pres_world.specs.declared.event.Ending.TheVariants as ending;
+ghost use Rattle.pres_world.specs.declared.event.Event.TheVariants as event;
+ghost use Rattle.pres_world.specs.declared.fault.WorldFault.TheVariants.{Memory};
+
+use crate::event::{Ending, Event};
+use crate::fault::WorldFault;
+use crate::members::Members;
+use crate::serving::Serving;
+use pres_client::{Client, Notice};
+use pres_server::{Batch, ClientId, Down, Input, Moment, Server, Up};
+use std::alloc::{AllocError, Global};
+use std::marker::Model;
+
+/// A server, its clients and the packets between them. Contracts see it as plain data.
+#[derive(Drop)]
+pub struct World {
+    alloc: Global,
+    serving: Serving,
+    members: Members,
+    ups: Vec<Up>,
+    acks: Vec<Down>,
+}
+
+impl Model for World {
+    ghost use Rattle.pres_world.specs.Worlds.{World as Plain};
+
+    ghost Value = { Plain };
+
+    ghost view = { λ w. record { serving = w.serving; clients = w.members; ups = w.ups.items; acks = w.acks.items } };
+}
+
+// The item with the number, where they are numbered from 1 on.
+fn item_at<T>(items: &[T], number: usize) -> Option<&T>
+    ensures { option_copied result ≡ item_at items.now number }
+{
+    items.get(number.checked_sub(1)?)
+}
+
+impl World {
+    /// A world of these clients, of which none has started before. An id that comes twice is one
+    /// client.
+    pub fn new(alloc: Global, ids: Vec<ClientId>) -> Result<World, AllocError>
+        ensures { IfOk result (λ w. w ≡ new_world ids.items) }
+    {
+        let mut members = Members::new(alloc);
+        for id in ids {
+            members.join(id)?;
+        }
+        Ok(World {
+            alloc,
+            serving: Serving::new(alloc),
+            members,
+            ups: Vec::new(alloc),
+            acks: Vec::new(alloc),
+        })
+    }
+
+    /// The server, while it runs.
+    pub fn server(&self) -> Option<&Server>
+        ensures server { option_copied result ≡ self.now.serving.server }
+        ensures serves { Serves self.now.serving }
+    {
+        self.serving.server()
+    }
+
+    /// The batches that were committed.
+    pub fn history(&self) -> &[Batch]
+        ensures { result.now ≡ self.now.serving.history }
+    {
+        self.serving.history()
+    }
+
+    /// The client with the id.
+    pub fn client(&self, id: &ClientId) -> Option<&Client>
+        ensures { option_copied result ≡ find client_cmp id.now self.now.clients }
+    {
+        self.members.get(id)
+    }
+
+    /// What clients sent, in that order.
+    pub fn packets_up(&self) -> &[Up]
+        ensures { result.now ≡ self.now.ups }
+    {
+        self.ups.as_slice()
+    }
+
+    /// What the server sent, in that order.
+    pub fn packets_down(&self) -> &[Down]
+        ensures { result.now ≡ self.now.serving.downs }
+    {
+        self.serving.downs()
+    }
+
+    /// What clients took, in that order: Welcomes, and messages of their streams.
+    pub fn acks(&self) -> &[Down]
+        ensures { result.now ≡ self.now.acks }
+    {
+        self.acks.as_slice()
+    }
+
+    /// What the client noted since the last time, none where there is no such client.
+    pub fn take_notices(&mut self, id: &ClientId) -> Option<Vec<Notice>>
+        ensures { MatchOption result
+            ((find client_cmp id.now self.old.clients ≡ None) × (self.new ≡ self.old))
+            (λ notices. (c : State) × (find client_cmp id.now self.old.clients ≡ Some c)
+            × (notices.items ≡ c.notices) × (self.new ≡ record self.old {
+              clients
+                  = put client_cmp id.now (record c { notices = [] }) self.old.clients;
+            })) }
+    {
+        self.members.take_notices(id)
+    }
+
+    // The packet comes to the server.
+    fn arrive(&mut self, packet: usize, now: Moment, ending: Ending) -> Result<(), WorldFault>
+        ensures ok { OnOk result (IsArrival self.old packet now ending self.new) }
+        ensures err { IfErr result (IsRefused self.old (event.Up packet now ending) self.new) }
+    {
+        let Some(message) = item_at(self.ups.as_slice(), packet) else {
+            return Err(WorldFault::NoSuch);
+        };
+        let message = message.copy(self.alloc)?;
+        self.serving.turn(Input::Up(message), now, ending)
+    }
+
+    // The packet comes to the client that it is for.
+    fn deliver(&mut self, packet: usize) -> Result<(), WorldFault>
+        ensures ok { OnOk result (IsDelivery self.old packet self.new) }
+        ensures err { IfErr result (IsRefused self.old (event.Down packet) self.new) }
+    {
+        let Some(message) = item_at(self.serving.downs(), packet) else {
+            return Err(WorldFault::NoSuch);
+        };
+        let Some(session) = message.session() else {
+            return Err(WorldFault::NoSuch);
+        };
+        self.members
+            .receive(&session.client, message, &mut self.ups, &mut self.acks)
+    }
+
+    // The server hears that the connection of the client's open session is lost.
+    fn lose(&mut self, client: &ClientId, now: Moment) -> Result<(), WorldFault>
+        ensures ok { OnOk result (IsLoss self.old client.now now Ending.Answered self.new) }
+        ensures err { IfErr result (IsRefused self.old (event.Loss client.now now) self.new) }
+    {
+        if self.members.get(client).is_none() {
+            return Err(WorldFault::NoSuch);
+        }
+        self.serving.lose(client, now)
+    }
+
+    /// One event. Refused as NoSuch where there is no such packet or client, also while the server
+    /// is stopped; as Client where the client refuses the call; or as Memory.
+    pub fn step(&mut self, event: Event) -> Result<(), WorldFault>
+        ensures ok { OnOk result (IsStep self.old event self.new) }
+        ensures err { IfErr result (IsRefused self.old event self.new) }
+    {
+        match event {
+            Event::Call { client, call } => self.members.make(&client, call, &mut self.ups),
+            Event::Up {
+                packet,
+                now,
+                ending,
+            } => self.arrive(packet, now, ending),
+            Event::Down { packet } => self.deliver(packet),
+            Event::Loss { client, now } => self.lose(&client, now),
+            Event::Tick { now } => self.serving.turn(Input::Tick, now, Ending::Answered),
+            Event::RestartClient { client } => self.members.start_again(&client),
+            Event::RestartServer { now } => self.serving.restart(now),
+        }
+    }
+
+    /// The events, one after the other, up to the first that is refused.
+    pub fn run(&mut self, events: Vec<Event>) -> Result<(), WorldFault>
+        ensures ok { OnOk result (Reaches self.old events.items self.new) }
+        ensures err { IfErr result (IsCutShort self.old events.items self.new) }
+    {
+        for event in events {
+            self.step(event)?;
+        }
+        Ok(())
+    }
+}
