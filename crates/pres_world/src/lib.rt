@@ -4,6 +4,7 @@
 
 mod event;
 mod fault;
+pub mod laws;
 mod member;
 mod members;
 mod room;

@@ -159,7 +159,8 @@ impl Serving {
 
     /// The batches that were committed.
     pub(crate) fn history(&self) -> &[Batch]
-        ensures { result.now ≡ self.now.history }
+        ensures history { result.now ≡ self.now.history }
+        ensures legal { IsLegal self.now.history }
     {
         self.history.as_slice()
     }

@@ -6,6 +6,7 @@ ghost use Rattle.pres_ids.specs.Ids.{ClientId, client_cmp};
 ghost use Rattle.pres_client.specs.Clients.{State};
 ghost use Rattle.pres_log.specs.Logs.{item_at};
 ghost use Rattle.pres_server.specs.LegalLog.{IsLegal};
+ghost use Rattle.pres_world.specs.Orderly.{EndsStand, WritesStand};
 ghost use Rattle.pres_world.specs.Served.{Serves};
 ghost use Rattle.pres_world.specs.Worlds.{IsCall, IsArrival, IsDelivery, IsLoss, IsStart, IsRestart, IsStep, IsStop, IsRefused, IsCutShort, Lacks, Reaches, new_world};
 ghost use Rattle.pres_world.specs.declared.event.Ending.TheVariants as ending;
@@ -14,6 +15,7 @@ ghost use Rattle.pres_world.specs.declared.fault.WorldFault.TheVariants.{Memory}
 
 use crate::event::{Ending, Event};
 use crate::fault::WorldFault;
+use crate::laws::legal_logs_are_orderly;
 use crate::members::Members;
 use crate::serving::Serving;
 use pres_client::{Client, Notice};
@@ -73,10 +75,16 @@ impl World {
         self.serving.server()
     }
 
-    /// The batches that were committed.
+    /// The batches that were committed: a legal log, in which each write of a client stands once, in
+    /// the order of the writes' numbers, and each session ends once, with all that is due, before any
+    /// entry of a later session of its client.
     pub fn history(&self) -> &[Batch]
-        ensures { result.now ≡ self.now.serving.history }
+        ensures history { result.now ≡ self.now.serving.history }
+        ensures legal { IsLegal result.now }
+        ensures writes { WritesStand result.now }
+        ensures ends { EndsStand result.now }
     {
+        legal_logs_are_orderly();
         self.serving.history()
     }
 

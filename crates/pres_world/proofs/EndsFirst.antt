@@ -1,0 +1,134 @@
+-- An ended session's end stands before every entry of a later session of its client.
+use Rattle.std.proofs.Common.{refl, sym, ◌∙◌, ap, subst, ◌≡◌, ◌+◌, ◌<◌, ◌≤◌, ℕ, zero, suc, length, length-append, not, unwrap_or, List, [], ◌∷◌, ◌++◌, Bool, true, false, ◌||◌, ◌&&◌, ◌⊎◌, inl, inr, Option, Some, None, true≢false, arith, IsTrue, slice_get, take}
+use Rattle.std.specs.List.{list_any}
+use Rattle.std.proofs.lemmas.Bool.{and_parts, false_from_ne_true, cases_order}
+use Rattle.pres_ids.specs.declared.id.SessionId.{SessionId}
+use Rattle.pres_ids.specs.declared.id.Stamp.{Stamp}
+use Rattle.pres_ids.specs.declared.id.Why.{Why}
+use Rattle.pres_ids.specs.Ids.{ClientId, is_earlier, same_client, same_session, stamp_of}
+use Rattle.pres_write.specs.declared.basic.Basic.{Basic}
+use Rattle.pres_log.specs.declared.entry.Entry.{Entry}
+use Rattle.pres_log.specs.declared.entry.Entry.TheVariants as entry
+use Rattle.pres_log.specs.Logs.{Log, entries}
+use Rattle.pres_server.specs.LegalLog.{MayCome, IsLegal}
+use Rattle.pres_server.specs.Sessions.{opens, ends, is_open, opened, sessions_of, open_sessions_of, session_of}
+use Rattle.pres_server.proofs.Since.{any-append, client_itself, session_same, session_itself}
+use Rattle.pres_server.proofs.Steps.{In, is_open-append, any-filter, any-opened, open_listed}
+use Rattle.pres_server.proofs.Parts.{all_in, not_earlier, earlier_still}
+use Rattle.pres_world.proofs.Stands.{entries_rule, StandsMay, stands_may, found_before, found_still, take_within, take_whole}
+
+-- no later session than an open one was opened by its client
+abbrev OpenIsNewest : List Entry → Type 0
+OpenIsNewest es = (s t : SessionId) → is_open s es ≡ true → list_any (opens t) es ≡ true → s.client ≡ t.client → is_earlier (stamp_of s) (stamp_of t) ≡ false
+
+opened_among : (t : SessionId) (c : ClientId) (es : List Entry) → list_any (opens t) es ≡ true → t.client ≡ c → In t (sessions_of c es)
+opened_among t c es o same = any-filter t (λ x. same_client c x.client) (opened es) ∙ (λ i. (ap (same_client c) same ∙ client_itself c) i && any-opened t es i) ∙ o
+
+closed : (x u : SessionId) (es : List Entry) → open_sessions_of u.client es ≡ [] → x.client ≡ u.client → is_open x es ≡ false
+closed x u es none same = sym (open_listed x es) ∙ ap (λ c. list_any (same_session x) (open_sessions_of c es)) same ∙ ap (list_any (same_session x)) none
+
+kept_open : (s : SessionId) (es : List Entry) (e : Entry) → opens s e ≡ false → is_open s (es ++ e ∷ []) ≡ true → is_open s es ≡ true
+kept_open s es e none o = by (list_any (opens s) es) (opens s e) (list_any (ends s) es) (ends s e) none (sym (is_open-append s es e) ∙ o) where
+  by : (a b c d : Bool) → b ≡ false → ((a || b) && not (c || d)) ≡ true → (a && not c) ≡ true
+  by true b false d n h = refl
+  by true b true d n h = absurd (true≢false (sym h))
+  by false true c d n h = absurd (true≢false n)
+  by false false c d n h = absurd (true≢false (sym h))
+
+opened_still : (t : SessionId) (es : List Entry) (e : Entry) → opens t e ≡ false → list_any (opens t) (es ++ e ∷ []) ≡ true → list_any (opens t) es ≡ true
+opened_still t es e none o = by (list_any (opens t) es) (opens t e) none (sym (any-append (opens t) es (e ∷ [])) ∙ o) where
+  by : (a b : Bool) → b ≡ false → (a || (b || false)) ≡ true → a ≡ true
+  by true b n h = refl
+  by false true n h = absurd (true≢false n)
+  by false false n h = h
+
+one_way : (a b : Stamp) → is_earlier a b ≡ true → is_earlier b a ≡ false
+one_way a b e = false_from_ne_true _ (λ h. true≢false (sym (earlier_still a b a e h) ∙ not_earlier a))
+
+not_opening : (es : List Entry) (e : Entry) → ((t : SessionId) → opens t e ≡ false) → OpenIsNewest es → OpenIsNewest (es ++ e ∷ [])
+not_opening es e none h s t o k c = h s t (kept_open s es e (none s) o) (opened_still t es e (none t) k) c
+
+opening : (es : List Entry) (m : ℕ) (u : SessionId) → MayCome es m (entry.Open u) → OpenIsNewest es → OpenIsNewest (es ++ entry.Open u ∷ [])
+opening es m u may h s t o k c = by (same_session s u) refl (same_session t u) refl where
+  by : (a : Bool) → same_session s u ≡ a → (b : Bool) → same_session t u ≡ b → is_earlier (stamp_of s) (stamp_of t) ≡ false
+  by true e true f = (λ i. is_earlier (stamp_of (session_same s u e i)) (stamp_of (session_same t u f i))) ∙ not_earlier (stamp_of u)
+  by true e false f =
+      let su = session_same s u e in
+      let among = opened_among t u.client es (opened_still t es (entry.Open u) f k) (sym c ∙ ap (λ x. x.client) su) in
+      ap (λ x. is_earlier (stamp_of x) (stamp_of t)) su ∙ one_way (stamp_of t) (stamp_of u) (all_in (λ x. is_earlier (stamp_of x) (stamp_of u)) t (sessions_of u.client es) may.0 among)
+  by false e true f = absurd (true≢false (sym (kept_open s es (entry.Open u) e o) ∙ closed s u es may.1 (c ∙ ap (λ x. x.client) (session_same t u f))))
+  by false e false f = h s t (kept_open s es (entry.Open u) e o) (opened_still t es (entry.Open u) f k) c
+
+newest_more : (es : List Entry) (m : ℕ) (e : Entry) → OpenIsNewest es → MayCome es m e → OpenIsNewest (es ++ e ∷ [])
+newest_more es m (entry.Open u) h may = opening es m u may h
+newest_more es m (entry.Op s q n op outcome) h may = not_opening es (entry.Op s q n op outcome) (λ t. refl) h
+newest_more es m (entry.Again s q n) h may = not_opening es (entry.Again s q n) (λ t. refl) h
+newest_more es m (entry.Left s q puts) h may = not_opening es (entry.Left s q puts) (λ t. refl) h
+newest_more es m (entry.Cancelled s q path) h may = not_opening es (entry.Cancelled s q path) (λ t. refl) h
+newest_more es m (entry.Denied s q why) h may = not_opening es (entry.Denied s q why) (λ t. refl) h
+newest_more es m (entry.On s q path) h may = not_opening es (entry.On s q path) (λ t. refl) h
+newest_more es m (entry.Off s q path) h may = not_opening es (entry.Off s q path) (λ t. refl) h
+newest_more es m (entry.Ended s q why rows) h may = not_opening es (entry.Ended s q why rows) (λ t. refl) h
+
+-- after any number of the entries
+abbrev AllAlong : List Entry → Type 0
+AllAlong es = OpenIsNewest es × ((i : ℕ) → i ≤ length es → OpenIsNewest (take i es))
+
+none_open : OpenIsNewest []
+none_open s t o k c = absurd (true≢false (sym o))
+
+along_more : (es : List Entry) (m : ℕ) (e : Entry) → AllAlong es → MayCome es m e → AllAlong (es ++ e ∷ [])
+along_more es m e h may = (now, λ i small. by i small (cases_order i (length es + 1))) where
+  now : OpenIsNewest (es ++ e ∷ [])
+  now = newest_more es m e h.0 may
+
+  by : (i : ℕ) → i ≤ length (es ++ e ∷ []) → (i ≡ length es + 1) ⊎ ((i < length es + 1) ⊎ (length es + 1 < i)) → OpenIsNewest (take i (es ++ e ∷ []))
+  by i small (inl is) = subst OpenIsNewest (sym (ap (λ n. take n (es ++ e ∷ [])) (is ∙ sym (length-append es (e ∷ []))) ∙ take_whole (es ++ e ∷ []))) now
+  by i small (inr (inl less)) = let within : i ≤ length es = omega (arith, less) in subst OpenIsNewest (sym (take_within es (e ∷ []) i within)) (h.1 i within)
+  by i small (inr (inr more)) = absurd (let all = length-append es (e ∷ []) in omega (arith, small, more, all))
+
+open_is_newest : (log : Log) → IsLegal log → (i : ℕ) → i ≤ length (entries log) → OpenIsNewest (take i (entries log))
+open_is_newest log legal = (entries_rule AllAlong (none_open, λ i small. none_taken i) along_more log legal).1 where
+  none_taken : (i : ℕ) → OpenIsNewest (take i [])
+  none_taken zero = none_open
+  none_taken (suc i) = none_open
+
+got_small : {A : Type 0} (xs : List A) (i : ℕ) (x : A) → slice_get xs i ≡ Some x → i < length xs
+got_small [] i x get = absurd (none get) where
+  none : None ≡ Some x → ⊥
+  none e = grind arith
+got_small (y ∷ xs) zero x get = omega arith
+got_small (y ∷ xs) (suc i) x get = let less = got_small xs i x get in omega (arith, less)
+
+-- an entry's session is opened before it, or by it
+opened_before : (before : List Entry) (m : ℕ) (e : Entry) → MayCome before m e → (list_any (opens (session_of e)) before ≡ true) ⊎ (opens (session_of e) e ≡ true)
+opened_before before m (entry.Open s) may = inr (session_itself s)
+opened_before before m (entry.Op s q n op outcome) may = inl (and_parts (list_any (opens s) before) _ may.0.0).0
+opened_before before m (entry.Again s q n) may = inl (and_parts (list_any (opens s) before) _ may.0.0).0
+opened_before before m (entry.Left s q puts) may = inl (and_parts (list_any (opens s) before) _ may.0.0).0
+opened_before before m (entry.Cancelled s q path) may = inl (and_parts (list_any (opens s) before) _ may.0.0).0
+opened_before before m (entry.Denied s q why) may = inl (and_parts (list_any (opens s) before) _ may.0).0
+opened_before before m (entry.On s q path) may = inl (and_parts (list_any (opens s) before) _ may.0.0).0
+opened_before before m (entry.Off s q path) may = inl (and_parts (list_any (opens s) before) _ may.0).0
+opened_before before m (entry.Ended s q why rows) may = inl (and_parts (list_any (opens s) before) _ may.0).0
+
+opened_by_then : (es : List Entry) → StandsMay es → (j i : ℕ) (e : Entry) → slice_get es j ≡ Some e → j < i → list_any (opens (session_of e)) (take i es) ≡ true
+opened_by_then es stands j i e at less = from (opened_before (take j es) (stands j e at).0 e (stands j e at).1) where
+  from : (list_any (opens (session_of e)) (take j es) ≡ true) ⊎ (opens (session_of e) e ≡ true) → list_any (opens (session_of e)) (take i es) ≡ true
+  from (inl h) = found_still (opens (session_of e)) es j i e at less h
+  from (inr h) = found_before (opens (session_of e)) es j i e at less h
+
+pub ends_come_first : (log : Log) → IsLegal log → (s : SessionId) (i j : ℕ) (q : Option ℕ) (y : Why) (rows : List Basic) (e : Entry) →
+    slice_get (entries log) i ≡ Some (entry.Ended s q y rows) → slice_get (entries log) j ≡ Some e → s.client ≡ (session_of e).client → IsTrue (is_earlier (stamp_of s) (stamp_of (session_of e))) → i < j
+ends_come_first log legal s i j q y rows e a b same earlier = by_order (cases_order i j) where
+  by_order : (i ≡ j) ⊎ ((i < j) ⊎ (j < i)) → i < j
+  by_order (inl is) =
+      let found : Some e ≡ Some (entry.Ended s q y rows) = sym b ∙ ap (slice_get (entries log)) (sym is) ∙ a in
+      let it : session_of e ≡ s = ap (λ o. session_of (unwrap_or o e)) found in
+      absurd (true≢false (sym earlier ∙ ap (λ t. is_earlier (stamp_of s) (stamp_of t)) it ∙ not_earlier (stamp_of s)))
+  by_order (inr (inl less)) = less
+  by_order (inr (inr more)) =
+      let stands = stands_may log legal in
+      let open_then = (stands i (entry.Ended s q y rows) a).1.0 in
+      let small = got_small (entries log) i (entry.Ended s q y rows) a in
+      absurd (true≢false (sym earlier ∙ open_is_newest log legal i (omega (arith, small)) s (session_of e) open_then (opened_by_then (entries log) stands j i e b more) same))

@@ -1,0 +1,8 @@
+use Rattle.pres_world.proofs.Orderly.{writes_stand, ends_stand}
+use Rattle.pres_world.proofs.laws.legal_logs_are_orderly.Goals as goal
+
+pub returns-clause-writes : goal.returns-clause-writes
+returns-clause-writes c = writes_stand
+
+pub returns-clause-ends : goal.returns-clause-ends
+returns-clause-ends c = ends_stand

@@ -1,0 +1,30 @@
+-- What every legal log says of writes and of ends.
+use Rattle.std.specs.Prelude.{ℕ, ◌<◌, ◌≡◌, IsTrue, Option, List, ◌∷◌, ◌++◌}
+use Rattle.pres_ids.specs.declared.id.SessionId.{SessionId}
+use Rattle.pres_ids.specs.declared.id.Why.{Why}
+use Rattle.pres_ids.specs.Ids.{is_earlier, stamp_of}
+use Rattle.pres_write.specs.declared.basic.Basic.{Basic}
+use Rattle.pres_write.specs.declared.op.Op.{Op}
+use Rattle.pres_write.specs.declared.outcome.Outcome.{Outcome}
+use Rattle.pres_log.specs.declared.entry.Batch.{Batch}
+use Rattle.pres_log.specs.declared.entry.Entry.{Entry}
+use Rattle.pres_log.specs.declared.entry.Entry.TheVariants as entry
+use Rattle.pres_log.specs.Logs.{Log, Stands, entries}
+use Rattle.pres_server.specs.Sessions.{session_of}
+use Rattle.pres_server.specs.SessionPlans.{due_at}
+
+-- each write of a client stands once, in the order of the writes' numbers
+pub record WritesStand (log : Log) : Type 0 where
+  pub once : (s t : SessionId) (j k q p n : ℕ) (o o' : Op) (r r' : Outcome) →
+      Stands log j (entry.Op s q n o r) → Stands log k (entry.Op t p n o' r') → s.client ≡ t.client → j ≡ k
+  pub in_order : (s t : SessionId) (j k q p n m : ℕ) (o o' : Op) (r r' : Outcome) →
+      Stands log j (entry.Op s q n o r) → Stands log k (entry.Op t p m o' r') → s.client ≡ t.client → n < m → j < k
+
+-- each session ends once, by an entry with all that is due then, before any entry of a later session of its client
+pub record EndsStand (log : Log) : Type 0 where
+  pub once : (s : SessionId) (j k : ℕ) (q q' : Option ℕ) (y y' : Why) (rows rows' : List Basic) →
+      Stands log j (entry.Ended s q y rows) → Stands log k (entry.Ended s q' y' rows') → j ≡ k
+  pub are_due : (earlier later : Log) (batch : Batch) (s : SessionId) (q : Option ℕ) (y : Why) (rows : List Basic) (more : List Entry) →
+      earlier ++ batch ∷ later ≡ log → batch.entries ≡ entry.Ended s q y rows ∷ more → rows ≡ due_at (entries earlier) batch.moment s
+  pub come_first : (s : SessionId) (j k : ℕ) (q : Option ℕ) (y : Why) (rows : List Basic) (e : Entry) →
+      Stands log j (entry.Ended s q y rows) → Stands log k e → s.client ≡ (session_of e).client → IsTrue (is_earlier (stamp_of s) (stamp_of (session_of e))) → j < k
