@@ -1,3 +1,4 @@
+pub mod Backed
 pub mod Ended
 pub mod EndsFirst
 pub mod Found
@@ -5,4 +6,5 @@ pub mod Legal
 pub mod Lost
 pub mod Orderly
 pub mod Reached
+pub mod Safety
 pub mod Stands

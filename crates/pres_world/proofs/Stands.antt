@@ -60,7 +60,7 @@ take_whole (x ∷ xs) = ap (λ l. x ∷ l) (take_whole xs)
 abbrev pub StandsMay : List Entry → Type 0
 StandsMay es = (i : ℕ) (e : Entry) → slice_get es i ≡ Some e → (m : ℕ) × MayCome (take i es) m e
 
-stands_more : (es : List Entry) (m : ℕ) (e : Entry) → StandsMay es → MayCome es m e → StandsMay (es ++ e ∷ [])
+pub stands_more : (es : List Entry) (m : ℕ) (e : Entry) → StandsMay es → MayCome es m e → StandsMay (es ++ e ∷ [])
 stands_more es m e all may i f get = by_place (get_push es e i f get) where
   by_place : ((i < length es) × (slice_get es i ≡ Some f)) ⊎ ((i ≡ length es) × (e ≡ f)) → (k : ℕ) × MayCome (take i (es ++ e ∷ [])) k f
   by_place (inl h) =

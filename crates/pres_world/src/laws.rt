@@ -1,12 +1,23 @@
 //! Laws of worlds.
 
+ghost use Rattle.std.specs.Prelude.{List};
+ghost use Rattle.pres_ids.specs.Ids.{ClientId};
 ghost use Rattle.pres_log.specs.Logs.{Log};
 ghost use Rattle.pres_server.specs.LegalLog.{IsLegal};
 ghost use Rattle.pres_world.specs.Orderly.{EndsStand, WritesStand};
+ghost use Rattle.pres_world.specs.Safe.{StaysSafe};
+ghost use Rattle.pres_world.specs.Worlds.{World};
+ghost use Rattle.pres_world.specs.declared.event.Event.{Event};
 
 /// In a legal log each write of a client stands once, in the order of the writes' numbers, and each
 /// session ends once, with all that is due, before any entry of a later session of its client.
 pub fn legal_logs_are_orderly()
     ensures writes { (log : Log) → IsLegal log → WritesStand log }
     ensures ends { (log : Log) → IsLegal log → EndsStand log }
+{}
+
+/// Whatever happens to a new world, it is safe: each write whose reply a client took stands in the
+/// history, once, where the reply says, and came out as it says.
+pub fn worlds_stay_safe()
+    ensures { (ids : List ClientId) (events : List Event) (v : World) → StaysSafe ids events v }
 {}
