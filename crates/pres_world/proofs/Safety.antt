@@ -29,9 +29,9 @@ use Rattle.pres_world.specs.declared.event.Event.TheVariants as event
 use Rattle.pres_world.specs.declared.fault.WorldFault.{WorldFault}
 use Rattle.pres_world.specs.declared.fault.WorldFault.TheVariants as fault
 use Rattle.pres_world.specs.Members.{acknowledged, is_fault}
-use Rattle.pres_world.specs.Safe.{Happens, Passes, StandsAs, StaysSafe}
+use Rattle.pres_world.specs.Safe.{Happens, Passes, StandsAs, StaysSafe, IsSafe}
 use Rattle.pres_world.specs.Served.{Served, fault_for, turned, served, served_by, lost, EndsAll, IsRestarted}
-use Rattle.pres_world.specs.Worlds.{World, IsStep, IsStop, IsRefused, new_world}
+use Rattle.pres_world.specs.Worlds.{World, IsStep, IsStop, IsRefused, Reaches, new_world}
 use Rattle.pres_world.proofs.Backed.{IsWrite, Backed, backed_front, all_front, all_into, all_at, answers_backed, sure}
 use Rattle.pres_world.proofs.Orderly.{writes_stand, ends_stand}
 
@@ -230,3 +230,22 @@ stays_safe ids events v passes =
       writes = writes_stand v.serving.history h.sound.legal;
       ends = ends_stand v.serving.history h.sound.legal;
     }
+
+-- ---- runs
+
+passes_then : (u w v : World) (xs ys : List Event) → Passes u xs w → Passes w ys v → Passes u (xs ++ ys) v
+passes_then u w v [] ys h k = subst (λ x. Passes x ys v) h k
+passes_then u w v (e ∷ xs) ys h k = (h.0, h.1, passes_then h.0 w v xs ys h.2 k)
+
+reaches_passes : (w v : World) (events : List Event) → Reaches w events v → Passes w events v
+reaches_passes w v [] h = h
+reaches_passes w v (e ∷ later) h = (h.0, inl h.1, reaches_passes h.0 v later h.2)
+
+-- events that happen one after the other leave a world safe
+pub safe_behind : (ids : List ClientId) (before done : List Event) (w v : World) → Passes (new_world ids) before w → Reaches w done v → IsSafe v
+safe_behind ids before done w v h k = stays_safe ids (before ++ done) v (passes_then (new_world ids) w v before done h (reaches_passes w v done k))
+
+-- and so does one more that is refused
+pub safe_refused : (ids : List ClientId) (before done : List Event) (w u v : World) (e : Event) (f : WorldFault) → Passes (new_world ids) before w → Reaches w done u → IsRefused u e v f → IsSafe v
+safe_refused ids before done w u v e f h k r =
+    stays_safe ids (before ++ (done ++ e ∷ [])) v (passes_then (new_world ids) w v before (done ++ e ∷ []) h (passes_then w u v done (e ∷ []) (reaches_passes w u done k) (v, inr (f, r), refl)))

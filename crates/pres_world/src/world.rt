@@ -1,13 +1,15 @@
 //! A world.
 
-ghost use Rattle.std.specs.Prelude.{◌≡◌, ◌⊎◌, ◌++◌, [], ℕ, Some, None, IfOk, IfErr, OnOk, OnErr, MatchOption, option_copied};
+ghost use Rattle.std.specs.Prelude.{◌≡◌, List, [], Some, None, IfOk, IfErr, OnOk, OnErr, MatchOption, option_copied};
 ghost use Rattle.std.specs.FinMap.Entries.{find, put};
 ghost use Rattle.pres_ids.specs.Ids.{ClientId, client_cmp};
 ghost use Rattle.pres_client.specs.Clients.{State};
 ghost use Rattle.pres_log.specs.Logs.{item_at};
 ghost use Rattle.pres_server.specs.LegalLog.{IsLegal};
 ghost use Rattle.pres_world.specs.Orderly.{EndsStand, WritesStand};
+ghost use Rattle.pres_world.specs.Safe.{IsSafe, Passes};
 ghost use Rattle.pres_world.specs.Served.{Serves};
+ghost use Rattle.pres_world.specs.declared.event.Event.{Event};
 ghost use Rattle.pres_world.specs.Worlds.{IsCall, IsArrival, IsDelivery, IsLoss, IsStart, IsRestart, IsStep, IsStop, IsRefused, IsCutShort, Lacks, Reaches, new_world};
 ghost use Rattle.pres_world.specs.declared.event.Ending.TheVariants as ending;
 ghost use Rattle.pres_world.specs.declared.event.Event.TheVariants as event;
@@ -188,10 +190,15 @@ impl World {
         }
     }
 
-    /// The events, one after the other, up to the first that is refused.
+    /// The events, one after the other, up to the first that is refused. Whatever happened to a new
+    /// world before, it is safe then: each write whose reply a client took stands in the history, once,
+    /// where the reply says, and came out as it says; and each session that ended did so once, by all
+    /// that was due, before any entry of a later session of its client.
     pub fn run(&mut self, events: Vec<Event>) -> Result<(), WorldFault>
         ensures ok { OnOk result (Reaches self.old events.items self.new) }
         ensures err { IfErr result (IsCutShort self.old events.items self.new) }
+        ensures safe { (ids : List ClientId) (before : List Event)
+            → Passes (new_world ids) before self.old → IsSafe self.new }
     {
         for event in events {
             self.step(event)?;
