@@ -1,6 +1,6 @@
--- What a reply says of a write is what the log says.
+-- What a reply says of a write, and an Armed of an action, is what the log says.
 use Rattle.std.proofs.Common.{refl, sym, ◌∙◌, ap, subst, ◌≡◌, ◌+◌, ◌-◌, ◌≤◌, ◌<◌, ℕ, zero, suc, List, [], ◌∷◌, ◌++◌, length, Bool, true, false, cond, not, ◌⊎◌, inl, inr, Option, Some, None, true≢false, arith, slice_get, append_assoc, append-nil, length-append, filter, drop}
-use Rattle.std.specs.List.{list_any, before_first, flat_map, AllByRecursion}
+use Rattle.std.specs.List.{Contains, list_any, before_first, flat_map, AllByRecursion}
 use Rattle.pres_ids.specs.declared.id.SessionId.{SessionId}
 use Rattle.pres_ids.specs.Ids.{ClientId, same_client, same_session}
 use Rattle.pres_write.specs.declared.op.Op.{Op}
@@ -11,6 +11,8 @@ use Rattle.pres_retry.specs.declared.table.Row.{Row}
 use Rattle.pres_wire.specs.declared.down.Down.{Down}
 use Rattle.pres_wire.specs.declared.down.Down.TheVariants as down
 use Rattle.pres_tree.specs.Paths.{Path}
+use Rattle.pres_tree.specs.Rows.{Rows}
+use Rattle.pres_write.specs.declared.draft.Slot.{Slot}
 use Rattle.pres_log.specs.declared.entry.Entry.{Entry}
 use Rattle.pres_log.specs.declared.entry.Entry.TheVariants as entry
 use Rattle.pres_log.specs.Logs.{Log, entries, item_at}
@@ -55,6 +57,11 @@ pub all_at : {A : Type 0} (P : A → Type 0) (xs : List A) (i : ℕ) (x : A) →
 all_at P [] i x h get = absurd (none_or_some x get)
 all_at P (y ∷ xs) zero x h get = subst P (some_is y x get) h.0
 all_at P (y ∷ xs) (suc i) x h get = all_at P xs i x h.1 get
+
+pub contained : {A : Type 0} (P : A → Type 0) (xs : List A) (x : A) → AllByRecursion P xs → Contains xs x → P x
+contained P [] x h c = absurd (let less = c.1 in omega (arith, less))
+contained P (y ∷ xs) x h (zero, less, is) = subst P is h.0
+contained P (y ∷ xs) x h (suc k, less, is) = contained P xs x h.1 (k, omega (arith, less), is)
 
 all_dropped : {A : Type 0} (P : A → Type 0) (xs : List A) (k : ℕ) → AllByRecursion P xs → AllByRecursion P (drop k xs)
 all_dropped P xs zero h = h
@@ -146,9 +153,18 @@ rows_front c es (e ∷ more) i row h =
 
 -- ---- messages
 
--- what a reply says of a write is so
+-- message q of the session stands under the number, and left something for its end or took it back
+abbrev pub IsArmed : List Entry → SessionId → ℕ → ℕ → Type 0
+IsArmed es s z q = ((placements : List (Path × Rows Slot)) × (item_at es z ≡ Some (entry.Left s q placements))) ⊎ ((p : Path) × (item_at es z ≡ Some (entry.Cancelled s q p)))
+
+armed_front : (es more : List Entry) (s : SessionId) (z q : ℕ) → IsArmed es s z q → IsArmed (es ++ more) s z q
+armed_front es more s z q (inl h) = inl (h.0, item_front es more z _ h.1)
+armed_front es more s z q (inr h) = inr (h.0, item_front es more z _ h.1)
+
+-- what a reply says of a write is so, and what an Armed says of an action
 abbrev pub Backed : List Entry → Down → Type 0
 Backed es (down.Reply s r z q n done out) = IsWrite es s n done out
+Backed es (down.Armed s r z q) = IsArmed es s z q
 Backed es _ = Unit {0}
 
 pub backed_front : (es more : List Entry) (m : Down) → Backed es m → Backed (es ++ more) m
@@ -156,7 +172,7 @@ backed_front es more (down.Reply s r z q n done out) h = write_front es more s n
 backed_front es more (down.Welcome s z ops) h = tt
 backed_front es more (down.Gone s r z why) h = tt
 backed_front es more (down.Fault session reason) h = tt
-backed_front es more (down.Armed s r z q) h = tt
+backed_front es more (down.Armed s r z q) h = armed_front es more s z q h
 backed_front es more (down.Denied s r z q why) h = tt
 backed_front es more (down.Snap s r z q p v) h = tt
 backed_front es more (down.Push s r z values) h = tt
@@ -189,8 +205,8 @@ own_says : (all before more : List Entry) (e : Entry) → (before ++ e ∷ []) +
 own_says all before more (entry.Open s) is stands rows = tt
 own_says all before more (entry.Op s q n op outcome) is stands rows = (λ r. record { session = s; q = q; op = op; outcome = outcome; stands = numbered_here before more all (entry.Op s q n op outcome) is; client = refl; kept = refl }, tt)
 own_says all before more (entry.Again s q n) is stands rows = again_says all (before ++ entry.Again s q n ∷ []) more s q n _ refl (stands (length before) (entry.Again s q n) (here before more all (entry.Again s q n) is)).1.1 rows is
-own_says all before more (entry.Left s q puts) is stands rows = (λ r. tt, tt)
-own_says all before more (entry.Cancelled s q path) is stands rows = (λ r. tt, tt)
+own_says all before more (entry.Left s q puts) is stands rows = (λ r. inl (puts, numbered_here before more all (entry.Left s q puts) is), tt)
+own_says all before more (entry.Cancelled s q path) is stands rows = (λ r. inr (path, numbered_here before more all (entry.Cancelled s q path) is), tt)
 own_says all before more (entry.Denied s q why) is stands rows = (λ r. tt, tt)
 own_says all before more (entry.On s q path) is stands rows = (λ r. tt, tt)
 own_says all before more (entry.Off s q path) is stands rows = (λ r. tt, tt)
@@ -245,7 +261,7 @@ push_backed all (down.Reply s r z q n done out) h = absurd (true≢false (sym h)
 push_backed all (down.Welcome s z ops) h = tt
 push_backed all (down.Gone s r z why) h = tt
 push_backed all (down.Fault session reason) h = tt
-push_backed all (down.Armed s r z q) h = tt
+push_backed all (down.Armed s r z q) h = absurd (true≢false (sym h))
 push_backed all (down.Denied s r z q why) h = tt
 push_backed all (down.Snap s r z q p v) h = tt
 push_backed all (down.OffDone s r z q) h = tt

@@ -1,5 +1,5 @@
 -- An ended session's end stands before every entry of a later session of its client.
-use Rattle.std.proofs.Common.{refl, sym, ◌∙◌, ap, subst, ◌≡◌, ◌+◌, ◌<◌, ◌≤◌, ℕ, zero, suc, length, length-append, not, unwrap_or, List, [], ◌∷◌, ◌++◌, Bool, true, false, ◌||◌, ◌&&◌, ◌⊎◌, inl, inr, Option, Some, None, true≢false, arith, IsTrue, slice_get, take}
+use Rattle.std.proofs.Common.{refl, sym, ◌∙◌, ap, ◌≡◌, ◌<◌, ◌≤◌, ℕ, length, not, unwrap_or, List, [], ◌∷◌, ◌++◌, Bool, true, false, ◌||◌, ◌&&◌, ◌⊎◌, inl, inr, Option, Some, true≢false, arith, IsTrue, slice_get, take}
 use Rattle.std.specs.List.{list_any}
 use Rattle.std.proofs.lemmas.Bool.{and_parts, false_from_ne_true, cases_order}
 use Rattle.pres_ids.specs.declared.id.SessionId.{SessionId}
@@ -15,7 +15,7 @@ use Rattle.pres_server.specs.Sessions.{opens, ends, is_open, opened, sessions_of
 use Rattle.pres_server.proofs.Since.{any-append, client_itself, session_same, session_itself}
 use Rattle.pres_server.proofs.Steps.{In, is_open-append, any-filter, any-opened, open_listed}
 use Rattle.pres_server.proofs.Parts.{all_in, not_earlier, earlier_still}
-use Rattle.pres_world.proofs.Stands.{entries_rule, StandsMay, stands_may, found_before, found_still, take_within, take_whole}
+use Rattle.pres_world.proofs.Stands.{StandsMay, stands_may, prefix_rule, got_small, found_before, found_still}
 
 -- no later session than an open one was opened by its client
 abbrev OpenIsNewest : List Entry → Type 0
@@ -70,35 +70,11 @@ newest_more es m (entry.On s q path) h may = not_opening es (entry.On s q path) 
 newest_more es m (entry.Off s q path) h may = not_opening es (entry.Off s q path) (λ t. refl) h
 newest_more es m (entry.Ended s q why rows) h may = not_opening es (entry.Ended s q why rows) (λ t. refl) h
 
--- after any number of the entries
-abbrev AllAlong : List Entry → Type 0
-AllAlong es = OpenIsNewest es × ((i : ℕ) → i ≤ length es → OpenIsNewest (take i es))
-
 none_open : OpenIsNewest []
 none_open s t o k c = absurd (true≢false (sym o))
 
-along_more : (es : List Entry) (m : ℕ) (e : Entry) → AllAlong es → MayCome es m e → AllAlong (es ++ e ∷ [])
-along_more es m e h may = (now, λ i small. by i small (cases_order i (length es + 1))) where
-  now : OpenIsNewest (es ++ e ∷ [])
-  now = newest_more es m e h.0 may
-
-  by : (i : ℕ) → i ≤ length (es ++ e ∷ []) → (i ≡ length es + 1) ⊎ ((i < length es + 1) ⊎ (length es + 1 < i)) → OpenIsNewest (take i (es ++ e ∷ []))
-  by i small (inl is) = subst OpenIsNewest (sym (ap (λ n. take n (es ++ e ∷ [])) (is ∙ sym (length-append es (e ∷ []))) ∙ take_whole (es ++ e ∷ []))) now
-  by i small (inr (inl less)) = let within : i ≤ length es = omega (arith, less) in subst OpenIsNewest (sym (take_within es (e ∷ []) i within)) (h.1 i within)
-  by i small (inr (inr more)) = absurd (let all = length-append es (e ∷ []) in omega (arith, small, more, all))
-
 open_is_newest : (log : Log) → IsLegal log → (i : ℕ) → i ≤ length (entries log) → OpenIsNewest (take i (entries log))
-open_is_newest log legal = (entries_rule AllAlong (none_open, λ i small. none_taken i) along_more log legal).1 where
-  none_taken : (i : ℕ) → OpenIsNewest (take i [])
-  none_taken zero = none_open
-  none_taken (suc i) = none_open
-
-got_small : {A : Type 0} (xs : List A) (i : ℕ) (x : A) → slice_get xs i ≡ Some x → i < length xs
-got_small [] i x get = absurd (none get) where
-  none : None ≡ Some x → ⊥
-  none e = grind arith
-got_small (y ∷ xs) zero x get = omega arith
-got_small (y ∷ xs) (suc i) x get = let less = got_small xs i x get in omega (arith, less)
+open_is_newest = prefix_rule OpenIsNewest none_open newest_more
 
 -- an entry's session is opened before it, or by it
 opened_before : (before : List Entry) (m : ℕ) (e : Entry) → MayCome before m e → (list_any (opens (session_of e)) before ≡ true) ⊎ (opens (session_of e) e ≡ true)

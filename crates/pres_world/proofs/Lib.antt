@@ -1,4 +1,5 @@
 pub mod Backed
+pub mod Cancelled
 pub mod Ended
 pub mod EndsFirst
 pub mod Found

@@ -1,9 +1,13 @@
 -- Writes and ends stand in order in every legal log.
-use Rattle.std.proofs.Common.{refl, sym, ◌∙◌, ap, subst, ◌≡◌, ℕ, zero, suc, List, Some, arith, slice_get}
-use Rattle.pres_log.specs.Logs.{Log, entries, item_at}
+use Rattle.std.proofs.Common.{refl, sym, ◌∙◌, ap, subst, ◌≡◌, ℕ, zero, suc, List, Some, arith, slice_get, take}
+use Rattle.pres_log.specs.Logs.{Log, entries, entries_before, item_at}
 use Rattle.pres_server.specs.LegalLog.{IsLegal}
 use Rattle.pres_server.proofs.Whole.{ends_are_due}
-use Rattle.pres_world.specs.Orderly.{WritesStand, EndsStand}
+use Rattle.std.specs.List.{AllByRecursion}
+use Rattle.pres_server.specs.SessionPlans.{plan}
+use Rattle.pres_world.specs.Orderly.{WritesStand, EndsStand, CancelsStand}
+use Rattle.pres_world.proofs.Cancelled.{IsOther, cancels_stand}
+use Rattle.pres_world.proofs.Backed.{contained}
 use Rattle.pres_world.proofs.Stands.{none_or_some, stands_may, ends_once, op_once, op_order}
 use Rattle.pres_world.proofs.EndsFirst.{ends_come_first}
 
@@ -42,3 +46,10 @@ ends_stand log legal = record {
       let vs = v.1 in
       omega (arith, is, us, vs);
 }
+
+pub cancels_undone : (log : Log) → IsLegal log → CancelsStand log
+cancels_undone log legal s j k q p e y rows row a b there is =
+    let u = place (entries log) j _ a in
+    let v = place (entries log) k _ b in
+    let before : take v.0 (entries log) ≡ entries_before log k = let ks = v.1 in ap (λ n. take n (entries log)) (omega (arith, ks)) in
+    contained (IsOther q p) (plan s (entries_before log k)) row (subst (λ es. AllByRecursion (IsOther q p) (plan s es)) before (cancels_stand log legal s u.0 v.0 q p e y rows u.2 v.2)) there is

@@ -1,13 +1,13 @@
 -- Whatever happens to a new world, it is safe.
 use Rattle.std.proofs.Common.{refl, sym, ◌∙◌, ap, subst, ◌≡◌, ℕ, zero, suc, List, [], ◌∷◌, ◌++◌, Bool, true, false, cond, not, ◌&&◌, inl, inr, Option, Some, None, arith, unwrap_or, append_assoc, append-nil}
-use Rattle.std.specs.List.{Contains, AllByRecursion}
+use Rattle.std.specs.List.{AllByRecursion}
 use Rattle.pres_ids.specs.declared.id.SessionId.{SessionId}
 use Rattle.pres_ids.specs.Ids.{ClientId}
 use Rattle.pres_write.specs.declared.outcome.Kept.{Kept}
 use Rattle.pres_wire.specs.declared.down.Down.{Down}
 use Rattle.pres_wire.specs.declared.down.Code.{Code}
 use Rattle.pres_wire.specs.declared.down.Code.TheVariants as code
-use Rattle.pres_wire.specs.declared.down.Down.TheVariants.{Reply}
+use Rattle.pres_wire.specs.declared.down.Down.TheVariants.{Armed, Reply}
 use Rattle.pres_log.specs.declared.entry.Entry.{Entry}
 use Rattle.pres_log.specs.Faults.{code_of}
 use Rattle.pres_log.specs.Logs.{Log, entries, item_at}
@@ -32,12 +32,12 @@ use Rattle.pres_world.specs.Members.{acknowledged, is_fault}
 use Rattle.pres_world.specs.Safe.{Happens, Passes, StandsAs, StaysSafe, IsSafe}
 use Rattle.pres_world.specs.Served.{Served, fault_for, turned, served, served_by, lost, EndsAll, IsRestarted}
 use Rattle.pres_world.specs.Worlds.{World, IsStep, IsStop, IsRefused, Reaches, new_world}
-use Rattle.pres_world.proofs.Backed.{IsWrite, Backed, backed_front, all_front, all_into, all_at, answers_backed, sure}
-use Rattle.pres_world.proofs.Orderly.{writes_stand, ends_stand}
+use Rattle.pres_world.proofs.Backed.{IsWrite, Backed, backed_front, all_front, all_into, all_at, answers_backed, sure, contained}
+use Rattle.pres_world.proofs.Orderly.{writes_stand, ends_stand, cancels_undone}
 
 -- ---- the server's part
 
--- the history is legal and the server's, and what went out says of writes what is so
+-- the history is legal and the server's, and what went out says of writes and of actions what is so
 record Sound (w : Served) : Type 0 where
   pub legal : IsLegal w.history
   pub its_log : (s : State) → w.server ≡ Some s → s.log ≡ w.history
@@ -214,11 +214,6 @@ passes_honest w (e ∷ later) v h is = passes_honest is.0 later v (happens_hones
 new_honest : (ids : List ClientId) → Honest (new_world ids)
 new_honest ids = record { sound = record { legal = tt; its_log = λ t x. its _ t x; downs = tt }; acks = tt }
 
-contained : {A : Type 0} (P : A → Type 0) (xs : List A) (x : A) → AllByRecursion P xs → Contains xs x → P x
-contained P [] x h c = absurd (let less = c.1 in omega (arith, less))
-contained P (y ∷ xs) x h (zero, less, is) = subst P is h.0
-contained P (y ∷ xs) x h (suc k, less, is) = contained P xs x h.1 (k, omega (arith, less), is)
-
 stands_as : (log : Log) (s : SessionId) (n done : ℕ) (out : Kept) → IsWrite (entries log) s n done out → StandsAs log s n done out
 stands_as log s n done out h = record { session = h.session; q = h.q; op = h.op; outcome = h.outcome; stands = h.stands; client = h.client; kept = h.kept }
 
@@ -227,8 +222,10 @@ stays_safe ids events v passes =
     let h = passes_honest (new_world ids) events v (new_honest ids) passes in
     record {
       acknowledged = λ s r z q n done out c. stands_as v.serving.history s n done out (contained (Backed (entries v.serving.history)) v.acks (Reply s r z q n done out) h.acks c);
+      armed = λ s r z q c. contained (Backed (entries v.serving.history)) v.acks (Armed s r z q) h.acks c;
       writes = writes_stand v.serving.history h.sound.legal;
       ends = ends_stand v.serving.history h.sound.legal;
+      cancels = cancels_undone v.serving.history h.sound.legal;
     }
 
 -- ---- runs

@@ -73,6 +73,39 @@ stands_more es m e all may i f get = by_place (get_push es e i f get) where
 pub stands_may : (log : Log) → IsLegal log → StandsMay (entries log)
 stands_may = entries_rule StandsMay (λ i e get. absurd (none_or_some e get)) stands_more
 
+-- ---- after any number of the entries
+
+abbrev Along : (List Entry → Type 0) → List Entry → Type 0
+Along P es = P es × ((i : ℕ) → i ≤ length es → P (take i es))
+
+along_more : (P : List Entry → Type 0) → ((es : List Entry) (m : ℕ) (e : Entry) → P es → MayCome es m e → P (es ++ e ∷ [])) → (es : List Entry) (m : ℕ) (e : Entry) → Along P es → MayCome es m e → Along P (es ++ e ∷ [])
+along_more P step es m e h may = (now, λ i small. by i small (cases_order i (length es + 1))) where
+  now : P (es ++ e ∷ [])
+  now = step es m e h.0 may
+
+  by : (i : ℕ) → i ≤ length (es ++ e ∷ []) → (i ≡ length es + 1) ⊎ ((i < length es + 1) ⊎ (length es + 1 < i)) → P (take i (es ++ e ∷ []))
+  by i small (inl is) = subst P (sym (ap (λ n. take n (es ++ e ∷ [])) (is ∙ sym (length-append es (e ∷ []))) ∙ take_whole (es ++ e ∷ []))) now
+  by i small (inr (inl less)) = let within : i ≤ length es = omega (arith, less) in subst P (sym (take_within es (e ∷ []) i within)) (h.1 i within)
+  by i small (inr (inr more)) = absurd (let all = length-append es (e ∷ []) in omega (arith, small, more, all))
+
+-- what holds at first, and of each entry more that may come, holds after any number of the entries of a legal log
+pub prefix_rule : (P : List Entry → Type 0) → P [] → ((es : List Entry) (m : ℕ) (e : Entry) → P es → MayCome es m e → P (es ++ e ∷ [])) → (log : Log) → IsLegal log → (i : ℕ) → i ≤ length (entries log) → P (take i (entries log))
+prefix_rule P start step log legal = (entries_rule (Along P) (start, λ i small. none_taken i) (along_more P step) log legal).1 where
+  none_taken : (i : ℕ) → P (take i [])
+  none_taken zero = start
+  none_taken (suc i) = start
+
+pub got_small : {A : Type 0} (xs : List A) (i : ℕ) (x : A) → slice_get xs i ≡ Some x → i < length xs
+got_small [] i x get = absurd (none_or_some x get)
+got_small (y ∷ xs) zero x get = omega arith
+got_small (y ∷ xs) (suc i) x get = let less = got_small xs i x get in omega (arith, less)
+
+pub get_taken : {A : Type 0} (xs : List A) (i j : ℕ) (x : A) → slice_get xs i ≡ Some x → i < j → slice_get (take j xs) i ≡ Some x
+get_taken [] i j x get less = absurd (none_or_some x get)
+get_taken (y ∷ xs) i zero x get less = absurd (omega (arith, less))
+get_taken (y ∷ xs) zero (suc j) x get less = get
+get_taken (y ∷ xs) (suc i) (suc j) x get less = get_taken xs i j x get (omega (arith, less))
+
 -- ---- earlier and later places
 
 -- an item is among those before a later place

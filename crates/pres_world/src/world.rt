@@ -6,7 +6,7 @@ ghost use Rattle.pres_ids.specs.Ids.{ClientId, client_cmp};
 ghost use Rattle.pres_client.specs.Clients.{State};
 ghost use Rattle.pres_log.specs.Logs.{item_at};
 ghost use Rattle.pres_server.specs.LegalLog.{IsLegal};
-ghost use Rattle.pres_world.specs.Orderly.{EndsStand, WritesStand};
+ghost use Rattle.pres_world.specs.Orderly.{CancelsStand, EndsStand, WritesStand};
 ghost use Rattle.pres_world.specs.Safe.{IsSafe, Passes};
 ghost use Rattle.pres_world.specs.Served.{Serves};
 ghost use Rattle.pres_world.specs.declared.event.Event.{Event};
@@ -78,13 +78,14 @@ impl World {
     }
 
     /// The batches that were committed: a legal log, in which each write of a client stands once, in
-    /// the order of the writes' numbers, and each session ends once, with all that is due, before any
-    /// entry of a later session of its client.
+    /// the order of the writes' numbers, and each session ends once, with all that is due and nothing
+    /// that was cancelled, before any entry of a later session of its client.
     pub fn history(&self) -> &[Batch]
         ensures history { result.now ≡ self.now.serving.history }
         ensures legal { IsLegal result.now }
         ensures writes { WritesStand result.now }
         ensures ends { EndsStand result.now }
+        ensures cancels { CancelsStand result.now }
     {
         legal_logs_are_orderly();
         self.serving.history()
@@ -192,8 +193,10 @@ impl World {
 
     /// The events, one after the other, up to the first that is refused. Whatever happened to a new
     /// world before, it is safe then: each write whose reply a client took stands in the history, once,
-    /// where the reply says, and came out as it says; and each session that ended did so once, by all
-    /// that was due, before any entry of a later session of its client.
+    /// where the reply says, in its client's order, and came out as it says; each action for a
+    /// session's end that was acknowledged stands there; and each session that ended did so once, by
+    /// all that was due and nothing that was cancelled, before any entry of a later session of its
+    /// client.
     pub fn run(&mut self, events: Vec<Event>) -> Result<(), WorldFault>
         ensures ok { OnOk result (Reaches self.old events.items self.new) }
         ensures err { IfErr result (IsCutShort self.old events.items self.new) }
