@@ -8,4 +8,5 @@ pub mod Lost
 pub mod Orderly
 pub mod Reached
 pub mod Safety
+pub mod Sent
 pub mod Stands

@@ -1,9 +1,10 @@
 -- Whatever happens to a new world, it is safe.
-use Rattle.std.proofs.Common.{refl, sym, ◌∙◌, ap, subst, ◌≡◌, ℕ, zero, suc, List, [], ◌∷◌, ◌++◌, Bool, true, false, cond, not, ◌&&◌, inl, inr, Option, Some, None, arith, unwrap_or, append_assoc, append-nil}
+use Rattle.std.proofs.Common.{map, refl, sym, ◌∙◌, ap, subst, ◌≡◌, ℕ, zero, suc, List, [], ◌∷◌, ◌++◌, Bool, true, false, cond, not, ◌&&◌, inl, inr, Option, Some, None, arith, unwrap_or, append_assoc, append-nil}
 use Rattle.std.specs.List.{AllByRecursion}
 use Rattle.pres_ids.specs.declared.id.SessionId.{SessionId}
 use Rattle.pres_ids.specs.Ids.{ClientId}
 use Rattle.pres_write.specs.declared.outcome.Kept.{Kept}
+use Rattle.pres_wire.specs.declared.up.Up.{Up}
 use Rattle.pres_wire.specs.declared.down.Down.{Down}
 use Rattle.pres_wire.specs.declared.down.Code.{Code}
 use Rattle.pres_wire.specs.declared.down.Code.TheVariants as code
@@ -21,7 +22,8 @@ use Rattle.pres_server.specs.Streams.{answers}
 use Rattle.pres_server.specs.Turns.{Decision, refused, quiet, makes, turn, moment_of, batch_of, state_after}
 use Rattle.pres_server.proofs.Whole.{may_follow, legal_after}
 use Rattle.pres_client.specs.Clients.{State as Client}
-use Rattle.pres_client.specs.Receiving.{accepts}
+use Rattle.pres_client.specs.Calls.{after_call}
+use Rattle.pres_client.specs.Receiving.{accepts, after_receive}
 use Rattle.pres_world.specs.declared.event.Ending.{Ending}
 use Rattle.pres_world.specs.declared.event.Ending.TheVariants as ending
 use Rattle.pres_world.specs.declared.event.Event.{Event}
@@ -29,10 +31,11 @@ use Rattle.pres_world.specs.declared.event.Event.TheVariants as event
 use Rattle.pres_world.specs.declared.fault.WorldFault.{WorldFault}
 use Rattle.pres_world.specs.declared.fault.WorldFault.TheVariants as fault
 use Rattle.pres_world.specs.Members.{acknowledged, is_fault}
-use Rattle.pres_world.specs.Safe.{Happens, Passes, StandsAs, StaysSafe, IsSafe}
+use Rattle.pres_world.specs.Safe.{Occurrence, happens, hands_out, Occurs, Passes, IsSent, StandsAs, StaysSafe, IsSafe}
 use Rattle.pres_world.specs.Served.{Served, fault_for, turned, served, served_by, lost, EndsAll, IsRestarted}
-use Rattle.pres_world.specs.Worlds.{World, IsStep, IsStop, IsRefused, Reaches, new_world}
+use Rattle.pres_world.specs.Worlds.{World, IsStep, IsStop, IsRefused, Reaches, becomes, new_world}
 use Rattle.pres_world.proofs.Backed.{IsWrite, Backed, backed_front, all_front, all_into, all_at, answers_backed, sure, contained}
+use Rattle.pres_world.proofs.Sent.{ComesFrom, made_sent, sent_front}
 use Rattle.pres_world.proofs.Orderly.{writes_stand, ends_stand, cancels_undone}
 
 -- ---- the server's part
@@ -43,18 +46,19 @@ record Sound (w : Served) : Type 0 where
   pub its_log : (s : State) → w.server ≡ Some s → s.log ≡ w.history
   pub downs : AllByRecursion (Backed (entries w.history)) w.downs
 
--- it is so afterwards, and nothing was taken from the history
-record Grows (w v : Served) : Type 0 where
+-- it is so afterwards, and the history has more entries, which were made of what was sent
+record Grows (ups : List Up) (w v : Served) : Type 0 where
   pub sound : Sound v
   pub more : List Entry
   pub grown : entries v.history ≡ entries w.history ++ more
+  pub sent : AllByRecursion (IsSent ups) more
 
-same : (w : Served) → Sound w → Grows w w
-same w h = record { sound = h; more = []; grown = sym (append-nil (entries w.history)) }
+same : (ups : List Up) (w : Served) → Sound w → Grows ups w w
+same ups w h = record { sound = h; more = []; grown = sym (append-nil (entries w.history)); sent = tt }
 
 -- the history stays, and messages go out
-stays : (w v : Served) (out : List Down) → Sound w → v.history ≡ w.history → ((t : State) → v.server ≡ Some t → t.log ≡ v.history) → v.downs ≡ w.downs ++ out → AllByRecursion (Backed (entries w.history)) out → Grows w v
-stays w v out h is log sent backed = record {
+stays : (ups : List Up) (w v : Served) (out : List Down) → Sound w → v.history ≡ w.history → ((t : State) → v.server ≡ Some t → t.log ≡ v.history) → v.downs ≡ w.downs ++ out → AllByRecursion (Backed (entries w.history)) out → Grows ups w v
+stays ups w v out h is log sent backed = record {
   sound = record {
     legal = subst IsLegal (sym is) h.legal;
     its_log = log;
@@ -62,11 +66,12 @@ stays w v out h is log sent backed = record {
   };
   more = [];
   grown = ap entries is ∙ sym (append-nil (entries w.history));
+  sent = tt;
 }
 
 -- a batch is committed, and messages go out
-grows : (w v : Served) (m : ℕ) (es : List Entry) (out : List Down) → Sound w → MayFollow w.history (batch_of w.history m es) → v.history ≡ w.history ++ batch_of w.history m es ∷ [] → ((t : State) → v.server ≡ Some t → t.log ≡ v.history) → v.downs ≡ w.downs ++ out → AllByRecursion (Backed (entries w.history ++ es)) out → Grows w v
-grows w v m es out h follows is log sent backed = record {
+grows : (ups : List Up) (w v : Served) (m : ℕ) (es : List Entry) (out : List Down) → AllByRecursion (IsSent ups) es → Sound w → MayFollow w.history (batch_of w.history m es) → v.history ≡ w.history ++ batch_of w.history m es ∷ [] → ((t : State) → v.server ≡ Some t → t.log ≡ v.history) → v.downs ≡ w.downs ++ out → AllByRecursion (Backed (entries w.history ++ es)) out → Grows ups w v
+grows ups w v m es out made h follows is log sent backed = record {
   sound = record {
     legal = subst IsLegal (sym is) (legal_after w.history (batch_of w.history m es) h.legal follows);
     its_log = log;
@@ -74,6 +79,7 @@ grows w v m es out h follows is log sent backed = record {
   };
   more = es;
   grown = all;
+  sent = made;
 } where
   all : entries v.history ≡ entries w.history ++ es
   all = ap entries is ∙ entries-push w.history (batch_of w.history m es)
@@ -88,12 +94,12 @@ none_some s e = grind arith
 its : (s t : State) → Some s ≡ Some t → t.log ≡ s.log
 its s t e = sym (ap (λ o. (unwrap_or o t).log) e)
 
-turned_grows : (w : Served) (s : State) (i : Input) (now : ℕ) (e : Ending) → Sound w → s.log ≡ w.history → Grows w (turned e w.downs (turn s i now) s (moment_of s.log now) i)
-turned_grows w s i now e h is = by (turn s i now) refl e where
+turned_grows : (ups : List Up) (w : Served) (s : State) (i : Input) (now : ℕ) (e : Ending) → ComesFrom ups i → Sound w → s.log ≡ w.history → Grows ups w (turned e w.downs (turn s i now) s (moment_of s.log now) i)
+turned_grows ups w s i now e from h is = by (turn s i now) refl e where
   m : ℕ
   m = moment_of s.log now
 
-  by : (d : Decision) → turn s i now ≡ d → (e : Ending) → Grows w (turned e w.downs d s m i)
+  by : (d : Decision) → turn s i now ≡ d → (e : Ending) → Grows ups w (turned e w.downs d s m i)
   by (makes es) k ending.Answered = made (answers (entries s.log) es) (λ t x. its (state_after s m es) t x) refl backed where
     follows : MayFollow w.history (batch_of w.history m es)
     follows = subst (λ l. MayFollow l (batch_of l m es)) is (may_follow s i now es (subst IsLegal (sym is) h.legal) k)
@@ -101,48 +107,49 @@ turned_grows w s i now e h is = by (turn s i now) refl e where
     backed : AllByRecursion (Backed (entries w.history ++ es)) (answers (entries s.log) es)
     backed = subst (λ l. AllByRecursion (Backed (entries w.history ++ es)) (answers (entries l) es)) (sym is) (answers_backed (entries w.history) m es (sure w.history h.legal) follows.allowed)
 
-    made : (out : List Down) → ((t : State) → Some (state_after s m es) ≡ Some t → t.log ≡ (state_after s m es).log) → w.downs ++ out ≡ w.downs ++ out → AllByRecursion (Backed (entries w.history ++ es)) out → Grows w (record { server = Some (state_after s m es); history = (state_after s m es).log; downs = w.downs ++ out })
-    made out log sent k = grows w _ m es out h follows (ap (λ l. l ++ batch_of l m es ∷ []) is) log sent k
-  by (makes es) k ending.Stopped = grows w _ m es [] h follows (ap (λ l. l ++ batch_of l m es ∷ []) is) (λ t x. absurd (none_some t x)) (sym (append-nil w.downs)) tt where
+    made : (out : List Down) → ((t : State) → Some (state_after s m es) ≡ Some t → t.log ≡ (state_after s m es).log) → w.downs ++ out ≡ w.downs ++ out → AllByRecursion (Backed (entries w.history ++ es)) out → Grows ups w (record { server = Some (state_after s m es); history = (state_after s m es).log; downs = w.downs ++ out })
+    made out log sent b = grows ups w _ m es out (made_sent ups s i now es from k) h follows (ap (λ l. l ++ batch_of l m es ∷ []) is) log sent b
+  by (makes es) k ending.Stopped = grows ups w _ m es [] (made_sent ups s i now es from k) h follows (ap (λ l. l ++ batch_of l m es ∷ []) is) (λ t x. absurd (none_some t x)) (sym (append-nil w.downs)) tt where
     follows : MayFollow w.history (batch_of w.history m es)
     follows = subst (λ l. MayFollow l (batch_of l m es)) is (may_follow s i now es (subst IsLegal (sym is) h.legal) k)
-  by (makes es) k ending.Refused = stays w _ (fault_for (heard_from i) code.Busy) h is (λ t x. its s t x) refl (fault_backed (entries w.history) (heard_from i) code.Busy)
-  by quiet k ending.Answered = stays w _ [] h is (λ t x. its _ t x) refl tt
-  by quiet k ending.Stopped = stays w _ [] h is (λ t x. absurd (none_some t x)) (sym (append-nil w.downs)) tt
-  by quiet k ending.Refused = stays w _ [] h is (λ t x. its _ t x) refl tt
-  by (refused f) k ending.Answered = stays w _ (fault_for (heard_from i) (code_of f)) h is (λ t x. its s t x) refl (fault_backed (entries w.history) (heard_from i) (code_of f))
-  by (refused f) k ending.Stopped = stays w _ [] h is (λ t x. absurd (none_some t x)) (sym (append-nil w.downs)) tt
-  by (refused f) k ending.Refused = stays w _ (fault_for (heard_from i) (code_of f)) h is (λ t x. its s t x) refl (fault_backed (entries w.history) (heard_from i) (code_of f))
+  by (makes es) k ending.Refused = stays ups w _ (fault_for (heard_from i) code.Busy) h is (λ t x. its s t x) refl (fault_backed (entries w.history) (heard_from i) code.Busy)
+  by quiet k ending.Answered = stays ups w _ [] h is (λ t x. its _ t x) refl tt
+  by quiet k ending.Stopped = stays ups w _ [] h is (λ t x. absurd (none_some t x)) (sym (append-nil w.downs)) tt
+  by quiet k ending.Refused = stays ups w _ [] h is (λ t x. its _ t x) refl tt
+  by (refused f) k ending.Answered = stays ups w _ (fault_for (heard_from i) (code_of f)) h is (λ t x. its s t x) refl (fault_backed (entries w.history) (heard_from i) (code_of f))
+  by (refused f) k ending.Stopped = stays ups w _ [] h is (λ t x. absurd (none_some t x)) (sym (append-nil w.downs)) tt
+  by (refused f) k ending.Refused = stays ups w _ (fault_for (heard_from i) (code_of f)) h is (λ t x. its s t x) refl (fault_backed (entries w.history) (heard_from i) (code_of f))
 
-served_grows : (w : Served) (i : Input) (now : ℕ) (e : Ending) → Sound w → Grows w (served w i now e)
-served_grows w i now e h = by w.server refl where
-  by : (o : Option State) → w.server ≡ o → Grows w (served_by o w i now e)
-  by None k = same w h
-  by (Some s) k = turned_grows w s i now e h (h.its_log s k)
+served_grows : (ups : List Up) (w : Served) (i : Input) (now : ℕ) (e : Ending) → ComesFrom ups i → Sound w → Grows ups w (served w i now e)
+served_grows ups w i now e from h = by w.server refl where
+  by : (o : Option State) → w.server ≡ o → Grows ups w (served_by o w i now e)
+  by None k = same ups w h
+  by (Some s) k = turned_grows ups w s i now e from h (h.its_log s k)
 
-lost_grows : (found : List SessionId) (w : Served) (now : ℕ) (e : Ending) → Sound w → Grows w (lost found w now e)
-lost_grows [] w now e h = same w h
-lost_grows (s ∷ more) w now e h = served_grows w (input.Lost s) now e h
+lost_grows : (ups : List Up) (found : List SessionId) (w : Served) (now : ℕ) (e : Ending) → Sound w → Grows ups w (lost found w now e)
+lost_grows ups [] w now e h = same ups w h
+lost_grows ups (s ∷ more) w now e h = served_grows ups w (input.Lost s) now e tt h
 
--- a log that is longer by these entries
-record Longer (old new : Log) : Type 0 where
+-- a log that is longer by these entries, which were made of what was sent
+record Longer (ups : List Up) (old new : Log) : Type 0 where
   pub legal : IsLegal new
   pub more : List Entry
   pub grown : entries new ≡ entries old ++ more
+  pub sent : AllByRecursion (IsSent ups) more
 
-ended_longer : (now : ℕ) (cs : List ClientId) (s t : State) → IsLegal s.log → EndsAll now cs s t → Longer s.log t.log
-ended_longer now [] s t legal h = subst (λ x. Longer s.log x.log) (sym h.0) (record { legal = legal; more = []; grown = sym (append-nil (entries s.log)) })
-ended_longer now (c ∷ cs) s t legal h =
+ended_longer : (ups : List Up) (now : ℕ) (cs : List ClientId) (s t : State) → IsLegal s.log → EndsAll now cs s t → Longer ups s.log t.log
+ended_longer ups now [] s t legal h = subst (λ x. Longer ups s.log x.log) (sym h.0) (record { legal = legal; more = []; grown = sym (append-nil (entries s.log)); sent = tt })
+ended_longer ups now (c ∷ cs) s t legal h =
     let m = moment_of s.log now in
     let batch = batch_of s.log m h.0 in
     let follows = may_follow s (input.Restart c) now h.0 legal h.2 in
-    let rest = ended_longer now cs (state_after s m h.0) t (legal_after s.log batch legal follows) h.3 in
-    record { legal = rest.legal; more = h.0 ++ rest.more; grown = rest.grown ∙ ap (λ l. l ++ rest.more) (entries-push s.log batch) ∙ append_assoc (entries s.log) h.0 rest.more }
+    let rest = ended_longer ups now cs (state_after s m h.0) t (legal_after s.log batch legal follows) h.3 in
+    record { legal = rest.legal; more = h.0 ++ rest.more; grown = rest.grown ∙ ap (λ l. l ++ rest.more) (entries-push s.log batch) ∙ append_assoc (entries s.log) h.0 rest.more; sent = all_front (IsSent ups) h.0 rest.more (made_sent ups s (input.Restart c) now h.0 tt h.2) rest.sent }
 
-restarted_grows : (w v : Served) (now : ℕ) → Sound w → IsRestarted w now v → Grows w v
-restarted_grows w v now h k =
-    let longer = ended_longer now k.0 (made_from w.history) k.1 h.legal k.2 in
-    subst (Grows w) (sym k.3) (record {
+restarted_grows : (ups : List Up) (w v : Served) (now : ℕ) → Sound w → IsRestarted w now v → Grows ups w v
+restarted_grows ups w v now h k =
+    let longer = ended_longer ups now k.0 (made_from w.history) k.1 h.legal k.2 in
+    subst (Grows ups w) (sym k.3) (record {
       sound = record {
         legal = longer.legal;
         its_log = λ t x. its k.1 t x;
@@ -150,6 +157,7 @@ restarted_grows w v now h k =
       };
       more = longer.more;
       grown = longer.grown;
+      sent = longer.sent;
     })
 
 -- ---- worlds
@@ -157,18 +165,30 @@ restarted_grows w v now h k =
 record Honest (w : World) : Type 0 where
   pub sound : Sound w.serving
   pub acks : AllByRecursion (Backed (entries w.serving.history)) w.acks
+  pub sent : AllByRecursion (IsSent w.ups) (entries w.serving.history)
 
-honest_by : (w : World) (v : Served) → Honest w → Grows w.serving v → Honest (record w { serving = v })
+honest_by : (w : World) (v : Served) → Honest w → Grows w.ups w.serving v → Honest (record w { serving = v })
 honest_by w v h g = record {
   sound = g.sound;
   acks = subst (λ l. AllByRecursion (Backed l) w.acks) (sym g.grown) (all_into (Backed (entries w.serving.history)) (Backed (entries w.serving.history ++ g.more)) w.acks (backed_front (entries w.serving.history) g.more) h.acks);
+  sent = subst (AllByRecursion (IsSent w.ups)) (sym g.grown) (all_front (IsSent w.ups) (entries w.serving.history) g.more h.sent g.sent);
 }
+
+-- a client sends more
+becomes_honest : (w : World) (id : ClientId) (c : Client) → Honest w → Honest (becomes w id c)
+becomes_honest w id c h = record { sound = h.sound; acks = h.acks; sent = all_into (IsSent w.ups) (IsSent (w.ups ++ c.sends)) (entries w.serving.history) (sent_front w.ups c.sends) h.sent }
 
 item_backed : (es : List Entry) (ms : List Down) (k : ℕ) (m : Down) → AllByRecursion (Backed es) ms → item_at ms k ≡ Some m → Backed es m
 item_backed es ms zero m h get = absurd (none get) where
   none : None ≡ Some m → ⊥
   none e = grind arith
 item_backed es ms (suc i) m h get = all_at (Backed es) ms i m h get
+
+item_sent : (ups : List Up) (es : List Entry) (k : ℕ) (e : Entry) → AllByRecursion (IsSent ups) es → item_at es k ≡ Some e → IsSent ups e
+item_sent ups es zero e h get = absurd (none get) where
+  none : None ≡ Some e → ⊥
+  none x = grind arith
+item_sent ups es (suc i) e h get = all_at (IsSent ups) es i e h get
 
 ack_backed : (es : List Entry) (c : Client) (m : Down) → Backed es m → AllByRecursion (Backed es) (acknowledged c m)
 ack_backed es c m h = by (accepts c m && not (is_fault m)) where
@@ -177,23 +197,24 @@ ack_backed es c m h = by (accepts c m && not (is_fault m)) where
   by false = tt
 
 step_honest : (w : World) (e : Event) (v : World) → Honest w → IsStep w e v → Honest v
-step_honest w (event.Call id k) v h is = subst Honest (sym is.after) (record { sound = h.sound; acks = h.acks })
-step_honest w (event.Up packet now e) v h is = subst Honest (sym is.2) (honest_by w _ h (served_grows w.serving (input.Up is.0) now e h.sound))
+step_honest w (event.Call id k) v h is = subst Honest (sym is.after) (becomes_honest w id (after_call is.client k) h)
+step_honest w (event.Up packet now e) v h is = subst Honest (sym is.2) (honest_by w _ h (served_grows w.ups w.serving (input.Up is.0) now e (packet, is.1) h.sound))
 step_honest w (event.Down packet) v h is = subst Honest (sym is.after) (record {
   sound = h.sound;
   acks = all_front (Backed (entries w.serving.history)) w.acks (acknowledged is.client is.message) h.acks (ack_backed (entries w.serving.history) is.client is.message (item_backed (entries w.serving.history) w.serving.downs packet is.message h.sound.downs is.sent));
+  sent = (becomes_honest w is.session.client (after_receive is.client is.message) h).sent;
 })
-step_honest w (event.Loss id now) v h is = subst Honest (sym is.1) (honest_by w _ h (lost_grows _ w.serving now ending.Answered h.sound))
-step_honest w (event.Tick now) v h is = subst Honest (sym is) (honest_by w _ h (served_grows w.serving input.Tick now ending.Answered h.sound))
-step_honest w (event.RestartClient id) v h is = subst Honest (sym is.after) (record { sound = h.sound; acks = h.acks })
-step_honest w (event.RestartServer now) v h is = subst Honest (sym is.2) (honest_by w is.0 h (restarted_grows w.serving is.0 now h.sound is.1))
+step_honest w (event.Loss id now) v h is = subst Honest (sym is.1) (honest_by w _ h (lost_grows w.ups _ w.serving now ending.Answered h.sound))
+step_honest w (event.Tick now) v h is = subst Honest (sym is) (honest_by w _ h (served_grows w.ups w.serving input.Tick now ending.Answered tt h.sound))
+step_honest w (event.RestartClient id) v h is = subst Honest (sym is.after) (record { sound = h.sound; acks = h.acks; sent = h.sent })
+step_honest w (event.RestartServer now) v h is = subst Honest (sym is.2) (honest_by w is.0 h (restarted_grows w.ups w.serving is.0 now h.sound is.1))
 
 stop_honest : (w : World) (e : Event) (v : World) → Honest w → IsStop w e v → Honest v
 stop_honest w (event.Call id k) v h is = absurd is
-stop_honest w (event.Up packet now e) v h is = subst Honest (sym is.2) (honest_by w _ h (served_grows w.serving (input.Up is.0) now ending.Stopped h.sound))
+stop_honest w (event.Up packet now e) v h is = subst Honest (sym is.2) (honest_by w _ h (served_grows w.ups w.serving (input.Up is.0) now ending.Stopped (packet, is.1) h.sound))
 stop_honest w (event.Down packet) v h is = absurd is
-stop_honest w (event.Loss id now) v h is = subst Honest (sym is.1) (honest_by w _ h (lost_grows _ w.serving now ending.Stopped h.sound))
-stop_honest w (event.Tick now) v h is = subst Honest (sym is) (honest_by w _ h (served_grows w.serving input.Tick now ending.Stopped h.sound))
+stop_honest w (event.Loss id now) v h is = subst Honest (sym is.1) (honest_by w _ h (lost_grows w.ups _ w.serving now ending.Stopped h.sound))
+stop_honest w (event.Tick now) v h is = subst Honest (sym is) (honest_by w _ h (served_grows w.ups w.serving input.Tick now ending.Stopped tt h.sound))
 stop_honest w (event.RestartClient id) v h is = absurd is
 stop_honest w (event.RestartServer now) v h is = absurd is
 
@@ -203,26 +224,29 @@ refused_honest w e v fault.Memory h (inr is) = stop_honest w e v h is
 refused_honest w e v fault.NoSuch h is = subst Honest (sym is.0) h
 refused_honest w e v (fault.Client f) h is = subst Honest (sym is.0) h
 
-happens_honest : (w : World) (e : Event) (v : World) → Honest w → Happens w e v → Honest v
-happens_honest w e v h (inl is) = step_honest w e v h is
-happens_honest w e v h (inr is) = refused_honest w e v is.0 h is.1
+occurs_honest : (w : World) (o : Occurrence) (v : World) → Honest w → Occurs w o v → Honest v
+occurs_honest w (happens e) v h (inl is) = step_honest w e v h is
+occurs_honest w (happens e) v h (inr is) = refused_honest w e v is.0 h is.1
+occurs_honest w (hands_out id) v h (inl is) = subst Honest (sym is) h
+occurs_honest w (hands_out id) v h (inr is) = subst Honest (sym is.2) (record { sound = h.sound; acks = h.acks; sent = h.sent })
 
-passes_honest : (w : World) (events : List Event) (v : World) → Honest w → Passes w events v → Honest v
+passes_honest : (w : World) (occurrences : List Occurrence) (v : World) → Honest w → Passes w occurrences v → Honest v
 passes_honest w [] v h is = subst Honest (sym is) h
-passes_honest w (e ∷ later) v h is = passes_honest is.0 later v (happens_honest w e is.0 h is.1) is.2
+passes_honest w (o ∷ later) v h is = passes_honest is.0 later v (occurs_honest w o is.0 h is.1) is.2
 
 new_honest : (ids : List ClientId) → Honest (new_world ids)
-new_honest ids = record { sound = record { legal = tt; its_log = λ t x. its _ t x; downs = tt }; acks = tt }
+new_honest ids = record { sound = record { legal = tt; its_log = λ t x. its _ t x; downs = tt }; acks = tt; sent = tt }
 
 stands_as : (log : Log) (s : SessionId) (n done : ℕ) (out : Kept) → IsWrite (entries log) s n done out → StandsAs log s n done out
 stands_as log s n done out h = record { session = h.session; q = h.q; op = h.op; outcome = h.outcome; stands = h.stands; client = h.client; kept = h.kept }
 
-pub stays_safe : (ids : List ClientId) (events : List Event) (v : World) → StaysSafe ids events v
-stays_safe ids events v passes =
-    let h = passes_honest (new_world ids) events v (new_honest ids) passes in
+pub stays_safe : (ids : List ClientId) (occurrences : List Occurrence) (v : World) → StaysSafe ids occurrences v
+stays_safe ids occurrences v passes =
+    let h = passes_honest (new_world ids) occurrences v (new_honest ids) passes in
     record {
       acknowledged = λ s r z q n done out c. stands_as v.serving.history s n done out (contained (Backed (entries v.serving.history)) v.acks (Reply s r z q n done out) h.acks c);
       armed = λ s r z q c. contained (Backed (entries v.serving.history)) v.acks (Armed s r z q) h.acks c;
+      sent = λ k e at. item_sent v.ups (entries v.serving.history) k e h.sent at;
       writes = writes_stand v.serving.history h.sound.legal;
       ends = ends_stand v.serving.history h.sound.legal;
       cancels = cancels_undone v.serving.history h.sound.legal;
@@ -230,19 +254,20 @@ stays_safe ids events v passes =
 
 -- ---- runs
 
-passes_then : (u w v : World) (xs ys : List Event) → Passes u xs w → Passes w ys v → Passes u (xs ++ ys) v
+passes_then : (u w v : World) (xs ys : List Occurrence) → Passes u xs w → Passes w ys v → Passes u (xs ++ ys) v
 passes_then u w v [] ys h k = subst (λ x. Passes x ys v) h k
-passes_then u w v (e ∷ xs) ys h k = (h.0, h.1, passes_then h.0 w v xs ys h.2 k)
+passes_then u w v (o ∷ xs) ys h k = (h.0, h.1, passes_then h.0 w v xs ys h.2 k)
 
-reaches_passes : (w v : World) (events : List Event) → Reaches w events v → Passes w events v
+reaches_passes : (w v : World) (events : List Event) → Reaches w events v → Passes w (map happens events) v
 reaches_passes w v [] h = h
 reaches_passes w v (e ∷ later) h = (h.0, inl h.1, reaches_passes h.0 v later h.2)
 
 -- events that happen one after the other leave a world safe
-pub safe_behind : (ids : List ClientId) (before done : List Event) (w v : World) → Passes (new_world ids) before w → Reaches w done v → IsSafe v
-safe_behind ids before done w v h k = stays_safe ids (before ++ done) v (passes_then (new_world ids) w v before done h (reaches_passes w v done k))
+pub safe_behind : (ids : List ClientId) (before : List Occurrence) (done : List Event) (w v : World) → Passes (new_world ids) before w → Reaches w done v → IsSafe v
+safe_behind ids before done w v h k = stays_safe ids (before ++ map happens done) v (passes_then (new_world ids) w v before (map happens done) h (reaches_passes w v done k))
 
 -- and so does one more that is refused
-pub safe_refused : (ids : List ClientId) (before done : List Event) (w u v : World) (e : Event) (f : WorldFault) → Passes (new_world ids) before w → Reaches w done u → IsRefused u e v f → IsSafe v
+pub safe_refused : (ids : List ClientId) (before : List Occurrence) (done : List Event) (w u v : World) (e : Event) (f : WorldFault) → Passes (new_world ids) before w → Reaches w done u → IsRefused u e v f → IsSafe v
 safe_refused ids before done w u v e f h k r =
-    stays_safe ids (before ++ (done ++ e ∷ [])) v (passes_then (new_world ids) w v before (done ++ e ∷ []) h (passes_then w u v done (e ∷ []) (reaches_passes w u done k) (v, inr (f, r), refl)))
+    stays_safe ids (before ++ (map happens done ++ happens e ∷ [])) v
+    (passes_then (new_world ids) w v before (map happens done ++ happens e ∷ []) h (passes_then w u v (map happens done) (happens e ∷ []) (reaches_passes w u done k) (v, inr (f, r), refl)))

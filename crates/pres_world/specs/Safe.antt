@@ -1,8 +1,9 @@
 -- What holds of every world that is reached.
-use Rattle.std.specs.Prelude.{ℕ, ◌≡◌, ◌⊎◌, List, [], ◌∷◌}
+use Rattle.std.specs.Prelude.{ℕ, ◌≡◌, ◌⊎◌, List, [], ◌∷◌, Some, None}
+use Rattle.std.specs.FinMap.Entries.{put}
 use Rattle.std.specs.List.{Contains}
 use Rattle.pres_ids.specs.declared.id.SessionId.{SessionId}
-use Rattle.pres_ids.specs.Ids.{ClientId}
+use Rattle.pres_ids.specs.Ids.{ClientId, client_cmp}
 use Rattle.pres_tree.specs.Paths.{Path}
 use Rattle.pres_tree.specs.Rows.{Rows}
 use Rattle.pres_write.specs.declared.draft.Slot.{Slot}
@@ -10,22 +11,55 @@ use Rattle.pres_write.specs.declared.op.Op.{Op}
 use Rattle.pres_write.specs.declared.outcome.Outcome.{Outcome}
 use Rattle.pres_write.specs.declared.outcome.Kept.{Kept}
 use Rattle.pres_write.specs.Outcomes.{kept_of}
+use Rattle.pres_write.specs.declared.unconditional.Unconditional.{Unconditional}
+use Rattle.pres_write.specs.Unconditionals.{puts_of}
+use Rattle.pres_wire.specs.declared.up.Up.{Up}
+use Rattle.pres_wire.specs.declared.up.Up.TheVariants as up
+use Rattle.pres_wire.specs.Messages.{session_in, q_in}
 use Rattle.pres_wire.specs.declared.down.Down.TheVariants.{Armed, Reply}
+use Rattle.pres_log.specs.declared.entry.Entry.{Entry}
 use Rattle.pres_log.specs.declared.entry.Entry.TheVariants as entry
-use Rattle.pres_log.specs.Logs.{Log, Stands}
+use Rattle.pres_log.specs.Logs.{Log, Stands, item_at}
+use Rattle.pres_client.specs.Clients.{State as Client}
 use Rattle.pres_world.specs.declared.event.Event.{Event}
 use Rattle.pres_world.specs.declared.fault.WorldFault.{WorldFault}
 use Rattle.pres_world.specs.Orderly.{WritesStand, EndsStand, CancelsStand}
-use Rattle.pres_world.specs.Worlds.{World, IsStep, IsRefused, new_world}
+use Rattle.pres_world.specs.Worlds.{World, IsClient, IsStep, IsRefused, new_world}
 
--- the event happens, or is refused
-abbrev pub Happens : World → Event → World → Type 0
-Happens w e v = IsStep w e v ⊎ ((f : WorldFault) × IsRefused w e v f)
+-- what may happen to a world: an event, which may be refused, or what a client noted is handed out
+pub data Occurrence : Type 0 where
+  happens : Event → Occurrence
+  hands_out : ClientId → Occurrence
 
--- the events happen or are refused, one after the other
-abbrev pub Passes : World → List Event → World → Type 0
+-- what the client noted is handed out, where there is such a client
+abbrev pub HandsOut : World → ClientId → World → Type 0
+HandsOut w id v = (v ≡ w) ⊎ ((c : Client) × IsClient w id c × (v ≡ record w { clients = put client_cmp id (record c { notices = [] }) w.clients }))
+
+abbrev pub Occurs : World → Occurrence → World → Type 0
+Occurs w (happens e) v = IsStep w e v ⊎ ((f : WorldFault) × IsRefused w e v f)
+Occurs w (hands_out id) v = HandsOut w id v
+
+-- all of it, one after the other
+abbrev pub Passes : World → List Occurrence → World → Type 0
 Passes w [] v = v ≡ w
-Passes w (e ∷ later) v = (u : World) × Happens w e u × Passes u later v
+Passes w (o ∷ later) v = (u : World) × Occurs w o u × Passes u later v
+
+-- a client sent the message
+abbrev pub IsPacket : List Up → Up → Type 0
+IsPacket ups m = (packet : ℕ) × (item_at ups packet ≡ Some m)
+
+-- the entry was made of a message that a client sent, but for an end that no client asked for
+abbrev pub IsSent : List Up → Entry → Type 0
+IsSent ups (entry.Open s) = IsPacket ups (up.Hello s)
+IsSent ups (entry.Op s q n op outcome) = IsPacket ups (up.Op s q n op)
+IsSent ups (entry.Again s q n) = (op : Op) × IsPacket ups (up.Op s q n op)
+IsSent ups (entry.Left s q placements) = (op : Unconditional) × IsPacket ups (up.Left s q op) × (placements ≡ puts_of op)
+IsSent ups (entry.Cancelled s q p) = IsPacket ups (up.Cancel s q p)
+IsSent ups (entry.Denied s q why) = (m : Up) × IsPacket ups m × (session_in m ≡ s) × (q_in m ≡ Some q)
+IsSent ups (entry.On s q p) = IsPacket ups (up.On s q p)
+IsSent ups (entry.Off s q p) = IsPacket ups (up.Off s q p)
+IsSent ups (entry.Ended s None why rows) = Unit {0}
+IsSent ups (entry.Ended s (Some q) why rows) = IsPacket ups (up.Bye s q)
 
 -- write n of the client of s stands under this number, and came out so
 pub record StandsAs (log : Log) (s : SessionId) (n done : ℕ) (out : Kept) : Type 0 where
@@ -42,15 +76,16 @@ abbrev pub StandsArmed : Log → SessionId → ℕ → ℕ → Type 0
 StandsArmed log s z q = ((placements : List (Path × Rows Slot)) × Stands log z (entry.Left s q placements)) ⊎ ((p : Path) × Stands log z (entry.Cancelled s q p))
 
 -- each write whose reply a client took stands where the reply says, and came out as it says; so does each action for the
--- end of a session, and each cancel, that was acknowledged; each write stands once, in its client's order; and each session
+-- end of a session, and each cancel, that was acknowledged; all that stands there was sent; each write stands once, in its client's order; and each session
 -- ends once, by all that is due and nothing that was cancelled, before any entry of a later session of its client
 pub record IsSafe (w : World) : Type 0 where
   pub acknowledged : (s : SessionId) (r z q n done : ℕ) (out : Kept) → Contains w.acks (Reply s r z q n done out) → StandsAs w.serving.history s n done out
   pub armed : (s : SessionId) (r z q : ℕ) → Contains w.acks (Armed s r z q) → StandsArmed w.serving.history s z q
+  pub sent : (k : ℕ) (e : Entry) → Stands w.serving.history k e → IsSent w.ups e
   pub writes : WritesStand w.serving.history
   pub ends : EndsStand w.serving.history
   pub cancels : CancelsStand w.serving.history
 
--- every world that is reached from a new one is safe
-abbrev pub StaysSafe : List ClientId → List Event → World → Type 0
-StaysSafe ids events v = Passes (new_world ids) events v → IsSafe v
+-- whatever happened to a new world, it is safe
+abbrev pub StaysSafe : List ClientId → List Occurrence → World → Type 0
+StaysSafe ids occurrences v = Passes (new_world ids) occurrences v → IsSafe v

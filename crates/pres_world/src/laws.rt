@@ -5,9 +5,8 @@ ghost use Rattle.pres_ids.specs.Ids.{ClientId};
 ghost use Rattle.pres_log.specs.Logs.{Log};
 ghost use Rattle.pres_server.specs.LegalLog.{IsLegal};
 ghost use Rattle.pres_world.specs.Orderly.{CancelsStand, EndsStand, WritesStand};
-ghost use Rattle.pres_world.specs.Safe.{StaysSafe};
+ghost use Rattle.pres_world.specs.Safe.{Occurrence, StaysSafe};
 ghost use Rattle.pres_world.specs.Worlds.{World};
-ghost use Rattle.pres_world.specs.declared.event.Event.{Event};
 
 /// In a legal log each write of a client stands once, in the order of the writes' numbers; each
 /// session ends once, with all that is due, before any entry of a later session of its client; and
@@ -22,5 +21,6 @@ pub fn legal_logs_are_orderly()
 /// history, once, where the reply says, and came out as it says; each action for a session's end that
 /// was acknowledged stands there; and what was cancelled is in no plan that an end pays.
 pub fn worlds_stay_safe()
-    ensures { (ids : List ClientId) (events : List Event) (v : World) → StaysSafe ids events v }
+    ensures { (ids : List ClientId) (occurrences : List Occurrence) (v : World)
+        → StaysSafe ids occurrences v }
 {}

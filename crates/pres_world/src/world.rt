@@ -7,9 +7,8 @@ ghost use Rattle.pres_client.specs.Clients.{State};
 ghost use Rattle.pres_log.specs.Logs.{item_at};
 ghost use Rattle.pres_server.specs.LegalLog.{IsLegal};
 ghost use Rattle.pres_world.specs.Orderly.{CancelsStand, EndsStand, WritesStand};
-ghost use Rattle.pres_world.specs.Safe.{IsSafe, Passes};
+ghost use Rattle.pres_world.specs.Safe.{IsSafe, Occurrence, Passes};
 ghost use Rattle.pres_world.specs.Served.{Serves};
-ghost use Rattle.pres_world.specs.declared.event.Event.{Event};
 ghost use Rattle.pres_world.specs.Worlds.{IsCall, IsArrival, IsDelivery, IsLoss, IsStart, IsRestart, IsStep, IsStop, IsRefused, IsCutShort, Lacks, Reaches, new_world};
 ghost use Rattle.pres_world.specs.declared.event.Ending.TheVariants as ending;
 ghost use Rattle.pres_world.specs.declared.event.Event.TheVariants as event;
@@ -200,7 +199,7 @@ impl World {
     pub fn run(&mut self, events: Vec<Event>) -> Result<(), WorldFault>
         ensures ok { OnOk result (Reaches self.old events.items self.new) }
         ensures err { IfErr result (IsCutShort self.old events.items self.new) }
-        ensures safe { (ids : List ClientId) (before : List Event)
+        ensures safe { (ids : List ClientId) (before : List Occurrence)
             → Passes (new_world ids) before self.old → IsSafe self.new }
     {
         for event in events {
