@@ -75,9 +75,10 @@ pub record StandsAs (log : Log) (s : SessionId) (n done : ℕ) (out : Kept) : Ty
 abbrev pub StandsArmed : Log → SessionId → ℕ → ℕ → Type 0
 StandsArmed log s z q = ((placements : List (Path × Rows Slot)) × Stands log z (entry.Left s q placements)) ⊎ ((p : Path) × Stands log z (entry.Cancelled s q p))
 
--- each write whose reply a client took stands where the reply says, and came out as it says; so does each action for the
--- end of a session, and each cancel, that was acknowledged; all that stands there was sent; each write stands once, in its client's order; and each session
--- ends once, by all that is due and nothing that was cancelled, before any entry of a later session of its client
+-- Each write whose reply a client took stands where the reply says, and came out as it says. So does each action for a
+-- session's end, and each cancel, that was acknowledged. All that stands there was sent. Each write stands once, in its
+-- client's order. And each session ends once, by all that is due and nothing that was cancelled, before any entry of a
+-- later session of its client.
 pub record IsSafe (w : World) : Type 0 where
   pub acknowledged : (s : SessionId) (r z q n done : ℕ) (out : Kept) → Contains w.acks (Reply s r z q n done out) → StandsAs w.serving.history s n done out
   pub armed : (s : SessionId) (r z q : ℕ) → Contains w.acks (Armed s r z q) → StandsArmed w.serving.history s z q
