@@ -4,9 +4,12 @@ pub mod Ended
 pub mod EndsFirst
 pub mod Found
 pub mod Legal
+pub mod Lists
 pub mod Lost
+pub mod Numbered
 pub mod Orderly
 pub mod Reached
 pub mod Safety
 pub mod Sent
 pub mod Stands
+pub mod Stays

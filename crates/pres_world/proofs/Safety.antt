@@ -10,8 +10,9 @@ use Rattle.pres_wire.specs.declared.down.Code.{Code}
 use Rattle.pres_wire.specs.declared.down.Code.TheVariants as code
 use Rattle.pres_wire.specs.declared.down.Down.TheVariants.{Armed, Reply}
 use Rattle.pres_log.specs.declared.entry.Entry.{Entry}
+use Rattle.pres_log.specs.declared.entry.Entry.TheVariants as entry
 use Rattle.pres_log.specs.Faults.{code_of}
-use Rattle.pres_log.specs.Logs.{Log, entries, item_at}
+use Rattle.pres_log.specs.Logs.{Stands, Log, entries, item_at}
 use Rattle.pres_log.proofs.Entries.{entries-push}
 use Rattle.pres_server.specs.declared.input.Input.{Input}
 use Rattle.pres_server.specs.declared.input.Input.TheVariants as input
@@ -31,10 +32,11 @@ use Rattle.pres_world.specs.declared.event.Event.TheVariants as event
 use Rattle.pres_world.specs.declared.fault.WorldFault.{WorldFault}
 use Rattle.pres_world.specs.declared.fault.WorldFault.TheVariants as fault
 use Rattle.pres_world.specs.Members.{acknowledged, is_fault}
-use Rattle.pres_world.specs.Safe.{Occurrence, happens, hands_out, Occurs, Passes, IsSent, StandsAs, StaysSafe, IsSafe}
+use Rattle.pres_world.specs.Safe.{Occurrence, happens, hands_out, Occurs, Passes, IsSent, StandsAs, StandsArmed, StaysSafe, IsSafe}
 use Rattle.pres_world.specs.Served.{Served, fault_for, turned, served, served_by, lost, EndsAll, IsRestarted}
 use Rattle.pres_world.specs.Worlds.{World, IsStep, IsStop, IsRefused, Reaches, becomes, new_world}
-use Rattle.pres_world.proofs.Backed.{IsWrite, Backed, backed_front, all_front, all_into, all_at, answers_backed, sure, contained}
+use Rattle.pres_world.proofs.Numbered.{packets_numbered}
+use Rattle.pres_world.proofs.Backed.{IsWrite, IsArmed, Backed, backed_front, all_front, all_into, all_at, answers_backed, sure, contained}
 use Rattle.pres_world.proofs.Sent.{ComesFrom, made_sent, sent_front}
 use Rattle.pres_world.proofs.Orderly.{writes_stand, ends_stand, cancels_undone}
 
@@ -237,16 +239,32 @@ passes_honest w (o ∷ later) v h is = passes_honest is.0 later v (occurs_honest
 new_honest : (ids : List ClientId) → Honest (new_world ids)
 new_honest ids = record { sound = record { legal = tt; its_log = λ t x. its _ t x; downs = tt }; acks = tt; sent = tt }
 
-stands_as : (log : Log) (s : SessionId) (n done : ℕ) (out : Kept) → IsWrite (entries log) s n done out → StandsAs log s n done out
-stands_as log s n done out h = record { session = h.session; q = h.q; op = h.op; outcome = h.outcome; stands = h.stands; client = h.client; kept = h.kept }
+stands_as : (w : World) (s : SessionId) (n done : ℕ) (out : Kept) → Honest w → IsWrite (entries w.serving.history) s n done out → StandsAs w s n done out
+stands_as w s n done out honest h = record {
+  session = h.session;
+  q = h.q;
+  op = h.op;
+  outcome = h.outcome;
+  stands = h.stands;
+  sent = item_sent w.ups (entries w.serving.history) done (entry.Op h.session h.q n h.op h.outcome) honest.sent h.stands;
+  client = h.client;
+  kept = h.kept;
+}
+
+stands_armed : (w : World) (s : SessionId) (z q : ℕ) → Honest w → IsArmed (entries w.serving.history) s z q → StandsArmed w s z q
+stands_armed w s z q honest (inl h) =
+    let sent = item_sent w.ups (entries w.serving.history) z (entry.Left s q h.0) honest.sent h.1 in
+    inl (sent.0, sent.1, subst (λ x. Stands w.serving.history z (entry.Left s q x)) sent.2 h.1)
+stands_armed w s z q honest (inr h) = inr (h.0, item_sent w.ups (entries w.serving.history) z (entry.Cancelled s q h.0) honest.sent h.1, h.1)
 
 pub stays_safe : (ids : List ClientId) (occurrences : List Occurrence) (v : World) → StaysSafe ids occurrences v
 stays_safe ids occurrences v passes =
     let h = passes_honest (new_world ids) occurrences v (new_honest ids) passes in
     record {
-      acknowledged = λ s r z q n done out c. stands_as v.serving.history s n done out (contained (Backed (entries v.serving.history)) v.acks (Reply s r z q n done out) h.acks c);
-      armed = λ s r z q c. contained (Backed (entries v.serving.history)) v.acks (Armed s r z q) h.acks c;
+      acknowledged = λ s r z q n done out c. stands_as v s n done out h (contained (Backed (entries v.serving.history)) v.acks (Reply s r z q n done out) h.acks c);
+      armed = λ s r z q c. stands_armed v s z q h (contained (Backed (entries v.serving.history)) v.acks (Armed s r z q) h.acks c);
       sent = λ k e at. item_sent v.ups (entries v.serving.history) k e h.sent at;
+      numbered = packets_numbered ids occurrences v passes;
       writes = writes_stand v.serving.history h.sound.legal;
       ends = ends_stand v.serving.history h.sound.legal;
       cancels = cancels_undone v.serving.history h.sound.legal;

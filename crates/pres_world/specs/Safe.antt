@@ -5,8 +5,6 @@ use Rattle.std.specs.List.{Contains}
 use Rattle.pres_ids.specs.declared.id.SessionId.{SessionId}
 use Rattle.pres_ids.specs.Ids.{ClientId, client_cmp}
 use Rattle.pres_tree.specs.Paths.{Path}
-use Rattle.pres_tree.specs.Rows.{Rows}
-use Rattle.pres_write.specs.declared.draft.Slot.{Slot}
 use Rattle.pres_write.specs.declared.op.Op.{Op}
 use Rattle.pres_write.specs.declared.outcome.Outcome.{Outcome}
 use Rattle.pres_write.specs.declared.outcome.Kept.{Kept}
@@ -19,7 +17,7 @@ use Rattle.pres_wire.specs.Messages.{session_in, q_in}
 use Rattle.pres_wire.specs.declared.down.Down.TheVariants.{Armed, Reply}
 use Rattle.pres_log.specs.declared.entry.Entry.{Entry}
 use Rattle.pres_log.specs.declared.entry.Entry.TheVariants as entry
-use Rattle.pres_log.specs.Logs.{Log, Stands, item_at}
+use Rattle.pres_log.specs.Logs.{Stands, item_at}
 use Rattle.pres_client.specs.Clients.{State as Client}
 use Rattle.pres_world.specs.declared.event.Event.{Event}
 use Rattle.pres_world.specs.declared.fault.WorldFault.{WorldFault}
@@ -61,28 +59,36 @@ IsSent ups (entry.Off s q p) = IsPacket ups (up.Off s q p)
 IsSent ups (entry.Ended s None why rows) = Unit {0}
 IsSent ups (entry.Ended s (Some q) why rows) = IsPacket ups (up.Bye s q)
 
--- write n of the client of s stands under this number, and came out so
-pub record StandsAs (log : Log) (s : SessionId) (n done : ℕ) (out : Kept) : Type 0 where
+-- write n of the client of s stands under this number as it was sent, and came out so
+pub record StandsAs (w : World) (s : SessionId) (n done : ℕ) (out : Kept) : Type 0 where
   pub session : SessionId
   pub q : ℕ
   pub op : Op
   pub outcome : Outcome
-  pub stands : Stands log done (entry.Op session q n op outcome)
+  pub stands : Stands w.serving.history done (entry.Op session q n op outcome)
+  pub sent : IsPacket w.ups (up.Op session q n op)
   pub client : session.client ≡ s.client
   pub kept : kept_of outcome ≡ out
 
--- message q of the session stands under the number, and left something for its end or took it back
-abbrev pub StandsArmed : Log → SessionId → ℕ → ℕ → Type 0
-StandsArmed log s z q = ((placements : List (Path × Rows Slot)) × Stands log z (entry.Left s q placements)) ⊎ ((p : Path) × Stands log z (entry.Cancelled s q p))
+-- what was sent as message q of the session, for its end or to take such back, stands under the number
+abbrev pub StandsArmed : World → SessionId → ℕ → ℕ → Type 0
+StandsArmed w s z q =
+    ((op : Unconditional) × IsPacket w.ups (up.Left s q op) × Stands w.serving.history z (entry.Left s q (puts_of op)))
+    ⊎ ((p : Path) × IsPacket w.ups (up.Cancel s q p) × Stands w.serving.history z (entry.Cancelled s q p))
 
--- Each write whose reply a client took stands where the reply says, and came out as it says. So does each action for a
--- session's end, and each cancel, that was acknowledged. All that stands there was sent. Each write stands once, in its
--- client's order. And each session ends once, by all that is due and nothing that was cancelled, before any entry of a
--- later session of its client.
+-- two packets of one session with one number are one message
+abbrev pub IsNumbered : List Up → Type 0
+IsNumbered ups = (m k : Up) (q : ℕ) → IsPacket ups m → IsPacket ups k → session_in m ≡ session_in k → q_in m ≡ Some q → q_in k ≡ Some q → m ≡ k
+
+-- Each write whose reply a client took stands where the reply says, as it was sent, and came out as the reply says. So
+-- does each action for a session's end, and each cancel, that was acknowledged. All that stands there was sent, and a
+-- session's packets with one number are one message. Each write stands once, in its client's order. And each session
+-- ends once, by all that is due and nothing that was cancelled, before any entry of a later session of its client.
 pub record IsSafe (w : World) : Type 0 where
-  pub acknowledged : (s : SessionId) (r z q n done : ℕ) (out : Kept) → Contains w.acks (Reply s r z q n done out) → StandsAs w.serving.history s n done out
-  pub armed : (s : SessionId) (r z q : ℕ) → Contains w.acks (Armed s r z q) → StandsArmed w.serving.history s z q
+  pub acknowledged : (s : SessionId) (r z q n done : ℕ) (out : Kept) → Contains w.acks (Reply s r z q n done out) → StandsAs w s n done out
+  pub armed : (s : SessionId) (r z q : ℕ) → Contains w.acks (Armed s r z q) → StandsArmed w s z q
   pub sent : (k : ℕ) (e : Entry) → Stands w.serving.history k e → IsSent w.ups e
+  pub numbered : IsNumbered w.ups
   pub writes : WritesStand w.serving.history
   pub ends : EndsStand w.serving.history
   pub cancels : CancelsStand w.serving.history

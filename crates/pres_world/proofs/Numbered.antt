@@ -1,0 +1,496 @@
+-- What a client sends with one number of one session is one message.
+use Rattle.std.proofs.Common.{if◌then◌else◌, refl, sym, ◌∙◌, ap, subst, ◌≡◌, ◌+◌, ◌<◌, ◌≤◌, ℕ, zero, suc, Bool, true, false, cond, List, [], ◌∷◌, ◌++◌, slice_get, ◌⊎◌, inl, inr, Some, None, true≢false, arith, unwrap_or, nat_lt, is_eq, Ordering, Less, Equal, Greater}
+use Rattle.std.specs.Prelude.{fold}
+use Rattle.std.specs.Option.{is_none}
+use Rattle.std.specs.List.{All, Contains}
+use Rattle.std.specs.Ordering.{eq_by_cmp}
+use Rattle.std.specs.Cmp.{tied_itself}
+use Rattle.std.specs.FinMap.Entries.{find, put, find-put}
+use Rattle.std.proofs.lemmas.List.Elements.{All-contains, Contains-append_cases}
+use Rattle.pres_ids.specs.declared.id.SessionId.{SessionId}
+use Rattle.pres_ids.specs.Ids.{ClientId, client_cmp}
+use Rattle.pres_ids.specs.Numbers.{greatest_number}
+use Rattle.pres_wire.specs.declared.up.Up.{Up}
+use Rattle.pres_wire.specs.Messages.{session_in, q_in}
+use Rattle.pres_client.specs.declared.client.Phase.{Phase}
+use Rattle.pres_client.specs.declared.client.Phase.TheVariants as phase
+use Rattle.pres_client.specs.Clients.{State as Client, start, is_online, is_opening}
+use Rattle.pres_client.specs.Calls.{after_call}
+use Rattle.pres_client.specs.Steps.{Step, calls, receives, hands_out_sends, hands_out_notices, after, run}
+use Rattle.pres_client.specs.Sends.{Made, none_made, made, made_step, kept_while, MayGoOut}
+use Rattle.pres_client.proofs.SentOut.{steps_send}
+use Rattle.pres_server.proofs.AfterEntry.{clients_total, clients_apart}
+use Rattle.pres_world.specs.declared.event.Event.{Event}
+use Rattle.pres_world.specs.declared.event.Event.TheVariants as event
+use Rattle.pres_world.specs.declared.fault.WorldFault.{WorldFault}
+use Rattle.pres_world.specs.declared.fault.WorldFault.TheVariants as fault
+use Rattle.pres_world.specs.Members.{handed_out, started_again}
+use Rattle.pres_world.specs.Worlds.{World, Clients, joined, new_world, becomes, IsClient, IsStep, IsStop, IsRefused}
+use Rattle.pres_world.specs.Safe.{Occurrence, happens, hands_out, Occurs, Passes, IsPacket, IsNumbered}
+use Rattle.pres_world.proofs.Stands.{none_or_some}
+use Rattle.pres_world.proofs.Stays.{Begins, Moves, call_stays, receive_stays}
+use Rattle.pres_world.proofs.Lists.{InList, Grown, step_grown, grown_in, grown_front, opening_in, run_then, made_then, kept_if, opened_if, listed_of, listed_once}
+
+-- the session was asked for by the client, as its last one or before
+abbrev Within : Client → SessionId → Type 0
+Within c s = (s.incarnation < c.session.incarnation) ⊎ ((s.incarnation ≡ c.session.incarnation) × (s.attempt ≤ c.attempts))
+
+abbrev Has : Up → ℕ → SessionId → Type 0
+Has m q s = (q_in m ≡ Some q) × (session_in m ≡ s)
+
+-- no message of the session that is being opened has a number
+abbrev Opens : List Up → Client → SessionId → Type 0
+Opens ups c s = ((m : Up) (q : ℕ) → Contains ups m → Has m q c.session → ⊥) × ((s ≡ c.session → ⊥) × (c.session.attempt ≤ c.attempts))
+
+abbrev list_of : ClientId → ℕ → List Step → List Up
+list_of id incarnation steps = (made (start id incarnation) none_made steps).messages
+
+-- the client is an incarnation after steps, and its last list has all that was sent of its session with a number
+record Known (ups : List Up) (id : ClientId) (c : Client) : Type 0 where
+  pub incarnation : ℕ
+  pub steps : List Step
+  pub ran : run (start id incarnation) steps ≡ c
+  pub none : c.sends ≡ []
+  pub its : c.session.client ≡ id
+  pub session : SessionId
+  pub owner : session.client ≡ id
+  pub listed : InList session (list_of id incarnation steps)
+  pub within : Within c session
+  pub complete : (m : Up) (q : ℕ) → Contains ups m → Has m q session → Contains (list_of id incarnation steps) m
+  pub online : is_online c.phase ≡ true → session ≡ c.session
+  pub opening : is_opening c.phase ≡ true → Opens ups c session
+  pub known : (m : Up) (q : ℕ) → Contains ups m → q_in m ≡ Some q → (session_in m).client ≡ id → Within c (session_in m)
+
+-- the client d, and what it sent
+record Next (ups : List Up) (id : ClientId) (d : Client) : Type 0 where
+  pub later : Known (ups ++ d.sends) id (handed_out d)
+  pub new : (m : Up) (q : ℕ) → Contains d.sends m → q_in m ≡ Some q → session_in m ≡ later.session
+
+both_phases : (p : Phase) → is_online p ≡ true → is_opening p ≡ true → ⊥
+both_phases phase.Online e f = true≢false (sym f)
+both_phases phase.Opening e f = true≢false (sym e)
+both_phases phase.Off e f = true≢false (sym e)
+
+widen : (c d : Client) (s : SessionId) → Moves c d → Within c s → Within d s
+widen c d s (inl m) (inl w) = let e = ap (λ (x : SessionId). x.incarnation) m.session in inl (omega (arith, e, w))
+widen c d s (inl m) (inr w) = let e = ap (λ (x : SessionId). x.incarnation) m.session in let a = m.attempts in let x = w.1 in inr (w.0 ∙ sym e, omega (arith, a, x))
+widen c d s (inr m) (inl w) = let e = ap (λ (x : SessionId). x.incarnation) m.session in inl (omega (arith, e, w))
+widen c d s (inr m) (inr w) = let e = ap (λ (x : SessionId). x.incarnation) m.session in let a = m.attempts in let x = w.1 in inr (w.0 ∙ sym e, omega (arith, a, x))
+
+-- a session that was asked for before isn't the one that is being opened
+too_new : (c d : Client) (s : SessionId) → Begins c d → Within c s → s ≡ d.session → ⊥
+too_new c d s b (inl w) e = let i = ap (λ (x : SessionId). x.incarnation) (e ∙ b.session) in omega (arith, i, w)
+too_new c d s b (inr w) e = let a = ap (λ (x : SessionId). x.attempt) (e ∙ b.session) in let x = w.1 in omega (arith, a, x)
+
+up_is : (x y : Up) → Some x ≡ Some y → x ≡ y
+up_is x y e = ap (λ o. unwrap_or o x) e
+
+step_known : (ups : List Up) (id : ClientId) (c : Client) (s : Step) → Known ups id c → Moves c (after c s) → Next ups id (after c s)
+step_known ups id c s k moves = by (is_online d.phase) refl (is_online c.phase) refl where
+  d : Client
+  d = after c s
+
+  c0 : Client
+  c0 = start id k.incarnation
+
+  t : Made
+  t = made c0 none_made k.steps
+
+  u : Made
+  u = made_step c t s
+
+  v : Made
+  v = kept_while c d u
+
+  more : List Step
+  more = s ∷ hands_out_sends ∷ []
+
+  ms : List Up
+  ms = list_of id k.incarnation (k.steps ++ more)
+
+  grown : Grown c t u
+  grown = step_grown c t s
+
+  ran : run c0 (k.steps ++ more) ≡ handed_out d
+  ran = run_then c0 k.steps more ∙ ap (λ x. run x more) k.ran
+
+  kept : kept_while d (handed_out d) v ≡ v
+  kept = kept_if d (handed_out d) v (is_online d.phase) refl (λ e. e)
+
+  is_list : ms ≡ v.messages
+  is_list = ap (λ (x : Made). x.messages) (made_then c0 none_made k.steps more ∙ ap (λ x. made x t more) k.ran ∙ kept)
+
+  is_sent : list_of id k.incarnation (k.steps ++ s ∷ []) ≡ v.messages
+  is_sent = ap (λ (x : Made). x.messages) (made_then c0 none_made k.steps (s ∷ []) ∙ ap (λ x. made x t (s ∷ [])) k.ran)
+
+  sent : All (MayGoOut d (list_of id k.incarnation (k.steps ++ s ∷ []))) d.sends
+  sent = subst (λ (x : Client). (new : List Up) → (after x s).sends ≡ x.sends ++ new → All (MayGoOut (after x s) (list_of id k.incarnation (k.steps ++ s ∷ []))) new) k.ran
+      (steps_send id k.incarnation k.steps s) d.sends (sym (ap (λ l. l ++ d.sends) k.none))
+
+  unnumbered : (m : Up) (q : ℕ) → None ≡ Some q → ⊥
+  unnumbered m q e = grind arith
+
+  listed_by : (m : Up) (q : ℕ) → q_in m ≡ Some q → MayGoOut d (list_of id k.incarnation (k.steps ++ s ∷ [])) m → Contains ms m
+  listed_by m q has (inl hello) = absurd (unnumbered m q (sym (ap q_in hello) ∙ has))
+  listed_by m q has (inr (inl beat)) = absurd (unnumbered m q (sym (ap q_in beat) ∙ has))
+  listed_by m q has (inr (inr there)) = subst (λ l. Contains l m) (is_sent ∙ sym is_list) there
+
+  new_listed : (m : Up) (q : ℕ) → Contains d.sends m → q_in m ≡ Some q → Contains ms m
+  new_listed m q there has = listed_by m q has (All-contains (MayGoOut d (list_of id k.incarnation (k.steps ++ s ∷ []))) d.sends m sent there)
+
+  client : d.session.client ≡ id
+  client = by_move moves where
+    by_move : Moves c d → d.session.client ≡ id
+    by_move (inl x) = ap (λ (y : SessionId). y.client) x.session ∙ k.its
+    by_move (inr x) = ap (λ (y : SessionId). y.client) x.session ∙ k.its
+
+  -- all that is known of the new list, which is of the session
+  known_by : (session : SessionId) → InList session ms → Within d session → (m : Up) (q : ℕ) → Contains (ups ++ d.sends) m → q_in m ≡ Some q → (session_in m).client ≡ id → Within d (session_in m)
+  known_by session listed within m q there has its = by_place (Contains-append_cases ups d.sends m there) where
+    by_place : Contains ups m ⊎ Contains d.sends m → Within d (session_in m)
+    by_place (inl old) = widen c d (session_in m) moves (k.known m q old has its)
+    by_place (inr new) = subst (Within d) (sym (listed_of session ms m listed (new_listed m q new has))) within
+
+  -- ---- the list goes on
+
+  goes_on : (is_online d.phase ≡ true → is_online c.phase ≡ true) → Next ups id d
+  goes_on h = record {
+    later = record {
+      incarnation = k.incarnation;
+      steps = k.steps ++ more;
+      ran = ran;
+      none = refl;
+      its = client;
+      session = k.session;
+      owner = k.owner;
+      listed = listed;
+      within = widen c d k.session moves k.within;
+      complete = complete;
+      online = online;
+      opening = opens;
+      known = known_by k.session listed (widen c d k.session moves k.within);
+    };
+    new = λ m q there has. listed_of k.session ms m listed (new_listed m q there has);
+  } where
+    same : ms ≡ u.messages
+    same = is_list ∙ ap (λ (x : Made). x.messages) (kept_if c d u (is_online d.phase) refl h)
+
+    listed : InList k.session ms
+    listed = subst (InList k.session) (sym same) (grown_in c t u k.session k.online grown k.listed)
+
+    complete : (m : Up) (q : ℕ) → Contains (ups ++ d.sends) m → Has m q k.session → Contains ms m
+    complete m q there has = by_place (Contains-append_cases ups d.sends m there) where
+      by_place : Contains ups m ⊎ Contains d.sends m → Contains ms m
+      by_place (inl old) = subst (λ l. Contains l m) (sym same) (grown_front c t u grown m (k.complete m q old has))
+      by_place (inr new) = new_listed m q new has.0
+
+    online : is_online d.phase ≡ true → k.session ≡ d.session
+    online e = by_move moves where
+      by_move : Moves c d → k.session ≡ d.session
+      by_move (inl x) = k.online (h e) ∙ sym x.session
+      by_move (inr x) = absurd (true≢false (sym e ∙ x.now))
+
+    opens : is_opening d.phase ≡ true → Opens (ups ++ d.sends) (handed_out d) k.session
+    opens e = by_move moves where
+      by_move : Moves c d → Opens (ups ++ d.sends) (handed_out d) k.session
+      by_move (inl x) = (none, (apart, early)) where
+        was : Opens ups c k.session
+        was = k.opening (x.opening e)
+
+        apart : k.session ≡ d.session → ⊥
+        apart f = was.1.0 (f ∙ x.session)
+
+        none : (m : Up) (q : ℕ) → Contains (ups ++ d.sends) m → Has m q d.session → ⊥
+        none m q there has = by_place (Contains-append_cases ups d.sends m there) where
+          by_place : Contains ups m ⊎ Contains d.sends m → ⊥
+          by_place (inl old) = was.0 m q old (has.0, has.1 ∙ x.session)
+          by_place (inr new) = apart (sym (listed_of k.session ms m listed (new_listed m q new has.0)) ∙ has.1)
+
+        early : d.session.attempt ≤ d.attempts
+        early = let a = ap (λ (y : SessionId). y.attempt) x.session in let b = x.attempts in let l = was.1.1 in omega (arith, a, b, l)
+      by_move (inr x) = (none, (apart, early)) where
+        apart : k.session ≡ d.session → ⊥
+        apart f = too_new c d k.session x k.within f
+
+        none : (m : Up) (q : ℕ) → Contains (ups ++ d.sends) m → Has m q d.session → ⊥
+        none m q there has = by_place (Contains-append_cases ups d.sends m there) where
+          by_place : Contains ups m ⊎ Contains d.sends m → ⊥
+          by_place (inl old) = too_new c d (session_in m) x (k.known m q old has.0 (ap (λ (y : SessionId). y.client) has.1 ∙ client)) has.1
+          by_place (inr new) = apart (sym (listed_of k.session ms m listed (new_listed m q new has.0)) ∙ has.1)
+
+        early : d.session.attempt ≤ d.attempts
+        early = let a = ap (λ (y : SessionId). y.attempt) x.session in let b = x.attempts in omega (arith, a, b)
+
+  -- ---- a session is opened
+
+  is_opened : is_online d.phase ≡ true → is_online c.phase ≡ false → Next ups id d
+  is_opened on off = by_move moves where
+    by_move : Moves c d → Next ups id d
+    by_move (inr x) = absurd (true≢false (sym on ∙ x.now))
+    by_move (inl x) = record {
+      later = record {
+        incarnation = k.incarnation;
+        steps = k.steps ++ more;
+        ran = ran;
+        none = refl;
+        its = client;
+        session = d.session;
+        owner = client;
+        listed = listed;
+        within = within;
+        complete = complete;
+        online = λ _. refl;
+        opening = λ e. absurd (both_phases d.phase on e);
+        known = known_by d.session listed within;
+      };
+      new = λ m q there has. listed_of d.session ms m listed (new_listed m q there has);
+    } where
+      was_opening : is_opening c.phase ≡ true
+      was_opening = by_case (x.online on) where
+        by_case : (is_online c.phase ≡ true) ⊎ (is_opening c.phase ≡ true) → is_opening c.phase ≡ true
+        by_case (inl e) = absurd (true≢false (sym e ∙ off))
+        by_case (inr e) = e
+
+      was : Opens ups c k.session
+      was = k.opening was_opening
+
+      listed : InList d.session ms
+      listed = subst (InList d.session) (sym (is_list ∙ ap (λ (y : Made). y.messages) (opened_if c d u on off))) (opening_in d u)
+
+      within : Within d d.session
+      within = inr (refl, early) where
+        early : d.session.attempt ≤ d.attempts
+        early = let a = ap (λ (y : SessionId). y.attempt) x.session in let b = x.attempts in let l = was.1.1 in omega (arith, a, b, l)
+
+      complete : (m : Up) (q : ℕ) → Contains (ups ++ d.sends) m → Has m q d.session → Contains ms m
+      complete m q there has = by_place (Contains-append_cases ups d.sends m there) where
+        by_place : Contains ups m ⊎ Contains d.sends m → Contains ms m
+        by_place (inl old) = absurd (was.0 m q old (has.0, has.1 ∙ x.session))
+        by_place (inr new) = new_listed m q new has.0
+
+  by : (a : Bool) → is_online d.phase ≡ a → (b : Bool) → is_online c.phase ≡ b → Next ups id d
+  by true e true f = goes_on (λ _. f)
+  by true e false f = is_opened e f
+  by false e b f = goes_on (λ g. absurd (true≢false (sym g ∙ e)))
+
+-- ---- a client that starts again, or hands its notices out
+
+fresh : (ups : List Up) (id : ClientId) (c : Client) → Known ups id c → Known ups id (start id (c.session.incarnation + 1))
+fresh ups id c k = record {
+  incarnation = n;
+  steps = [];
+  ran = refl;
+  none = refl;
+  its = refl;
+  session = before;
+  owner = refl;
+  listed = λ i m get. absurd (none_or_some m get);
+  within = inr (refl, omega arith);
+  complete = λ m q there has. absurd (apart m (k.known m q there has.0 (ap (λ (s : SessionId). s.client) has.1)) (ap (λ (s : SessionId). s.incarnation) has.1));
+  online = λ e. absurd (true≢false (sym e));
+  opening = λ e. absurd (true≢false (sym e));
+  known = λ m q there has its. rises (session_in m) (k.known m q there has its);
+} where
+  n : ℕ
+  n = c.session.incarnation + 1
+
+  before : SessionId
+  before = record { client = id; incarnation = n; attempt = 0 }
+
+  apart : (m : Up) → Within c (session_in m) → (session_in m).incarnation ≡ c.session.incarnation + 1 → ⊥
+  apart m (inl w) e = omega (arith, w, e)
+  apart m (inr w) e = let x = w.0 in omega (arith, x, e)
+
+  rises : (s : SessionId) → Within c s → Within (start id n) s
+  rises s (inl w) = inl (omega (arith, w))
+  rises s (inr w) = let x = w.0 in inl (omega (arith, x))
+
+again : (ups : List Up) (id : ClientId) (c : Client) → Known ups id c → Known ups id (started_again id c)
+again ups id c k = by (nat_lt c.session.incarnation greatest_number) where
+  by : (b : Bool) → Known ups id (if b then start id (c.session.incarnation + 1) else c)
+  by true = fresh ups id c k
+  by false = k
+
+quieted : (ups : List Up) (id : ClientId) (c : Client) → Known ups id c → Known ups id (record c { notices = [] })
+quieted ups id c k = record {
+  incarnation = k.incarnation;
+  steps = k.steps ++ hands_out_notices ∷ [];
+  ran = run_then (start id k.incarnation) k.steps (hands_out_notices ∷ []) ∙ ap (λ x. run x (hands_out_notices ∷ [])) k.ran;
+  none = k.none;
+  its = k.its;
+  session = k.session;
+  owner = k.owner;
+  listed = subst (InList k.session) (sym same) k.listed;
+  within = k.within;
+  complete = λ m q there has. subst (λ l. Contains l m) (sym same) (k.complete m q there has);
+  online = k.online;
+  opening = k.opening;
+  known = k.known;
+} where
+  t : Made
+  t = made (start id k.incarnation) none_made k.steps
+
+  same : list_of id k.incarnation (k.steps ++ hands_out_notices ∷ []) ≡ t.messages
+  same = ap (λ (x : Made). x.messages) (made_then (start id k.incarnation) none_made k.steps (hands_out_notices ∷ []) ∙ ap (λ x. made x t (hands_out_notices ∷ [])) k.ran ∙ kept_if c (record c { notices = [] }) t (is_online c.phase) refl (λ e. e))
+
+-- what another client sent
+others : (ups new : List Up) (id other : ClientId) (c : Client) → ((m : Up) (q : ℕ) → Contains new m → q_in m ≡ Some q → (session_in m).client ≡ id) → (other ≡ id → ⊥) → Known ups other c → Known (ups ++ new) other c
+others ups new id other c from apart k = record {
+  incarnation = k.incarnation;
+  steps = k.steps;
+  ran = k.ran;
+  none = k.none;
+  its = k.its;
+  session = k.session;
+  owner = k.owner;
+  listed = k.listed;
+  within = k.within;
+  complete = λ m q there has. k.complete m q (old m q there has.0 (ap (λ (s : SessionId). s.client) has.1 ∙ k.owner)) has;
+  online = k.online;
+  opening = λ e. let was = k.opening e in ((λ m q there has. was.0 m q (old m q there has.0 (ap (λ (s : SessionId). s.client) has.1 ∙ k.its)) has), was.1);
+  known = λ m q there has its. k.known m q (old m q there has its) has its;
+} where
+  old : (m : Up) (q : ℕ) → Contains (ups ++ new) m → q_in m ≡ Some q → (session_in m).client ≡ other → Contains ups m
+  old m q there has its = by (Contains-append_cases ups new m there) where
+    by : Contains ups m ⊎ Contains new m → Contains ups m
+    by (inl x) = x
+    by (inr x) = absurd (apart (sym its ∙ from m q x has))
+
+-- ---- worlds
+
+-- two packets of one session with one number are one message
+abbrev OneMessage : List Up → Type 0
+OneMessage ups = (m k : Up) (q : ℕ) → Contains ups m → Contains ups k → session_in m ≡ session_in k → q_in m ≡ Some q → q_in k ≡ Some q → m ≡ k
+
+record Numbered (w : World) : Type 0 where
+  pub one : OneMessage w.ups
+  pub clients : (id : ClientId) (c : Client) → IsClient w id c → Known w.ups id c
+
+one_more : (ups : List Up) (id : ClientId) (d : Client) → OneMessage ups → Next ups id d → OneMessage (ups ++ d.sends)
+one_more ups id d one n m k q m_there k_there same mq kq = by (Contains-append_cases ups d.sends m m_there) (Contains-append_cases ups d.sends k k_there) where
+  both : session_in m ≡ n.later.session → m ≡ k
+  both its = listed_once n.later.session _ m k q n.later.listed (n.later.complete m q m_there (mq, its)) (n.later.complete k q k_there (kq, sym same ∙ its)) mq kq
+
+  by : Contains ups m ⊎ Contains d.sends m → Contains ups k ⊎ Contains d.sends k → m ≡ k
+  by (inl x) (inl y) = one m k q x y same mq kq
+  by (inl x) (inr y) = both (same ∙ n.new k q y kq)
+  by (inr x) y = both (n.new m q x mq)
+
+client_is : (x y : Client) → Some x ≡ Some y → x ≡ y
+client_is x y e = ap (λ o. unwrap_or o x) e
+
+tie : (o : Ordering) → is_eq o ≡ true → o ≡ Equal
+tie Less h = absurd (true≢false (sym h))
+tie Equal h = refl
+tie Greater h = absurd (true≢false (sym h))
+
+-- the client with the id became d; what holds of it, and of the others as they were, holds of all
+put_known : (ups : List Up) (clients : Clients) (id : ClientId) (d : Client) → Known ups id d → ((other : ClientId) (c : Client) → (other ≡ id → ⊥) → find client_cmp other clients ≡ Some c → Known ups other c)
+    → (other : ClientId) (c : Client) → find client_cmp other (put client_cmp id d clients) ≡ Some c → Known ups other c
+put_known ups clients id d here rest other c found = by (eq_by_cmp client_cmp other id) refl where
+  by : (b : Bool) → eq_by_cmp client_cmp other id ≡ b → Known ups other c
+  by true e =
+      let same = clients_apart other id (tie (client_cmp other id) e) in
+      let is = client_is d c (sym (find-put client_cmp clients_total other id d clients ∙ ap (λ x. cond x (Some d) (find client_cmp other clients)) e) ∙ found) in
+      subst (Known ups other) is (subst (λ x. Known ups x d) (sym same) here)
+  by false e = rest other c (λ same. true≢false (sym (ap is_eq (tied_itself clients_total id)) ∙ ap (λ x. eq_by_cmp client_cmp x id) (sym same) ∙ e)) (sym (find-put client_cmp clients_total other id d clients ∙ ap (λ x. cond x (Some d) (find client_cmp other clients)) e) ∙ found)
+
+becomes_numbered : (w : World) (id : ClientId) (c : Client) (s : Step) → Numbered w → IsClient w id c → Moves c (after c s) → Numbered (becomes w id (after c s))
+becomes_numbered w id c s h there moves = record {
+  one = one_more w.ups id d h.one n;
+  clients = put_known (w.ups ++ d.sends) w.clients id (handed_out d) n.later (λ other x apart found. others w.ups d.sends id other x (λ m q in_new has. ap (λ (y : SessionId). y.client) (n.new m q in_new has) ∙ n.later.owner) apart (h.clients other x found));
+} where
+  d : Client
+  d = after c s
+
+  n : Next w.ups id d
+  n = step_known w.ups id c s (h.clients id c there) moves
+
+puts_numbered : (w : World) (id : ClientId) (d : Client) → Numbered w → Known w.ups id d → Numbered (record w { clients = put client_cmp id d w.clients })
+puts_numbered w id d h here = record { one = h.one; clients = put_known w.ups w.clients id d here (λ other x apart found. h.clients other x found) }
+
+step_numbered : (w : World) (e : Event) (v : World) → Numbered w → IsStep w e v → Numbered v
+step_numbered w (event.Call id k) v h is = subst Numbered (sym is.after) (subst (λ d. Numbered (becomes w id d)) made_it (becomes_numbered w id is.client (calls k) h is.there moves)) where
+  made_it : after is.client (calls k) ≡ after_call is.client k
+  made_it = ap (λ o. if is_none o then after_call is.client k else is.client) is.accepted
+
+  moves : Moves is.client (after is.client (calls k))
+  moves = subst (Moves is.client) (sym made_it) (call_stays is.client k)
+step_numbered w (event.Up packet now e) v h is = subst Numbered (sym is.2) (record { one = h.one; clients = h.clients })
+step_numbered w (event.Down packet) v h is = let n = becomes_numbered w is.session.client is.client (receives is.message) h is.there (inl (receive_stays is.client is.message)) in subst Numbered (sym is.after) (record { one = n.one; clients = n.clients })
+step_numbered w (event.Loss id now) v h is = subst Numbered (sym is.1) (record { one = h.one; clients = h.clients })
+step_numbered w (event.Tick now) v h is = subst Numbered (sym is) (record { one = h.one; clients = h.clients })
+step_numbered w (event.RestartClient id) v h is = subst Numbered (sym is.after) (puts_numbered w id (started_again id is.client) h (again w.ups id is.client (h.clients id is.client is.there)))
+step_numbered w (event.RestartServer now) v h is = subst Numbered (sym is.2) (record { one = h.one; clients = h.clients })
+
+stop_numbered : (w : World) (e : Event) (v : World) → Numbered w → IsStop w e v → Numbered v
+stop_numbered w (event.Call id k) v h is = absurd is
+stop_numbered w (event.Up packet now e) v h is = subst Numbered (sym is.2) (record { one = h.one; clients = h.clients })
+stop_numbered w (event.Down packet) v h is = absurd is
+stop_numbered w (event.Loss id now) v h is = subst Numbered (sym is.1) (record { one = h.one; clients = h.clients })
+stop_numbered w (event.Tick now) v h is = subst Numbered (sym is) (record { one = h.one; clients = h.clients })
+stop_numbered w (event.RestartClient id) v h is = absurd is
+stop_numbered w (event.RestartServer now) v h is = absurd is
+
+refused_numbered : (w : World) (e : Event) (v : World) (f : WorldFault) → Numbered w → IsRefused w e v f → Numbered v
+refused_numbered w e v fault.Memory h (inl is) = subst Numbered (sym is) h
+refused_numbered w e v fault.Memory h (inr is) = stop_numbered w e v h is
+refused_numbered w e v fault.NoSuch h is = subst Numbered (sym is.0) h
+refused_numbered w e v (fault.Client f) h is = subst Numbered (sym is.0) h
+
+occurs_numbered : (w : World) (o : Occurrence) (v : World) → Numbered w → Occurs w o v → Numbered v
+occurs_numbered w (happens e) v h (inl is) = step_numbered w e v h is
+occurs_numbered w (happens e) v h (inr is) = refused_numbered w e v is.0 h is.1
+occurs_numbered w (hands_out id) v h (inl is) = subst Numbered (sym is) h
+occurs_numbered w (hands_out id) v h (inr is) = subst Numbered (sym is.2) (puts_numbered w id (record is.0 { notices = [] }) h (quieted w.ups id is.0 (h.clients id is.0 is.1)))
+
+passes_numbered : (w : World) (occurrences : List Occurrence) (v : World) → Numbered w → Passes w occurrences v → Numbered v
+passes_numbered w [] v h is = subst Numbered (sym is) h
+passes_numbered w (o ∷ later) v h is = passes_numbered is.0 later v (occurs_numbered w o is.0 h is.1) is.2
+
+-- ---- a new world
+
+nothing_in : (m : Up) → Contains [] m → ⊥
+nothing_in m (k, less, is) = omega (arith, less)
+
+first_known : (id : ClientId) → Known [] id (start id 1)
+first_known id = record {
+  incarnation = 1;
+  steps = [];
+  ran = refl;
+  none = refl;
+  its = refl;
+  session = record { client = id; incarnation = 1; attempt = 0 };
+  owner = refl;
+  listed = λ i m get. absurd (none_or_some m get);
+  within = inr (refl, omega arith);
+  complete = λ m q there has. absurd (nothing_in m there);
+  online = λ e. absurd (true≢false (sym e));
+  opening = λ e. absurd (true≢false (sym e));
+  known = λ m q there has its. absurd (nothing_in m there);
+}
+
+joined_known : (clients : Clients) (ids : List ClientId) → ((id : ClientId) (c : Client) → find client_cmp id clients ≡ Some c → Known [] id c) → (id : ClientId) (c : Client) → find client_cmp id (fold joined clients ids) ≡ Some c → Known [] id c
+joined_known clients [] h = h
+joined_known clients (x ∷ ids) h = joined_known (joined clients x) ids (put_known [] clients x (start x 1) (first_known x) (λ other c apart found. h other c found))
+
+new_numbered : (ids : List ClientId) → Numbered (new_world ids)
+new_numbered ids = record { one = λ m k q x y same mq kq. absurd (nothing_in m x); clients = joined_known [] ids (λ id c found. absurd (nobody c found)) } where
+  nobody : (c : Client) → None ≡ Some c → ⊥
+  nobody c e = grind arith
+
+item_there : (xs : List Up) (i : ℕ) (m : Up) → slice_get xs i ≡ Some m → Contains xs m
+item_there [] i m get = absurd (none_or_some m get)
+item_there (x ∷ xs) zero m get = (0, omega arith, up_is x m get)
+item_there (x ∷ xs) (suc i) m get = behind (item_there xs i m get) where
+  behind : Contains xs m → Contains (x ∷ xs) m
+  behind (k, less, is) = (suc k, omega (arith, less), is)
+
+packet_there : (ups : List Up) (m : Up) → IsPacket ups m → Contains ups m
+packet_there ups m (zero, get) = absurd (none get) where
+  none : None ≡ Some m → ⊥
+  none e = grind arith
+packet_there ups m (suc i, get) = item_there ups i m get
+
+pub packets_numbered : (ids : List ClientId) (occurrences : List Occurrence) (v : World) → Passes (new_world ids) occurrences v → IsNumbered v.ups
+packets_numbered ids occurrences v passes m k q x y = (passes_numbered (new_world ids) occurrences v (new_numbered ids) passes).one m k q (packet_there v.ups m x) (packet_there v.ups k y)
