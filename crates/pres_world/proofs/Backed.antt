@@ -63,12 +63,12 @@ contained P [] x h c = absurd (let less = c.1 in omega (arith, less))
 contained P (y ∷ xs) x h (zero, less, is) = subst P is h.0
 contained P (y ∷ xs) x h (suc k, less, is) = contained P xs x h.1 (k, omega (arith, less), is)
 
-all_dropped : {A : Type 0} (P : A → Type 0) (xs : List A) (k : ℕ) → AllByRecursion P xs → AllByRecursion P (drop k xs)
+pub all_dropped : {A : Type 0} (P : A → Type 0) (xs : List A) (k : ℕ) → AllByRecursion P xs → AllByRecursion P (drop k xs)
 all_dropped P xs zero h = h
 all_dropped P [] (suc k) h = tt
 all_dropped P (x ∷ xs) (suc k) h = all_dropped P xs k h.1
 
-all_filtered : {A : Type 0} (P : A → Type 0) (p : A → Bool) (xs : List A) → AllByRecursion P xs → AllByRecursion P (filter p xs)
+pub all_filtered : {A : Type 0} (P : A → Type 0) (p : A → Bool) (xs : List A) → AllByRecursion P xs → AllByRecursion P (filter p xs)
 all_filtered P p [] h = tt
 all_filtered P p (x ∷ xs) h = by (p x) (all_filtered P p xs h.1) where
   by : (b : Bool) → AllByRecursion P (filter p xs) → AllByRecursion P (cond b (x ∷ filter p xs) (filter p xs))
@@ -82,7 +82,7 @@ all_passed P p (x ∷ xs) f = by (p x) refl (all_passed P p xs f) where
   by true e k = (f x e, k)
   by false e k = k
 
-all_flat : {A B : Type 0} (P : B → Type 0) (f : A → List B) (xs : List A) → ((x : A) → AllByRecursion P (f x)) → AllByRecursion P (flat_map f xs)
+pub all_flat : {A B : Type 0} (P : B → Type 0) (f : A → List B) (xs : List A) → ((x : A) → AllByRecursion P (f x)) → AllByRecursion P (flat_map f xs)
 all_flat P f [] h = tt
 all_flat P f (x ∷ xs) h = all_front P (f x) (flat_map f xs) (h x) (all_flat P f xs h)
 

@@ -13,3 +13,4 @@ pub mod Safety
 pub mod Sent
 pub mod Stands
 pub mod Stays
+pub mod Told

@@ -36,7 +36,8 @@ use Rattle.pres_world.specs.Safe.{Occurrence, happens, hands_out, Occurs, Passes
 use Rattle.pres_world.specs.Served.{Served, fault_for, turned, served, served_by, lost, EndsAll, IsRestarted}
 use Rattle.pres_world.specs.Worlds.{World, IsStep, IsStop, IsRefused, Reaches, becomes, new_world}
 use Rattle.pres_world.proofs.Numbered.{packets_numbered}
-use Rattle.pres_world.proofs.Backed.{IsWrite, IsArmed, Backed, backed_front, all_front, all_into, all_at, answers_backed, sure, contained}
+use Rattle.pres_world.proofs.Backed.{IsWrite, IsArmed, all_front, all_into, all_at, sure, contained}
+use Rattle.pres_world.proofs.Told.{Vouched, vouched_front, answers_vouched}
 use Rattle.pres_world.proofs.Sent.{ComesFrom, made_sent, sent_front}
 use Rattle.pres_world.proofs.Orderly.{writes_stand, ends_stand, cancels_undone}
 
@@ -46,7 +47,7 @@ use Rattle.pres_world.proofs.Orderly.{writes_stand, ends_stand, cancels_undone}
 record Sound (w : Served) : Type 0 where
   pub legal : IsLegal w.history
   pub its_log : (s : State) → w.server ≡ Some s → s.log ≡ w.history
-  pub downs : AllByRecursion (Backed (entries w.history)) w.downs
+  pub downs : AllByRecursion (Vouched (entries w.history)) w.downs
 
 -- it is so afterwards, and the history has more entries, which were made of what was sent
 record Grows (ups : List Up) (w v : Served) : Type 0 where
@@ -59,12 +60,12 @@ same : (ups : List Up) (w : Served) → Sound w → Grows ups w w
 same ups w h = record { sound = h; more = []; grown = sym (append-nil (entries w.history)); sent = tt }
 
 -- the history stays, and messages go out
-stays : (ups : List Up) (w v : Served) (out : List Down) → Sound w → v.history ≡ w.history → ((t : State) → v.server ≡ Some t → t.log ≡ v.history) → v.downs ≡ w.downs ++ out → AllByRecursion (Backed (entries w.history)) out → Grows ups w v
+stays : (ups : List Up) (w v : Served) (out : List Down) → Sound w → v.history ≡ w.history → ((t : State) → v.server ≡ Some t → t.log ≡ v.history) → v.downs ≡ w.downs ++ out → AllByRecursion (Vouched (entries w.history)) out → Grows ups w v
 stays ups w v out h is log sent backed = record {
   sound = record {
     legal = subst IsLegal (sym is) h.legal;
     its_log = log;
-    downs = subst (λ l. AllByRecursion (Backed (entries l)) v.downs) (sym is) (subst (AllByRecursion (Backed (entries w.history))) (sym sent) (all_front (Backed (entries w.history)) w.downs out h.downs backed));
+    downs = subst (λ l. AllByRecursion (Vouched (entries l)) v.downs) (sym is) (subst (AllByRecursion (Vouched (entries w.history))) (sym sent) (all_front (Vouched (entries w.history)) w.downs out h.downs backed));
   };
   more = [];
   grown = ap entries is ∙ sym (append-nil (entries w.history));
@@ -72,12 +73,12 @@ stays ups w v out h is log sent backed = record {
 }
 
 -- a batch is committed, and messages go out
-grows : (ups : List Up) (w v : Served) (m : ℕ) (es : List Entry) (out : List Down) → AllByRecursion (IsSent ups) es → Sound w → MayFollow w.history (batch_of w.history m es) → v.history ≡ w.history ++ batch_of w.history m es ∷ [] → ((t : State) → v.server ≡ Some t → t.log ≡ v.history) → v.downs ≡ w.downs ++ out → AllByRecursion (Backed (entries w.history ++ es)) out → Grows ups w v
+grows : (ups : List Up) (w v : Served) (m : ℕ) (es : List Entry) (out : List Down) → AllByRecursion (IsSent ups) es → Sound w → MayFollow w.history (batch_of w.history m es) → v.history ≡ w.history ++ batch_of w.history m es ∷ [] → ((t : State) → v.server ≡ Some t → t.log ≡ v.history) → v.downs ≡ w.downs ++ out → AllByRecursion (Vouched (entries w.history ++ es)) out → Grows ups w v
 grows ups w v m es out made h follows is log sent backed = record {
   sound = record {
     legal = subst IsLegal (sym is) (legal_after w.history (batch_of w.history m es) h.legal follows);
     its_log = log;
-    downs = subst (λ l. AllByRecursion (Backed l) v.downs) (sym all) (subst (AllByRecursion (Backed (entries w.history ++ es))) (sym sent) (all_front (Backed (entries w.history ++ es)) w.downs out (all_into (Backed (entries w.history)) (Backed (entries w.history ++ es)) w.downs (backed_front (entries w.history) es) h.downs) backed));
+    downs = subst (λ l. AllByRecursion (Vouched l) v.downs) (sym all) (subst (AllByRecursion (Vouched (entries w.history ++ es))) (sym sent) (all_front (Vouched (entries w.history ++ es)) w.downs out (all_into (Vouched (entries w.history)) (Vouched (entries w.history ++ es)) w.downs (vouched_front (entries w.history) es) h.downs) backed));
   };
   more = es;
   grown = all;
@@ -86,9 +87,9 @@ grows ups w v m es out made h follows is log sent backed = record {
   all : entries v.history ≡ entries w.history ++ es
   all = ap entries is ∙ entries-push w.history (batch_of w.history m es)
 
-fault_backed : (es : List Entry) (s : Option SessionId) (c : Code) → AllByRecursion (Backed es) (fault_for s c)
+fault_backed : (es : List Entry) (s : Option SessionId) (c : Code) → AllByRecursion (Vouched es) (fault_for s c)
 fault_backed es None c = tt
-fault_backed es (Some s) c = (tt, tt)
+fault_backed es (Some s) c = ((tt, tt), tt)
 
 none_some : (s : State) → None ≡ Some s → ⊥
 none_some s e = grind arith
@@ -106,10 +107,10 @@ turned_grows ups w s i now e from h is = by (turn s i now) refl e where
     follows : MayFollow w.history (batch_of w.history m es)
     follows = subst (λ l. MayFollow l (batch_of l m es)) is (may_follow s i now es (subst IsLegal (sym is) h.legal) k)
 
-    backed : AllByRecursion (Backed (entries w.history ++ es)) (answers (entries s.log) es)
-    backed = subst (λ l. AllByRecursion (Backed (entries w.history ++ es)) (answers (entries l) es)) (sym is) (answers_backed (entries w.history) m es (sure w.history h.legal) follows.allowed)
+    backed : AllByRecursion (Vouched (entries w.history ++ es)) (answers (entries s.log) es)
+    backed = subst (λ l. AllByRecursion (Vouched (entries w.history ++ es)) (answers (entries l) es)) (sym is) (answers_vouched (entries w.history) m es (sure w.history h.legal) follows.allowed)
 
-    made : (out : List Down) → ((t : State) → Some (state_after s m es) ≡ Some t → t.log ≡ (state_after s m es).log) → w.downs ++ out ≡ w.downs ++ out → AllByRecursion (Backed (entries w.history ++ es)) out → Grows ups w (record { server = Some (state_after s m es); history = (state_after s m es).log; downs = w.downs ++ out })
+    made : (out : List Down) → ((t : State) → Some (state_after s m es) ≡ Some t → t.log ≡ (state_after s m es).log) → w.downs ++ out ≡ w.downs ++ out → AllByRecursion (Vouched (entries w.history ++ es)) out → Grows ups w (record { server = Some (state_after s m es); history = (state_after s m es).log; downs = w.downs ++ out })
     made out log sent b = grows ups w _ m es out (made_sent ups s i now es from k) h follows (ap (λ l. l ++ batch_of l m es ∷ []) is) log sent b
   by (makes es) k ending.Stopped = grows ups w _ m es [] (made_sent ups s i now es from k) h follows (ap (λ l. l ++ batch_of l m es ∷ []) is) (λ t x. absurd (none_some t x)) (sym (append-nil w.downs)) tt where
     follows : MayFollow w.history (batch_of w.history m es)
@@ -155,7 +156,7 @@ restarted_grows ups w v now h k =
       sound = record {
         legal = longer.legal;
         its_log = λ t x. its k.1 t x;
-        downs = subst (λ l. AllByRecursion (Backed l) w.downs) (sym longer.grown) (all_into (Backed (entries w.history)) (Backed (entries w.history ++ longer.more)) w.downs (backed_front (entries w.history) longer.more) h.downs);
+        downs = subst (λ l. AllByRecursion (Vouched l) w.downs) (sym longer.grown) (all_into (Vouched (entries w.history)) (Vouched (entries w.history ++ longer.more)) w.downs (vouched_front (entries w.history) longer.more) h.downs);
       };
       more = longer.more;
       grown = longer.grown;
@@ -166,13 +167,13 @@ restarted_grows ups w v now h k =
 
 record Honest (w : World) : Type 0 where
   pub sound : Sound w.serving
-  pub acks : AllByRecursion (Backed (entries w.serving.history)) w.acks
+  pub acks : AllByRecursion (Vouched (entries w.serving.history)) w.acks
   pub sent : AllByRecursion (IsSent w.ups) (entries w.serving.history)
 
 honest_by : (w : World) (v : Served) → Honest w → Grows w.ups w.serving v → Honest (record w { serving = v })
 honest_by w v h g = record {
   sound = g.sound;
-  acks = subst (λ l. AllByRecursion (Backed l) w.acks) (sym g.grown) (all_into (Backed (entries w.serving.history)) (Backed (entries w.serving.history ++ g.more)) w.acks (backed_front (entries w.serving.history) g.more) h.acks);
+  acks = subst (λ l. AllByRecursion (Vouched l) w.acks) (sym g.grown) (all_into (Vouched (entries w.serving.history)) (Vouched (entries w.serving.history ++ g.more)) w.acks (vouched_front (entries w.serving.history) g.more) h.acks);
   sent = subst (AllByRecursion (IsSent w.ups)) (sym g.grown) (all_front (IsSent w.ups) (entries w.serving.history) g.more h.sent g.sent);
 }
 
@@ -180,11 +181,11 @@ honest_by w v h g = record {
 becomes_honest : (w : World) (id : ClientId) (c : Client) → Honest w → Honest (becomes w id c)
 becomes_honest w id c h = record { sound = h.sound; acks = h.acks; sent = all_into (IsSent w.ups) (IsSent (w.ups ++ c.sends)) (entries w.serving.history) (sent_front w.ups c.sends) h.sent }
 
-item_backed : (es : List Entry) (ms : List Down) (k : ℕ) (m : Down) → AllByRecursion (Backed es) ms → item_at ms k ≡ Some m → Backed es m
+item_backed : (es : List Entry) (ms : List Down) (k : ℕ) (m : Down) → AllByRecursion (Vouched es) ms → item_at ms k ≡ Some m → Vouched es m
 item_backed es ms zero m h get = absurd (none get) where
   none : None ≡ Some m → ⊥
   none e = grind arith
-item_backed es ms (suc i) m h get = all_at (Backed es) ms i m h get
+item_backed es ms (suc i) m h get = all_at (Vouched es) ms i m h get
 
 item_sent : (ups : List Up) (es : List Entry) (k : ℕ) (e : Entry) → AllByRecursion (IsSent ups) es → item_at es k ≡ Some e → IsSent ups e
 item_sent ups es zero e h get = absurd (none get) where
@@ -192,9 +193,9 @@ item_sent ups es zero e h get = absurd (none get) where
   none x = grind arith
 item_sent ups es (suc i) e h get = all_at (IsSent ups) es i e h get
 
-ack_backed : (es : List Entry) (c : Client) (m : Down) → Backed es m → AllByRecursion (Backed es) (acknowledged c m)
+ack_backed : (es : List Entry) (c : Client) (m : Down) → Vouched es m → AllByRecursion (Vouched es) (acknowledged c m)
 ack_backed es c m h = by (accepts c m && not (is_fault m)) where
-  by : (b : Bool) → AllByRecursion (Backed es) (cond b (m ∷ []) [])
+  by : (b : Bool) → AllByRecursion (Vouched es) (cond b (m ∷ []) [])
   by true = (h, tt)
   by false = tt
 
@@ -203,7 +204,7 @@ step_honest w (event.Call id k) v h is = subst Honest (sym is.after) (becomes_ho
 step_honest w (event.Up packet now e) v h is = subst Honest (sym is.2) (honest_by w _ h (served_grows w.ups w.serving (input.Up is.0) now e (packet, is.1) h.sound))
 step_honest w (event.Down packet) v h is = subst Honest (sym is.after) (record {
   sound = h.sound;
-  acks = all_front (Backed (entries w.serving.history)) w.acks (acknowledged is.client is.message) h.acks (ack_backed (entries w.serving.history) is.client is.message (item_backed (entries w.serving.history) w.serving.downs packet is.message h.sound.downs is.sent));
+  acks = all_front (Vouched (entries w.serving.history)) w.acks (acknowledged is.client is.message) h.acks (ack_backed (entries w.serving.history) is.client is.message (item_backed (entries w.serving.history) w.serving.downs packet is.message h.sound.downs is.sent));
   sent = (becomes_honest w is.session.client (after_receive is.client is.message) h).sent;
 })
 step_honest w (event.Loss id now) v h is = subst Honest (sym is.1) (honest_by w _ h (lost_grows w.ups _ w.serving now ending.Answered h.sound))
@@ -261,8 +262,9 @@ pub stays_safe : (ids : List ClientId) (occurrences : List Occurrence) (v : Worl
 stays_safe ids occurrences v passes =
     let h = passes_honest (new_world ids) occurrences v (new_honest ids) passes in
     record {
-      acknowledged = λ s r z q n done out c. stands_as v s n done out h (contained (Backed (entries v.serving.history)) v.acks (Reply s r z q n done out) h.acks c);
-      armed = λ s r z q c. stands_armed v s z q h (contained (Backed (entries v.serving.history)) v.acks (Armed s r z q) h.acks c);
+      acknowledged = λ s r z q n done out c. stands_as v s n done out h (contained (Vouched (entries v.serving.history)) v.acks (Reply s r z q n done out) h.acks c).0;
+      armed = λ s r z q c. stands_armed v s z q h (contained (Vouched (entries v.serving.history)) v.acks (Armed s r z q) h.acks c).0;
+      told = λ m c. (contained (Vouched (entries v.serving.history)) v.acks m h.acks c).1;
       sent = λ k e at. item_sent v.ups (entries v.serving.history) k e h.sent at;
       numbered = packets_numbered ids occurrences v passes;
       writes = writes_stand v.serving.history h.sound.legal;

@@ -1,5 +1,5 @@
 -- What holds of every world that is reached.
-use Rattle.std.specs.Prelude.{ℕ, ◌≡◌, ◌⊎◌, List, [], ◌∷◌, Some, None}
+use Rattle.std.specs.Prelude.{ℕ, ◌≡◌, ◌⊎◌, List, [], ◌∷◌, ◌++◌, Some, None}
 use Rattle.std.specs.FinMap.Entries.{put}
 use Rattle.std.specs.List.{Contains}
 use Rattle.pres_ids.specs.declared.id.SessionId.{SessionId}
@@ -14,10 +14,12 @@ use Rattle.pres_write.specs.Unconditionals.{puts_of}
 use Rattle.pres_wire.specs.declared.up.Up.{Up}
 use Rattle.pres_wire.specs.declared.up.Up.TheVariants as up
 use Rattle.pres_wire.specs.Messages.{session_in, q_in}
-use Rattle.pres_wire.specs.declared.down.Down.TheVariants.{Armed, Reply}
+use Rattle.pres_wire.specs.declared.down.Down.TheVariants.{Welcome, Reply, Gone, Armed, Denied, Snap, Push, OffDone, Fault}
+use Rattle.pres_wire.specs.declared.down.Down.{Down}
+use Rattle.pres_server.specs.Streams.{stream, welcome}
 use Rattle.pres_log.specs.declared.entry.Entry.{Entry}
 use Rattle.pres_log.specs.declared.entry.Entry.TheVariants as entry
-use Rattle.pres_log.specs.Logs.{Stands, item_at}
+use Rattle.pres_log.specs.Logs.{Stands, entries, item_at}
 use Rattle.pres_client.specs.Clients.{State as Client}
 use Rattle.pres_world.specs.declared.event.Event.{Event}
 use Rattle.pres_world.specs.declared.fault.WorldFault.{WorldFault}
@@ -80,13 +82,27 @@ StandsArmed w s z q =
 abbrev pub IsNumbered : List Up → Type 0
 IsNumbered ups = (m k : Up) (q : ℕ) → IsPacket ups m → IsPacket ups k → session_in m ≡ session_in k → q_in m ≡ Some q → q_in k ≡ Some q → m ≡ k
 
+-- the entries tell it to its session: the Welcome behind the session's opening, or the message of its stream with this number
+abbrev pub IsTold : List Entry → Down → Type 0
+IsTold es (Welcome s z ops) = (before : List Entry) × (later : List Entry) × (es ≡ before ++ entry.Open s ∷ later) × (Welcome s z ops ≡ welcome s (before ++ entry.Open s ∷ []))
+IsTold es (Reply s r z q n done out) = item_at (stream s es) r ≡ Some (Reply s r z q n done out)
+IsTold es (Gone s r z why) = item_at (stream s es) r ≡ Some (Gone s r z why)
+IsTold es (Armed s r z q) = item_at (stream s es) r ≡ Some (Armed s r z q)
+IsTold es (Denied s r z q why) = item_at (stream s es) r ≡ Some (Denied s r z q why)
+IsTold es (Snap s r z q p v) = item_at (stream s es) r ≡ Some (Snap s r z q p v)
+IsTold es (Push s r z values) = item_at (stream s es) r ≡ Some (Push s r z values)
+IsTold es (OffDone s r z q) = item_at (stream s es) r ≡ Some (OffDone s r z q)
+IsTold es (Fault session code) = Unit {0}
+
 -- Each write whose reply a client took stands where the reply says, as it was sent, and came out as the reply says. So
--- does each action for a session's end, and each cancel, that was acknowledged. All that stands there was sent, and a
--- session's packets with one number are one message. Each write stands once, in its client's order. And each session
--- ends once, by all that is due and nothing that was cancelled, before any entry of a later session of its client.
+-- does each action for a session's end, and each cancel, that was acknowledged. All that clients took is what the
+-- history tells their sessions. All that stands there was sent, and a session's packets with one number are one
+-- message. Each write stands once, in its client's order. And each session ends once, by all that is due and nothing
+-- that was cancelled, before any entry of a later session of its client.
 pub record IsSafe (w : World) : Type 0 where
   pub acknowledged : (s : SessionId) (r z q n done : ℕ) (out : Kept) → Contains w.acks (Reply s r z q n done out) → StandsAs w s n done out
   pub armed : (s : SessionId) (r z q : ℕ) → Contains w.acks (Armed s r z q) → StandsArmed w s z q
+  pub told : (m : Down) → Contains w.acks m → IsTold (entries w.serving.history) m
   pub sent : (k : ℕ) (e : Entry) → Stands w.serving.history k e → IsSent w.ups e
   pub numbered : IsNumbered w.ups
   pub writes : WritesStand w.serving.history
