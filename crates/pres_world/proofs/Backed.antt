@@ -38,7 +38,7 @@ pub item_front : {A : Type 0} (xs ys : List A) (k : ℕ) (x : A) → item_at xs 
 item_front xs ys zero x h = h
 item_front xs ys (suc i) x h = get_front xs ys i x h
 
-get_last : {A : Type 0} (xs : List A) (y : A) → slice_get (xs ++ y ∷ []) (length xs) ≡ Some y
+pub get_last : {A : Type 0} (xs : List A) (y : A) → slice_get (xs ++ y ∷ []) (length xs) ≡ Some y
 get_last [] y = refl
 get_last (x ∷ xs) y = get_last xs y
 

@@ -1,7 +1,6 @@
 -- What a client sends with one number of one session is one message.
-use Rattle.std.proofs.Common.{if◌then◌else◌, refl, sym, ◌∙◌, ap, subst, ◌≡◌, ◌+◌, ◌<◌, ◌≤◌, ℕ, zero, suc, Bool, true, false, cond, List, [], ◌∷◌, ◌++◌, slice_get, ◌⊎◌, inl, inr, Some, None, true≢false, arith, unwrap_or, nat_lt, is_eq, Ordering, Less, Equal, Greater}
+use Rattle.std.proofs.Common.{if◌then◌else◌, refl, sym, ◌∙◌, ap, subst, ◌≡◌, ◌+◌, ◌<◌, ◌≤◌, ℕ, zero, suc, Bool, true, false, cond, List, [], ◌∷◌, ◌++◌, slice_get, ◌⊎◌, inl, inr, Some, None, true≢false, arith, unwrap_or, nat_lt, is_eq, Ordering, Less, Equal, Greater, length, take, drop}
 use Rattle.std.specs.Prelude.{fold}
-use Rattle.std.specs.Option.{is_none}
 use Rattle.std.specs.List.{All, Contains}
 use Rattle.std.specs.Ordering.{eq_by_cmp}
 use Rattle.std.specs.Cmp.{tied_itself}
@@ -10,43 +9,62 @@ use Rattle.std.proofs.lemmas.List.Elements.{All-contains, Contains-append_cases}
 use Rattle.pres_ids.specs.declared.id.SessionId.{SessionId}
 use Rattle.pres_ids.specs.Ids.{ClientId, client_cmp}
 use Rattle.pres_ids.specs.Numbers.{greatest_number}
+use Rattle.pres_wire.specs.declared.down.Down.{Down}
 use Rattle.pres_wire.specs.declared.up.Up.{Up}
+use Rattle.pres_wire.specs.declared.up.Up.TheVariants as up
 use Rattle.pres_wire.specs.Messages.{session_in, q_in}
 use Rattle.pres_client.specs.declared.client.Phase.{Phase}
 use Rattle.pres_client.specs.declared.client.Phase.TheVariants as phase
-use Rattle.pres_client.specs.Clients.{State as Client, start, is_online, is_opening}
-use Rattle.pres_client.specs.Calls.{after_call}
-use Rattle.pres_client.specs.Steps.{Step, calls, receives, hands_out_sends, hands_out_notices, after, run}
+use Rattle.pres_client.specs.Clients.{State as Client, start, is_online, is_opening, outstanding, view}
+use Rattle.pres_client.specs.Receiving.{after_receive}
+use Rattle.pres_client.specs.Steps.{Step, calls, receives, hands_out_sends, hands_out_notices, after, run, IsMessage, AreMessages, IsStep as MayHappen}
+use Rattle.pres_client.specs.Trails.{Trail, trail, trail_step, kept_for, nothing, takes, with_taken}
+use Rattle.pres_client.proofs.SentSteps.{sends_hold}
+use Rattle.pres_client.proofs.Trails.{views_hold}
+use Rattle.pres_log.specs.declared.entry.Entry.{Entry}
+use Rattle.pres_log.specs.declared.entry.Entry.TheVariants as entry
+use Rattle.pres_log.specs.Logs.{Log, entries, tree}
+use Rattle.pres_mail.specs.Watches.{watch_of}
+use Rattle.pres_server.specs.LegalLog.{IsLegal}
+use Rattle.pres_server.specs.Streams.{stream}
+use Rattle.pres_tree.specs.declared.scalar.Scalar.{Scalar}
+use Rattle.pres_tree.specs.Paths.{Path}
+use Rattle.pres_tree.specs.Rows.{Rows, value_at}
+use Rattle.std.specs.Option.{is_some}
+use Rattle.std.proofs.lemmas.List.Elements.{All-append, All-cons, All-nil}
+use Rattle.pres_world.specs.Served.{Served}
+use Rattle.pres_world.specs.Safe.{IsSent, IsTold}
+use Rattle.pres_world.proofs.Hears.{Hears, receive_hears}
+use Rattle.pres_world.proofs.Asked.{Asked, Steps, count_after, step_steps, asked_step, opening_asked}
+use Rattle.pres_world.proofs.Faith.{Listed, stream_longer}
+use Rattle.pres_world.proofs.Follow.{Faith, Raw, seen_nothing, faith_kept, quiet_raw, next_of, takes_online, heard_raw, faith_front, faith_handed, faith_noted, raw_into, kept_again, trail_then}
+use Rattle.pres_world.proofs.Opened.{step_opened}
 use Rattle.pres_client.specs.Sends.{Made, none_made, made, made_step, kept_while, MayGoOut}
 use Rattle.pres_client.proofs.SentOut.{steps_send}
 use Rattle.pres_server.proofs.AfterEntry.{clients_total, clients_apart}
-use Rattle.pres_world.specs.declared.event.Event.{Event}
-use Rattle.pres_world.specs.declared.event.Event.TheVariants as event
-use Rattle.pres_world.specs.declared.fault.WorldFault.{WorldFault}
-use Rattle.pres_world.specs.declared.fault.WorldFault.TheVariants as fault
 use Rattle.pres_world.specs.Members.{handed_out, started_again}
-use Rattle.pres_world.specs.Worlds.{World, Clients, joined, new_world, becomes, IsClient, IsStep, IsStop, IsRefused}
-use Rattle.pres_world.specs.Safe.{Occurrence, happens, hands_out, Occurs, Passes, IsPacket, IsNumbered}
-use Rattle.pres_world.proofs.Stands.{none_or_some}
-use Rattle.pres_world.proofs.Stays.{Begins, Moves, call_stays, receive_stays}
-use Rattle.pres_world.proofs.Lists.{InList, Grown, step_grown, grown_in, grown_front, opening_in, run_then, made_then, kept_if, opened_if, listed_of, listed_once}
+use Rattle.pres_world.specs.Worlds.{World, Clients, joined, new_world, becomes, IsClient}
+use Rattle.pres_world.specs.Safe.{IsPacket, IsNumbered}
+use Rattle.pres_world.proofs.Stands.{none_or_some, got_small}
+use Rattle.pres_world.proofs.Stays.{Begins, Moves, receive_stays}
+use Rattle.pres_world.proofs.Lists.{get_contained, InList, Grown, step_grown, grown_in, grown_front, opening_in, run_then, made_then, kept_if, opened_if, listed_of, listed_once}
 
 -- the session was asked for by the client, as its last one or before
-abbrev Within : Client → SessionId → Type 0
+abbrev pub Within : Client → SessionId → Type 0
 Within c s = (s.incarnation < c.session.incarnation) ⊎ ((s.incarnation ≡ c.session.incarnation) × (s.attempt ≤ c.attempts))
 
-abbrev Has : Up → ℕ → SessionId → Type 0
+abbrev pub Has : Up → ℕ → SessionId → Type 0
 Has m q s = (q_in m ≡ Some q) × (session_in m ≡ s)
 
 -- no message of the session that is being opened has a number
-abbrev Opens : List Up → Client → SessionId → Type 0
+abbrev pub Opens : List Up → Client → SessionId → Type 0
 Opens ups c s = ((m : Up) (q : ℕ) → Contains ups m → Has m q c.session → ⊥) × ((s ≡ c.session → ⊥) × (c.session.attempt ≤ c.attempts))
 
-abbrev list_of : ClientId → ℕ → List Step → List Up
+abbrev pub list_of : ClientId → ℕ → List Step → List Up
 list_of id incarnation steps = (made (start id incarnation) none_made steps).messages
 
 -- the client is an incarnation after steps, and its last list has all that was sent of its session with a number
-record Known (ups : List Up) (id : ClientId) (c : Client) : Type 0 where
+pub record Known (log : Log) (ups : List Up) (id : ClientId) (c : Client) : Type 0 where
   pub incarnation : ℕ
   pub steps : List Step
   pub ran : run (start id incarnation) steps ≡ c
@@ -60,10 +78,13 @@ record Known (ups : List Up) (id : ClientId) (c : Client) : Type 0 where
   pub online : is_online c.phase ≡ true → session ≡ c.session
   pub opening : is_opening c.phase ≡ true → Opens ups c session
   pub known : (m : Up) (q : ℕ) → Contains ups m → q_in m ≡ Some q → (session_in m).client ≡ id → Within c (session_in m)
+  pub messages : AreMessages steps
+  pub few : is_online c.phase ≡ true → c.taken ≤ length (stream c.session (entries log))
+  pub faith : (p : Path) → Faith (entries log) c (list_of id incarnation steps) p (trail p (start id incarnation) nothing steps)
 
 -- the client d, and what it sent
-record Next (ups : List Up) (id : ClientId) (d : Client) : Type 0 where
-  pub later : Known (ups ++ d.sends) id (handed_out d)
+record Next (log : Log) (ups : List Up) (id : ClientId) (d : Client) : Type 0 where
+  pub later : Known log (ups ++ d.sends) id (handed_out d)
   pub new : (m : Up) (q : ℕ) → Contains d.sends m → q_in m ≡ Some q → session_in m ≡ later.session
 
 both_phases : (p : Phase) → is_online p ≡ true → is_opening p ≡ true → ⊥
@@ -85,8 +106,37 @@ too_new c d s b (inr w) e = let a = ap (λ (x : SessionId). x.attempt) (e ∙ b.
 up_is : (x y : Up) → Some x ≡ Some y → x ≡ y
 up_is x y e = ap (λ o. unwrap_or o x) e
 
-step_known : (ups : List Up) (id : ClientId) (c : Client) (s : Step) → Known ups id c → Moves c (after c s) → Next ups id (after c s)
-step_known ups id c s k moves = by (is_online d.phase) refl (is_online c.phase) refl where
+item_there : (xs : List Up) (i : ℕ) (m : Up) → slice_get xs i ≡ Some m → Contains xs m
+item_there [] i m get = absurd (none_or_some m get)
+item_there (x ∷ xs) zero m get = (0, omega arith, up_is x m get)
+item_there (x ∷ xs) (suc i) m get = behind (item_there xs i m get) where
+  behind : Contains xs m → Contains (x ∷ xs) m
+  behind (k, less, is) = (suc k, omega (arith, less), is)
+
+packet_there : (ups : List Up) (m : Up) → IsPacket ups m → Contains ups m
+packet_there ups m (zero, get) = absurd (none get) where
+  none : None ≡ Some m → ⊥
+  none e = grind arith
+packet_there ups m (suc i, get) = item_there ups i m get
+
+-- what is received is what the log tells
+abbrev pub Heard : Log → Step → Type 0
+Heard log (receives m) = IsTold (entries log) m × IsMessage m
+Heard log (calls k) = Unit {0}
+Heard log hands_out_sends = Unit {0}
+Heard log hands_out_notices = Unit {0}
+
+its_step : (log : Log) (s : Step) → Heard log s → MayHappen s
+its_step log (receives m) h = h.1
+its_step log (calls k) h = tt
+its_step log hands_out_sends h = tt
+its_step log hands_out_notices h = tt
+
+number_is : (x y : ℕ) → Some x ≡ Some y → x ≡ y
+number_is x y e = ap (λ o. unwrap_or o x) e
+
+step_known : (log : Log) → IsLegal log → (ups : List Up) → ((i : ℕ) (e : Entry) → slice_get (entries log) i ≡ Some e → IsSent ups e) → (id : ClientId) (c : Client) (s : Step) → Heard log s → Known log ups id c → Moves c (after c s) → Next log ups id (after c s)
+step_known log legal ups came id c s heard k moves = by (is_online d.phase) refl (is_online c.phase) refl where
   d : Client
   d = after c s
 
@@ -151,9 +201,90 @@ step_known ups id c s k moves = by (is_online d.phase) refl (is_online c.phase) 
     by_place (inl old) = widen c d (session_in m) moves (k.known m q old has its)
     by_place (inr new) = subst (Within d) (sym (listed_of session ms m listed (new_listed m q new has))) within
 
+  -- ---- what is shown
+
+  es : List Entry
+  es = entries log
+
+  tr : Path → Trail
+  tr p = trail p c0 nothing k.steps
+
+  all_messages : AreMessages (k.steps ++ more)
+  all_messages = All-append MayHappen k.steps more k.messages (All-cons MayHappen s (hands_out_sends ∷ []) (its_step log s heard) (All-cons MayHappen hands_out_sends [] tt (All-nil MayHappen)))
+
+  same_list : is_online c.phase ≡ true → is_online d.phase ≡ true → ms ≡ u.messages
+  same_list on still = is_list ∙ ap (λ (x : Made). x.messages) (kept_if c d u (is_online d.phase) refl (λ _. on))
+
+  in_session : is_online d.phase ≡ true → d.session ≡ c.session
+  in_session on = by_move moves where
+    by_move : Moves c d → d.session ≡ c.session
+    by_move (inl x) = x.session
+    by_move (inr x) = absurd (true≢false (sym on ∙ x.now))
+
+  listed_now : is_online c.phase ≡ true → Listed es c.session t.messages
+  listed_now on = ((λ i q x get. found (up.Off c.session q x) q refl refl (came i (entry.Off c.session q x) get)), (λ i q x get. found (up.On c.session q x) q refl refl (came i (entry.On c.session q x) get))) where
+    found : (m : Up) (q : ℕ) → q_in m ≡ Some q → session_in m ≡ c.session → IsPacket ups m → (j : ℕ) × (q ≡ j + 1) × (slice_get t.messages j ≡ Some m)
+    found m q has its packet =
+        let there = k.complete m q (packet_there ups m packet) (has, its ∙ sym (k.online on)) in
+        let at = get_contained t.messages m there in
+        (at.0, number_is q (at.0 + 1) (sym has ∙ (k.listed at.0 m at.1).0), at.1)
+
+  waits : is_online c.phase ≡ true → drop c.heard t.messages ≡ outstanding c
+  waits = subst (λ (x : Client). is_online x.phase ≡ true → drop x.heard t.messages ≡ outstanding x) k.ran (sends_hold id k.incarnation k.steps)
+
+  quiet : (p : Path) → count_after c s ≡ c.taken → Raw es d ms p (tr p)
+  quiet p e = raw_into es d u.messages ms p (tr p) (λ g on. sym (same_list ((k.faith p).counted g).0 on)) (quiet_raw es c d t u p (tr p) (k.faith p) (λ on still. subst (Steps p c d t u) e (step_steps p c t s on still)) in_session)
+
+  heard_now : (p : Path) (m : Down) → s ≡ receives m → IsTold es m → (b : Bool) → takes c m ≡ b → Raw es (after_receive c m) ms p (if b then with_taken p c (tr p) m else tr p)
+  heard_now p m is told false h = subst (λ y. Raw es (after c y) ms p (tr p)) is (quiet p (ap (count_after c) is ∙ ap (λ b. if b then c.taken + 1 else c.taken) h))
+  heard_now p m is told true h =
+      let on = takes_online c m h in
+      raw_into es (after_receive c m) t.messages ms p (with_taken p c (tr p) m)
+      (λ g still. sym (same_list on (subst (λ y. is_online (after c y).phase ≡ true) (sym is) still) ∙ ap (λ y. (made_step c t y).messages) is))
+      (heard_raw log legal c m t.messages p (tr p) (k.faith p) (listed_now on) (waits on) h told (subst (λ b. Hears c (if b then c.taken + 1 else c.taken) (after_receive c m)) h (receive_hears c m on)) (receive_stays c m).session)
+
+  raw : (p : Path) → Raw es d ms p (trail_step p c (tr p) s)
+  raw p = by_step s refl heard where
+    by_step : (y : Step) → s ≡ y → Heard log y → Raw es (after c y) ms p (trail_step p c (tr p) y)
+    by_step (receives m) is told = heard_now p m is told.0 (takes c m) refl
+    by_step (calls x) is told = subst (λ y. Raw es (after c y) ms p (tr p)) is (quiet p (ap (count_after c) is))
+    by_step hands_out_sends is told = subst (λ y. Raw es (after c y) ms p (tr p)) is (quiet p (ap (count_after c) is))
+    by_step hands_out_notices is told = subst (λ y. Raw es (after c y) ms p (tr p)) is (quiet p (ap (count_after c) is))
+
+  asked_now : (p : Path) → is_online d.phase ≡ true → is_some (watch_of p d.watches) ≡ true → Asked ms p
+  asked_now p on there = by_phase (is_online c.phase) refl where
+    by_phase : (b : Bool) → is_online c.phase ≡ b → Asked ms p
+    by_phase true o = subst (λ l. Asked l p) (sym (same_list o on)) (asked_step p c d t u (count_after c s) (step_steps p c t s o on) ((k.faith p).asked o) there)
+    by_phase false o = subst (λ l. Asked l p) (sym (is_list ∙ ap (λ (x : Made). x.messages) (opened_if c d u on o))) (opening_asked p d u)
+
+  faith_now : (p : Path) → Faith es (handed_out d) ms p (trail p c0 nothing (k.steps ++ more))
+  faith_now p = subst (Faith es (handed_out d) ms p) (sym shape) (faith_handed es d ms p _ [] (faith_kept es d ms p (trail_step p c (tr p) s) (raw p) (asked_now p))) where
+    shape : trail p c0 nothing (k.steps ++ more) ≡ kept_for p d (trail_step p c (tr p) s)
+    shape = trail_then p c0 nothing k.steps more ∙ ap (λ x. trail p x (tr p) more) k.ran ∙ kept_again p d (trail_step p c (tr p) s)
+
+  few_now : is_online d.phase ≡ true → d.taken ≤ length (stream d.session es)
+  few_now on = by_phase (is_online c.phase) refl where
+    small : is_online c.phase ≡ true → (m : Down) → Heard log (receives m) → (b : Bool) → takes c m ≡ b → (if b then c.taken + 1 else c.taken) ≤ length (stream c.session es)
+    small o m told true h = let less = got_small (stream c.session es) c.taken m (next_of es c m h told.0) in omega (arith, less)
+    small o m told false h = k.few o
+
+    by_count : is_online c.phase ≡ true → (y : Step) → Heard log y → count_after c y ≤ length (stream c.session es)
+    by_count o (receives m) told = small o m told (takes c m) refl
+    by_count o (calls x) told = k.few o
+    by_count o hands_out_sends told = k.few o
+    by_count o hands_out_notices told = k.few o
+
+    by_phase : (b : Bool) → is_online c.phase ≡ b → d.taken ≤ length (stream d.session es)
+    by_phase true o =
+        let n = (step_steps [] c t s o on).taken in
+        let few = by_count o s heard in
+        let same = ap (λ x. length (stream x es)) (in_session on) in
+        omega (arith, n, few, same)
+    by_phase false o = let n = (step_opened c s).none on o in omega (arith, n)
+
   -- ---- the list goes on
 
-  goes_on : (is_online d.phase ≡ true → is_online c.phase ≡ true) → Next ups id d
+  goes_on : (is_online d.phase ≡ true → is_online c.phase ≡ true) → Next log ups id d
   goes_on h = record {
     later = record {
       incarnation = k.incarnation;
@@ -169,6 +300,9 @@ step_known ups id c s k moves = by (is_online d.phase) refl (is_online c.phase) 
       online = online;
       opening = opens;
       known = known_by k.session listed (widen c d k.session moves k.within);
+      messages = all_messages;
+      few = few_now;
+      faith = faith_now;
     };
     new = λ m q there has. listed_of k.session ms m listed (new_listed m q there has);
   } where
@@ -223,9 +357,9 @@ step_known ups id c s k moves = by (is_online d.phase) refl (is_online c.phase) 
 
   -- ---- a session is opened
 
-  is_opened : is_online d.phase ≡ true → is_online c.phase ≡ false → Next ups id d
+  is_opened : is_online d.phase ≡ true → is_online c.phase ≡ false → Next log ups id d
   is_opened on off = by_move moves where
-    by_move : Moves c d → Next ups id d
+    by_move : Moves c d → Next log ups id d
     by_move (inr x) = absurd (true≢false (sym on ∙ x.now))
     by_move (inl x) = record {
       later = record {
@@ -242,6 +376,9 @@ step_known ups id c s k moves = by (is_online d.phase) refl (is_online c.phase) 
         online = λ _. refl;
         opening = λ e. absurd (both_phases d.phase on e);
         known = known_by d.session listed within;
+        messages = all_messages;
+        few = few_now;
+        faith = faith_now;
       };
       new = λ m q there has. listed_of d.session ms m listed (new_listed m q there has);
     } where
@@ -268,15 +405,18 @@ step_known ups id c s k moves = by (is_online d.phase) refl (is_online c.phase) 
         by_place (inl old) = absurd (was.0 m q old (has.0, has.1 ∙ x.session))
         by_place (inr new) = new_listed m q new has.0
 
-  by : (a : Bool) → is_online d.phase ≡ a → (b : Bool) → is_online c.phase ≡ b → Next ups id d
+  by : (a : Bool) → is_online d.phase ≡ a → (b : Bool) → is_online c.phase ≡ b → Next log ups id d
   by true e true f = goes_on (λ _. f)
   by true e false f = is_opened e f
   by false e b f = goes_on (λ g. absurd (true≢false (sym g ∙ e)))
 
 -- ---- a client that starts again, or hands its notices out
 
-fresh : (ups : List Up) (id : ClientId) (c : Client) → Known ups id c → Known ups id (start id (c.session.incarnation + 1))
-fresh ups id c k = record {
+faith_start : (es : List Entry) (id : ClientId) (n : ℕ) (p : Path) → Faith es (start id n) [] p nothing
+faith_start es id n p = record { seen = seen_nothing es p; counted = λ g. absurd (true≢false (sym g)); live = λ g. absurd (true≢false (sym g)); asked = λ e. absurd (true≢false (sym e)) }
+
+fresh : (log : Log) (ups : List Up) (id : ClientId) (c : Client) → Known log ups id c → Known log ups id (start id (c.session.incarnation + 1))
+fresh log ups id c k = record {
   incarnation = n;
   steps = [];
   ran = refl;
@@ -290,6 +430,9 @@ fresh ups id c k = record {
   online = λ e. absurd (true≢false (sym e));
   opening = λ e. absurd (true≢false (sym e));
   known = λ m q there has its. rises (session_in m) (k.known m q there has its);
+  messages = All-nil MayHappen;
+  few = λ e. absurd (true≢false (sym e));
+  faith = faith_start (entries log) id n;
 } where
   n : ℕ
   n = c.session.incarnation + 1
@@ -305,14 +448,14 @@ fresh ups id c k = record {
   rises s (inl w) = inl (omega (arith, w))
   rises s (inr w) = let x = w.0 in inl (omega (arith, x))
 
-again : (ups : List Up) (id : ClientId) (c : Client) → Known ups id c → Known ups id (started_again id c)
-again ups id c k = by (nat_lt c.session.incarnation greatest_number) where
-  by : (b : Bool) → Known ups id (if b then start id (c.session.incarnation + 1) else c)
-  by true = fresh ups id c k
+again : (log : Log) (ups : List Up) (id : ClientId) (c : Client) → Known log ups id c → Known log ups id (started_again id c)
+again log ups id c k = by (nat_lt c.session.incarnation greatest_number) where
+  by : (b : Bool) → Known log ups id (if b then start id (c.session.incarnation + 1) else c)
+  by true = fresh log ups id c k
   by false = k
 
-quieted : (ups : List Up) (id : ClientId) (c : Client) → Known ups id c → Known ups id (record c { notices = [] })
-quieted ups id c k = record {
+quieted : (log : Log) (ups : List Up) (id : ClientId) (c : Client) → Known log ups id c → Known log ups id (record c { notices = [] })
+quieted log ups id c k = record {
   incarnation = k.incarnation;
   steps = k.steps ++ hands_out_notices ∷ [];
   ran = run_then (start id k.incarnation) k.steps (hands_out_notices ∷ []) ∙ ap (λ x. run x (hands_out_notices ∷ [])) k.ran;
@@ -326,7 +469,19 @@ quieted ups id c k = record {
   online = k.online;
   opening = k.opening;
   known = k.known;
+  messages = All-append MayHappen k.steps (hands_out_notices ∷ []) k.messages (All-cons MayHappen hands_out_notices [] tt (All-nil MayHappen));
+  few = k.few;
+  faith = λ p. subst (Faith (entries log) (record c { notices = [] }) _ p) (sym (shape p)) (subst (λ l. Faith (entries log) (record c { notices = [] }) l p (kept_for p c (tr p))) (sym same) (told p));
 } where
+  tr : Path → Trail
+  tr p = trail p (start id k.incarnation) nothing k.steps
+
+  shape : (p : Path) → trail p (start id k.incarnation) nothing (k.steps ++ hands_out_notices ∷ []) ≡ kept_for p c (tr p)
+  shape p = trail_then p (start id k.incarnation) nothing k.steps (hands_out_notices ∷ []) ∙ ap (λ x. trail p x (tr p) (hands_out_notices ∷ [])) k.ran
+
+  told : (p : Path) → Faith (entries log) (record c { notices = [] }) (list_of id k.incarnation k.steps) p (kept_for p c (tr p))
+  told p = let f = k.faith p in faith_noted (entries log) c (list_of id k.incarnation k.steps) p _ (faith_kept (entries log) c (list_of id k.incarnation k.steps) p (tr p) (record { seen = λ w. f.seen; live = λ g on w. f.live g }) f.asked)
+
   t : Made
   t = made (start id k.incarnation) none_made k.steps
 
@@ -334,8 +489,8 @@ quieted ups id c k = record {
   same = ap (λ (x : Made). x.messages) (made_then (start id k.incarnation) none_made k.steps (hands_out_notices ∷ []) ∙ ap (λ x. made x t (hands_out_notices ∷ [])) k.ran ∙ kept_if c (record c { notices = [] }) t (is_online c.phase) refl (λ e. e))
 
 -- what another client sent
-others : (ups new : List Up) (id other : ClientId) (c : Client) → ((m : Up) (q : ℕ) → Contains new m → q_in m ≡ Some q → (session_in m).client ≡ id) → (other ≡ id → ⊥) → Known ups other c → Known (ups ++ new) other c
-others ups new id other c from apart k = record {
+others : (log : Log) (ups new : List Up) (id other : ClientId) (c : Client) → ((m : Up) (q : ℕ) → Contains new m → q_in m ≡ Some q → (session_in m).client ≡ id) → (other ≡ id → ⊥) → Known log ups other c → Known log (ups ++ new) other c
+others log ups new id other c from apart k = record {
   incarnation = k.incarnation;
   steps = k.steps;
   ran = k.ran;
@@ -349,6 +504,9 @@ others ups new id other c from apart k = record {
   online = k.online;
   opening = λ e. let was = k.opening e in ((λ m q there has. was.0 m q (old m q there has.0 (ap (λ (s : SessionId). s.client) has.1 ∙ k.its)) has), was.1);
   known = λ m q there has its. k.known m q (old m q there has its) has its;
+  messages = k.messages;
+  few = k.few;
+  faith = k.faith;
 } where
   old : (m : Up) (q : ℕ) → Contains (ups ++ new) m → q_in m ≡ Some q → (session_in m).client ≡ other → Contains ups m
   old m q there has its = by (Contains-append_cases ups new m there) where
@@ -359,15 +517,15 @@ others ups new id other c from apart k = record {
 -- ---- worlds
 
 -- two packets of one session with one number are one message
-abbrev OneMessage : List Up → Type 0
+abbrev pub OneMessage : List Up → Type 0
 OneMessage ups = (m k : Up) (q : ℕ) → Contains ups m → Contains ups k → session_in m ≡ session_in k → q_in m ≡ Some q → q_in k ≡ Some q → m ≡ k
 
-record Numbered (w : World) : Type 0 where
+pub record Numbered (w : World) : Type 0 where
   pub one : OneMessage w.ups
-  pub clients : (id : ClientId) (c : Client) → IsClient w id c → Known w.ups id c
+  pub clients : (id : ClientId) (c : Client) → IsClient w id c → Known w.serving.history w.ups id c
 
-one_more : (ups : List Up) (id : ClientId) (d : Client) → OneMessage ups → Next ups id d → OneMessage (ups ++ d.sends)
-one_more ups id d one n m k q m_there k_there same mq kq = by (Contains-append_cases ups d.sends m m_there) (Contains-append_cases ups d.sends k k_there) where
+one_more : (log : Log) (ups : List Up) (id : ClientId) (d : Client) → OneMessage ups → Next log ups id d → OneMessage (ups ++ d.sends)
+one_more log ups id d one n m k q m_there k_there same mq kq = by (Contains-append_cases ups d.sends m m_there) (Contains-append_cases ups d.sends k k_there) where
   both : session_in m ≡ n.later.session → m ≡ k
   both its = listed_once n.later.session _ m k q n.later.listed (n.later.complete m q m_there (mq, its)) (n.later.complete k q k_there (kq, sym same ∙ its)) mq kq
 
@@ -385,75 +543,73 @@ tie Equal h = refl
 tie Greater h = absurd (true≢false (sym h))
 
 -- the client with the id became d; what holds of it, and of the others as they were, holds of all
-put_known : (ups : List Up) (clients : Clients) (id : ClientId) (d : Client) → Known ups id d → ((other : ClientId) (c : Client) → (other ≡ id → ⊥) → find client_cmp other clients ≡ Some c → Known ups other c)
-    → (other : ClientId) (c : Client) → find client_cmp other (put client_cmp id d clients) ≡ Some c → Known ups other c
-put_known ups clients id d here rest other c found = by (eq_by_cmp client_cmp other id) refl where
-  by : (b : Bool) → eq_by_cmp client_cmp other id ≡ b → Known ups other c
+put_known : (log : Log) (ups : List Up) (clients : Clients) (id : ClientId) (d : Client) → Known log ups id d → ((other : ClientId) (c : Client) → (other ≡ id → ⊥) → find client_cmp other clients ≡ Some c → Known log ups other c)
+    → (other : ClientId) (c : Client) → find client_cmp other (put client_cmp id d clients) ≡ Some c → Known log ups other c
+put_known log ups clients id d here rest other c found = by (eq_by_cmp client_cmp other id) refl where
+  by : (b : Bool) → eq_by_cmp client_cmp other id ≡ b → Known log ups other c
   by true e =
       let same = clients_apart other id (tie (client_cmp other id) e) in
       let is = client_is d c (sym (find-put client_cmp clients_total other id d clients ∙ ap (λ x. cond x (Some d) (find client_cmp other clients)) e) ∙ found) in
-      subst (Known ups other) is (subst (λ x. Known ups x d) (sym same) here)
+      subst (Known log ups other) is (subst (λ x. Known log ups x d) (sym same) here)
   by false e = rest other c (λ same. true≢false (sym (ap is_eq (tied_itself clients_total id)) ∙ ap (λ x. eq_by_cmp client_cmp x id) (sym same) ∙ e)) (sym (find-put client_cmp clients_total other id d clients ∙ ap (λ x. cond x (Some d) (find client_cmp other clients)) e) ∙ found)
 
-becomes_numbered : (w : World) (id : ClientId) (c : Client) (s : Step) → Numbered w → IsClient w id c → Moves c (after c s) → Numbered (becomes w id (after c s))
-becomes_numbered w id c s h there moves = record {
-  one = one_more w.ups id d h.one n;
-  clients = put_known (w.ups ++ d.sends) w.clients id (handed_out d) n.later (λ other x apart found. others w.ups d.sends id other x (λ m q in_new has. ap (λ (y : SessionId). y.client) (n.new m q in_new has) ∙ n.later.owner) apart (h.clients other x found));
+pub becomes_numbered : (w : World) (id : ClientId) (c : Client) (s : Step) → IsLegal w.serving.history → ((i : ℕ) (e : Entry) → slice_get (entries w.serving.history) i ≡ Some e → IsSent w.ups e) → Heard w.serving.history s → Numbered w → IsClient w id c → Moves c (after c s) → Numbered (becomes w id (after c s))
+becomes_numbered w id c s legal came heard h there moves = record {
+  one = one_more w.serving.history w.ups id d h.one n;
+  clients = put_known w.serving.history (w.ups ++ d.sends) w.clients id (handed_out d) n.later (λ other x apart found. others w.serving.history w.ups d.sends id other x (λ m q in_new has. ap (λ (y : SessionId). y.client) (n.new m q in_new has) ∙ n.later.owner) apart (h.clients other x found));
 } where
   d : Client
   d = after c s
 
-  n : Next w.ups id d
-  n = step_known w.ups id c s (h.clients id c there) moves
+  n : Next w.serving.history w.ups id d
+  n = step_known w.serving.history legal w.ups came id c s heard (h.clients id c there) moves
 
-puts_numbered : (w : World) (id : ClientId) (d : Client) → Numbered w → Known w.ups id d → Numbered (record w { clients = put client_cmp id d w.clients })
-puts_numbered w id d h here = record { one = h.one; clients = put_known w.ups w.clients id d here (λ other x apart found. h.clients other x found) }
+puts_numbered : (w : World) (id : ClientId) (d : Client) → Numbered w → Known w.serving.history w.ups id d → Numbered (record w { clients = put client_cmp id d w.clients })
+puts_numbered w id d h here = record { one = h.one; clients = put_known w.serving.history w.ups w.clients id d here (λ other x apart found. h.clients other x found) }
 
-step_numbered : (w : World) (e : Event) (v : World) → Numbered w → IsStep w e v → Numbered v
-step_numbered w (event.Call id k) v h is = subst Numbered (sym is.after) (subst (λ d. Numbered (becomes w id d)) made_it (becomes_numbered w id is.client (calls k) h is.there moves)) where
-  made_it : after is.client (calls k) ≡ after_call is.client k
-  made_it = ap (λ o. if is_none o then after_call is.client k else is.client) is.accepted
+pub again_numbered : (w : World) (id : ClientId) (c : Client) → Numbered w → IsClient w id c → Numbered (record w { clients = put client_cmp id (started_again id c) w.clients })
+again_numbered w id c h there = puts_numbered w id (started_again id c) h (again w.serving.history w.ups id c (h.clients id c there))
 
-  moves : Moves is.client (after is.client (calls k))
-  moves = subst (Moves is.client) (sym made_it) (call_stays is.client k)
-step_numbered w (event.Up packet now e) v h is = subst Numbered (sym is.2) (record { one = h.one; clients = h.clients })
-step_numbered w (event.Down packet) v h is = let n = becomes_numbered w is.session.client is.client (receives is.message) h is.there (inl (receive_stays is.client is.message)) in subst Numbered (sym is.after) (record { one = n.one; clients = n.clients })
-step_numbered w (event.Loss id now) v h is = subst Numbered (sym is.1) (record { one = h.one; clients = h.clients })
-step_numbered w (event.Tick now) v h is = subst Numbered (sym is) (record { one = h.one; clients = h.clients })
-step_numbered w (event.RestartClient id) v h is = subst Numbered (sym is.after) (puts_numbered w id (started_again id is.client) h (again w.ups id is.client (h.clients id is.client is.there)))
-step_numbered w (event.RestartServer now) v h is = subst Numbered (sym is.2) (record { one = h.one; clients = h.clients })
+pub quiet_numbered : (w : World) (id : ClientId) (c : Client) → Numbered w → IsClient w id c → Numbered (record w { clients = put client_cmp id (record c { notices = [] }) w.clients })
+quiet_numbered w id c h there = puts_numbered w id (record c { notices = [] }) h (quieted w.serving.history w.ups id c (h.clients id c there))
 
-stop_numbered : (w : World) (e : Event) (v : World) → Numbered w → IsStop w e v → Numbered v
-stop_numbered w (event.Call id k) v h is = absurd is
-stop_numbered w (event.Up packet now e) v h is = subst Numbered (sym is.2) (record { one = h.one; clients = h.clients })
-stop_numbered w (event.Down packet) v h is = absurd is
-stop_numbered w (event.Loss id now) v h is = subst Numbered (sym is.1) (record { one = h.one; clients = h.clients })
-stop_numbered w (event.Tick now) v h is = subst Numbered (sym is) (record { one = h.one; clients = h.clients })
-stop_numbered w (event.RestartClient id) v h is = absurd is
-stop_numbered w (event.RestartServer now) v h is = absurd is
+-- the log grows
+known_front : (log later : Log) (more : List Entry) (ups : List Up) (id : ClientId) (c : Client) → entries later ≡ entries log ++ more → Known log ups id c → Known later ups id c
+known_front log later more ups id c grown k = record {
+  incarnation = k.incarnation;
+  steps = k.steps;
+  ran = k.ran;
+  none = k.none;
+  its = k.its;
+  session = k.session;
+  owner = k.owner;
+  listed = k.listed;
+  within = k.within;
+  complete = k.complete;
+  online = k.online;
+  opening = k.opening;
+  known = k.known;
+  messages = k.messages;
+  few = λ on. let was = k.few on in let longer = stream_longer c.session (entries log) more in subst (λ l. c.taken ≤ length (stream c.session l)) (sym grown) (omega (arith, was, longer));
+  faith = λ p. subst (λ l. Faith l c (list_of id k.incarnation k.steps) p (trail p (start id k.incarnation) nothing k.steps)) (sym grown) (faith_front (entries log) more c _ p _ k.few (k.faith p));
+}
 
-refused_numbered : (w : World) (e : Event) (v : World) (f : WorldFault) → Numbered w → IsRefused w e v f → Numbered v
-refused_numbered w e v fault.Memory h (inl is) = subst Numbered (sym is) h
-refused_numbered w e v fault.Memory h (inr is) = stop_numbered w e v h is
-refused_numbered w e v fault.NoSuch h is = subst Numbered (sym is.0) h
-refused_numbered w e v (fault.Client f) h is = subst Numbered (sym is.0) h
+pub grown_numbered : (w : World) (v : Served) (more : List Entry) → entries v.history ≡ entries w.serving.history ++ more → Numbered w → Numbered (record w { serving = v })
+grown_numbered w v more grown h = record { one = h.one; clients = λ id c there. known_front w.serving.history v.history more w.ups id c grown (h.clients id c there) }
 
-occurs_numbered : (w : World) (o : Occurrence) (v : World) → Numbered w → Occurs w o v → Numbered v
-occurs_numbered w (happens e) v h (inl is) = step_numbered w e v h is
-occurs_numbered w (happens e) v h (inr is) = refused_numbered w e v is.0 h is.1
-occurs_numbered w (hands_out id) v h (inl is) = subst Numbered (sym is) h
-occurs_numbered w (hands_out id) v h (inr is) = subst Numbered (sym is.2) (puts_numbered w id (record is.0 { notices = [] }) h (quieted w.ups id is.0 (h.clients id is.0 is.1)))
+-- ---- what is shown
 
-passes_numbered : (w : World) (occurrences : List Occurrence) (v : World) → Numbered w → Passes w occurrences v → Numbered v
-passes_numbered w [] v h is = subst Numbered (sym is) h
-passes_numbered w (o ∷ later) v h is = passes_numbered is.0 later v (occurs_numbered w o is.0 h is.1) is.2
+pub shown_true : (w : World) (id : ClientId) (c : Client) → Numbered w → IsClient w id c → (p : Path) (z : ℕ) (v : Rows Scalar) → view p c ≡ Some (z, v) → (z ≤ length (entries w.serving.history)) × (v ≡ value_at p (tree (take z (entries w.serving.history))))
+shown_true w id c h there p z v shows =
+    let k = h.clients id c there in
+    (k.faith p).seen z v (sym (views_hold id k.incarnation p k.steps k.messages) ∙ ap (view p) k.ran ∙ shows)
 
 -- ---- a new world
 
 nothing_in : (m : Up) → Contains [] m → ⊥
 nothing_in m (k, less, is) = omega (arith, less)
 
-first_known : (id : ClientId) → Known [] id (start id 1)
+first_known : (id : ClientId) → Known [] [] id (start id 1)
 first_known id = record {
   incarnation = 1;
   steps = [];
@@ -468,29 +624,19 @@ first_known id = record {
   online = λ e. absurd (true≢false (sym e));
   opening = λ e. absurd (true≢false (sym e));
   known = λ m q there has its. absurd (nothing_in m there);
+  messages = All-nil MayHappen;
+  few = λ e. absurd (true≢false (sym e));
+  faith = faith_start [] id 1;
 }
 
-joined_known : (clients : Clients) (ids : List ClientId) → ((id : ClientId) (c : Client) → find client_cmp id clients ≡ Some c → Known [] id c) → (id : ClientId) (c : Client) → find client_cmp id (fold joined clients ids) ≡ Some c → Known [] id c
+joined_known : (clients : Clients) (ids : List ClientId) → ((id : ClientId) (c : Client) → find client_cmp id clients ≡ Some c → Known [] [] id c) → (id : ClientId) (c : Client) → find client_cmp id (fold joined clients ids) ≡ Some c → Known [] [] id c
 joined_known clients [] h = h
-joined_known clients (x ∷ ids) h = joined_known (joined clients x) ids (put_known [] clients x (start x 1) (first_known x) (λ other c apart found. h other c found))
+joined_known clients (x ∷ ids) h = joined_known (joined clients x) ids (put_known [] [] clients x (start x 1) (first_known x) (λ other c apart found. h other c found))
 
-new_numbered : (ids : List ClientId) → Numbered (new_world ids)
+pub new_numbered : (ids : List ClientId) → Numbered (new_world ids)
 new_numbered ids = record { one = λ m k q x y same mq kq. absurd (nothing_in m x); clients = joined_known [] ids (λ id c found. absurd (nobody c found)) } where
   nobody : (c : Client) → None ≡ Some c → ⊥
   nobody c e = grind arith
 
-item_there : (xs : List Up) (i : ℕ) (m : Up) → slice_get xs i ≡ Some m → Contains xs m
-item_there [] i m get = absurd (none_or_some m get)
-item_there (x ∷ xs) zero m get = (0, omega arith, up_is x m get)
-item_there (x ∷ xs) (suc i) m get = behind (item_there xs i m get) where
-  behind : Contains xs m → Contains (x ∷ xs) m
-  behind (k, less, is) = (suc k, omega (arith, less), is)
-
-packet_there : (ups : List Up) (m : Up) → IsPacket ups m → Contains ups m
-packet_there ups m (zero, get) = absurd (none get) where
-  none : None ≡ Some m → ⊥
-  none e = grind arith
-packet_there ups m (suc i, get) = item_there ups i m get
-
-pub packets_numbered : (ids : List ClientId) (occurrences : List Occurrence) (v : World) → Passes (new_world ids) occurrences v → IsNumbered v.ups
-packets_numbered ids occurrences v passes m k q x y = (passes_numbered (new_world ids) occurrences v (new_numbered ids) passes).one m k q (packet_there v.ups m x) (packet_there v.ups k y)
+pub packets_numbered : (w : World) → Numbered w → IsNumbered w.ups
+packets_numbered w h m k q x y = h.one m k q (packet_there w.ups m x) (packet_there w.ups k y)

@@ -1,18 +1,15 @@
 -- Whatever happens to a new world, it is safe.
-use Rattle.std.proofs.Common.{map, refl, sym, ◌∙◌, ap, subst, ◌≡◌, ℕ, zero, suc, List, [], ◌∷◌, ◌++◌, Bool, true, false, cond, not, ◌&&◌, inl, inr, Option, Some, None, arith, unwrap_or, append_assoc, append-nil}
+use Rattle.std.proofs.Common.{refl, sym, ◌∙◌, ap, subst, ◌≡◌, ℕ, zero, suc, List, [], ◌∷◌, ◌++◌, Bool, true, false, cond, not, ◌&&◌, inl, inr, Option, Some, None, arith, unwrap_or, append_assoc, append-nil}
 use Rattle.std.specs.List.{AllByRecursion}
 use Rattle.pres_ids.specs.declared.id.SessionId.{SessionId}
 use Rattle.pres_ids.specs.Ids.{ClientId}
-use Rattle.pres_write.specs.declared.outcome.Kept.{Kept}
 use Rattle.pres_wire.specs.declared.up.Up.{Up}
 use Rattle.pres_wire.specs.declared.down.Down.{Down}
 use Rattle.pres_wire.specs.declared.down.Code.{Code}
 use Rattle.pres_wire.specs.declared.down.Code.TheVariants as code
-use Rattle.pres_wire.specs.declared.down.Down.TheVariants.{Armed, Reply}
 use Rattle.pres_log.specs.declared.entry.Entry.{Entry}
-use Rattle.pres_log.specs.declared.entry.Entry.TheVariants as entry
 use Rattle.pres_log.specs.Faults.{code_of}
-use Rattle.pres_log.specs.Logs.{Stands, Log, entries, item_at}
+use Rattle.pres_log.specs.Logs.{Log, entries, item_at}
 use Rattle.pres_log.proofs.Entries.{entries-push}
 use Rattle.pres_server.specs.declared.input.Input.{Input}
 use Rattle.pres_server.specs.declared.input.Input.TheVariants as input
@@ -32,25 +29,23 @@ use Rattle.pres_world.specs.declared.event.Event.TheVariants as event
 use Rattle.pres_world.specs.declared.fault.WorldFault.{WorldFault}
 use Rattle.pres_world.specs.declared.fault.WorldFault.TheVariants as fault
 use Rattle.pres_world.specs.Members.{acknowledged, is_fault}
-use Rattle.pres_world.specs.Safe.{Occurrence, happens, hands_out, Occurs, Passes, IsSent, StandsAs, StandsArmed, StaysSafe, IsSafe}
+use Rattle.pres_world.specs.Safe.{IsSent}
 use Rattle.pres_world.specs.Served.{Served, fault_for, turned, served, served_by, lost, EndsAll, IsRestarted}
-use Rattle.pres_world.specs.Worlds.{World, IsStep, IsStop, IsRefused, Reaches, becomes, new_world}
-use Rattle.pres_world.proofs.Numbered.{packets_numbered}
-use Rattle.pres_world.proofs.Backed.{IsWrite, IsArmed, all_front, all_into, all_at, sure, contained}
+use Rattle.pres_world.specs.Worlds.{World, IsStep, IsStop, IsRefused, becomes, new_world}
+use Rattle.pres_world.proofs.Backed.{all_front, all_into, all_at, sure}
 use Rattle.pres_world.proofs.Told.{Vouched, vouched_front, answers_vouched}
 use Rattle.pres_world.proofs.Sent.{ComesFrom, made_sent, sent_front}
-use Rattle.pres_world.proofs.Orderly.{writes_stand, ends_stand, cancels_undone}
 
 -- ---- the server's part
 
 -- the history is legal and the server's, and what went out says of writes and of actions what is so
-record Sound (w : Served) : Type 0 where
+pub record Sound (w : Served) : Type 0 where
   pub legal : IsLegal w.history
   pub its_log : (s : State) → w.server ≡ Some s → s.log ≡ w.history
   pub downs : AllByRecursion (Vouched (entries w.history)) w.downs
 
 -- it is so afterwards, and the history has more entries, which were made of what was sent
-record Grows (ups : List Up) (w v : Served) : Type 0 where
+pub record Grows (ups : List Up) (w v : Served) : Type 0 where
   pub sound : Sound v
   pub more : List Entry
   pub grown : entries v.history ≡ entries w.history ++ more
@@ -123,13 +118,13 @@ turned_grows ups w s i now e from h is = by (turn s i now) refl e where
   by (refused f) k ending.Stopped = stays ups w _ [] h is (λ t x. absurd (none_some t x)) (sym (append-nil w.downs)) tt
   by (refused f) k ending.Refused = stays ups w _ (fault_for (heard_from i) (code_of f)) h is (λ t x. its s t x) refl (fault_backed (entries w.history) (heard_from i) (code_of f))
 
-served_grows : (ups : List Up) (w : Served) (i : Input) (now : ℕ) (e : Ending) → ComesFrom ups i → Sound w → Grows ups w (served w i now e)
+pub served_grows : (ups : List Up) (w : Served) (i : Input) (now : ℕ) (e : Ending) → ComesFrom ups i → Sound w → Grows ups w (served w i now e)
 served_grows ups w i now e from h = by w.server refl where
   by : (o : Option State) → w.server ≡ o → Grows ups w (served_by o w i now e)
   by None k = same ups w h
   by (Some s) k = turned_grows ups w s i now e from h (h.its_log s k)
 
-lost_grows : (ups : List Up) (found : List SessionId) (w : Served) (now : ℕ) (e : Ending) → Sound w → Grows ups w (lost found w now e)
+pub lost_grows : (ups : List Up) (found : List SessionId) (w : Served) (now : ℕ) (e : Ending) → Sound w → Grows ups w (lost found w now e)
 lost_grows ups [] w now e h = same ups w h
 lost_grows ups (s ∷ more) w now e h = served_grows ups w (input.Lost s) now e tt h
 
@@ -149,7 +144,7 @@ ended_longer ups now (c ∷ cs) s t legal h =
     let rest = ended_longer ups now cs (state_after s m h.0) t (legal_after s.log batch legal follows) h.3 in
     record { legal = rest.legal; more = h.0 ++ rest.more; grown = rest.grown ∙ ap (λ l. l ++ rest.more) (entries-push s.log batch) ∙ append_assoc (entries s.log) h.0 rest.more; sent = all_front (IsSent ups) h.0 rest.more (made_sent ups s (input.Restart c) now h.0 tt h.2) rest.sent }
 
-restarted_grows : (ups : List Up) (w v : Served) (now : ℕ) → Sound w → IsRestarted w now v → Grows ups w v
+pub restarted_grows : (ups : List Up) (w v : Served) (now : ℕ) → Sound w → IsRestarted w now v → Grows ups w v
 restarted_grows ups w v now h k =
     let longer = ended_longer ups now k.0 (made_from w.history) k.1 h.legal k.2 in
     subst (Grows ups w) (sym k.3) (record {
@@ -165,12 +160,12 @@ restarted_grows ups w v now h k =
 
 -- ---- worlds
 
-record Honest (w : World) : Type 0 where
+pub record Honest (w : World) : Type 0 where
   pub sound : Sound w.serving
   pub acks : AllByRecursion (Vouched (entries w.serving.history)) w.acks
   pub sent : AllByRecursion (IsSent w.ups) (entries w.serving.history)
 
-honest_by : (w : World) (v : Served) → Honest w → Grows w.ups w.serving v → Honest (record w { serving = v })
+pub honest_by : (w : World) (v : Served) → Honest w → Grows w.ups w.serving v → Honest (record w { serving = v })
 honest_by w v h g = record {
   sound = g.sound;
   acks = subst (λ l. AllByRecursion (Vouched l) w.acks) (sym g.grown) (all_into (Vouched (entries w.serving.history)) (Vouched (entries w.serving.history ++ g.more)) w.acks (vouched_front (entries w.serving.history) g.more) h.acks);
@@ -181,13 +176,13 @@ honest_by w v h g = record {
 becomes_honest : (w : World) (id : ClientId) (c : Client) → Honest w → Honest (becomes w id c)
 becomes_honest w id c h = record { sound = h.sound; acks = h.acks; sent = all_into (IsSent w.ups) (IsSent (w.ups ++ c.sends)) (entries w.serving.history) (sent_front w.ups c.sends) h.sent }
 
-item_backed : (es : List Entry) (ms : List Down) (k : ℕ) (m : Down) → AllByRecursion (Vouched es) ms → item_at ms k ≡ Some m → Vouched es m
+pub item_backed : (es : List Entry) (ms : List Down) (k : ℕ) (m : Down) → AllByRecursion (Vouched es) ms → item_at ms k ≡ Some m → Vouched es m
 item_backed es ms zero m h get = absurd (none get) where
   none : None ≡ Some m → ⊥
   none e = grind arith
 item_backed es ms (suc i) m h get = all_at (Vouched es) ms i m h get
 
-item_sent : (ups : List Up) (es : List Entry) (k : ℕ) (e : Entry) → AllByRecursion (IsSent ups) es → item_at es k ≡ Some e → IsSent ups e
+pub item_sent : (ups : List Up) (es : List Entry) (k : ℕ) (e : Entry) → AllByRecursion (IsSent ups) es → item_at es k ≡ Some e → IsSent ups e
 item_sent ups es zero e h get = absurd (none get) where
   none : None ≡ Some e → ⊥
   none x = grind arith
@@ -199,7 +194,7 @@ ack_backed es c m h = by (accepts c m && not (is_fault m)) where
   by true = (h, tt)
   by false = tt
 
-step_honest : (w : World) (e : Event) (v : World) → Honest w → IsStep w e v → Honest v
+pub step_honest : (w : World) (e : Event) (v : World) → Honest w → IsStep w e v → Honest v
 step_honest w (event.Call id k) v h is = subst Honest (sym is.after) (becomes_honest w id (after_call is.client k) h)
 step_honest w (event.Up packet now e) v h is = subst Honest (sym is.2) (honest_by w _ h (served_grows w.ups w.serving (input.Up is.0) now e (packet, is.1) h.sound))
 step_honest w (event.Down packet) v h is = subst Honest (sym is.after) (record {
@@ -212,7 +207,7 @@ step_honest w (event.Tick now) v h is = subst Honest (sym is) (honest_by w _ h (
 step_honest w (event.RestartClient id) v h is = subst Honest (sym is.after) (record { sound = h.sound; acks = h.acks; sent = h.sent })
 step_honest w (event.RestartServer now) v h is = subst Honest (sym is.2) (honest_by w is.0 h (restarted_grows w.ups w.serving is.0 now h.sound is.1))
 
-stop_honest : (w : World) (e : Event) (v : World) → Honest w → IsStop w e v → Honest v
+pub stop_honest : (w : World) (e : Event) (v : World) → Honest w → IsStop w e v → Honest v
 stop_honest w (event.Call id k) v h is = absurd is
 stop_honest w (event.Up packet now e) v h is = subst Honest (sym is.2) (honest_by w _ h (served_grows w.ups w.serving (input.Up is.0) now ending.Stopped (packet, is.1) h.sound))
 stop_honest w (event.Down packet) v h is = absurd is
@@ -221,73 +216,11 @@ stop_honest w (event.Tick now) v h is = subst Honest (sym is) (honest_by w _ h (
 stop_honest w (event.RestartClient id) v h is = absurd is
 stop_honest w (event.RestartServer now) v h is = absurd is
 
-refused_honest : (w : World) (e : Event) (v : World) (f : WorldFault) → Honest w → IsRefused w e v f → Honest v
+pub refused_honest : (w : World) (e : Event) (v : World) (f : WorldFault) → Honest w → IsRefused w e v f → Honest v
 refused_honest w e v fault.Memory h (inl is) = subst Honest (sym is) h
 refused_honest w e v fault.Memory h (inr is) = stop_honest w e v h is
 refused_honest w e v fault.NoSuch h is = subst Honest (sym is.0) h
 refused_honest w e v (fault.Client f) h is = subst Honest (sym is.0) h
 
-occurs_honest : (w : World) (o : Occurrence) (v : World) → Honest w → Occurs w o v → Honest v
-occurs_honest w (happens e) v h (inl is) = step_honest w e v h is
-occurs_honest w (happens e) v h (inr is) = refused_honest w e v is.0 h is.1
-occurs_honest w (hands_out id) v h (inl is) = subst Honest (sym is) h
-occurs_honest w (hands_out id) v h (inr is) = subst Honest (sym is.2) (record { sound = h.sound; acks = h.acks; sent = h.sent })
-
-passes_honest : (w : World) (occurrences : List Occurrence) (v : World) → Honest w → Passes w occurrences v → Honest v
-passes_honest w [] v h is = subst Honest (sym is) h
-passes_honest w (o ∷ later) v h is = passes_honest is.0 later v (occurs_honest w o is.0 h is.1) is.2
-
-new_honest : (ids : List ClientId) → Honest (new_world ids)
+pub new_honest : (ids : List ClientId) → Honest (new_world ids)
 new_honest ids = record { sound = record { legal = tt; its_log = λ t x. its _ t x; downs = tt }; acks = tt; sent = tt }
-
-stands_as : (w : World) (s : SessionId) (n done : ℕ) (out : Kept) → Honest w → IsWrite (entries w.serving.history) s n done out → StandsAs w s n done out
-stands_as w s n done out honest h = record {
-  session = h.session;
-  q = h.q;
-  op = h.op;
-  outcome = h.outcome;
-  stands = h.stands;
-  sent = item_sent w.ups (entries w.serving.history) done (entry.Op h.session h.q n h.op h.outcome) honest.sent h.stands;
-  client = h.client;
-  kept = h.kept;
-}
-
-stands_armed : (w : World) (s : SessionId) (z q : ℕ) → Honest w → IsArmed (entries w.serving.history) s z q → StandsArmed w s z q
-stands_armed w s z q honest (inl h) =
-    let sent = item_sent w.ups (entries w.serving.history) z (entry.Left s q h.0) honest.sent h.1 in
-    inl (sent.0, sent.1, subst (λ x. Stands w.serving.history z (entry.Left s q x)) sent.2 h.1)
-stands_armed w s z q honest (inr h) = inr (h.0, item_sent w.ups (entries w.serving.history) z (entry.Cancelled s q h.0) honest.sent h.1, h.1)
-
-pub stays_safe : (ids : List ClientId) (occurrences : List Occurrence) (v : World) → StaysSafe ids occurrences v
-stays_safe ids occurrences v passes =
-    let h = passes_honest (new_world ids) occurrences v (new_honest ids) passes in
-    record {
-      acknowledged = λ s r z q n done out c. stands_as v s n done out h (contained (Vouched (entries v.serving.history)) v.acks (Reply s r z q n done out) h.acks c).0;
-      armed = λ s r z q c. stands_armed v s z q h (contained (Vouched (entries v.serving.history)) v.acks (Armed s r z q) h.acks c).0;
-      told = λ m c. (contained (Vouched (entries v.serving.history)) v.acks m h.acks c).1;
-      sent = λ k e at. item_sent v.ups (entries v.serving.history) k e h.sent at;
-      numbered = packets_numbered ids occurrences v passes;
-      writes = writes_stand v.serving.history h.sound.legal;
-      ends = ends_stand v.serving.history h.sound.legal;
-      cancels = cancels_undone v.serving.history h.sound.legal;
-    }
-
--- ---- runs
-
-passes_then : (u w v : World) (xs ys : List Occurrence) → Passes u xs w → Passes w ys v → Passes u (xs ++ ys) v
-passes_then u w v [] ys h k = subst (λ x. Passes x ys v) h k
-passes_then u w v (o ∷ xs) ys h k = (h.0, h.1, passes_then h.0 w v xs ys h.2 k)
-
-reaches_passes : (w v : World) (events : List Event) → Reaches w events v → Passes w (map happens events) v
-reaches_passes w v [] h = h
-reaches_passes w v (e ∷ later) h = (h.0, inl h.1, reaches_passes h.0 v later h.2)
-
--- events that happen one after the other leave a world safe
-pub safe_behind : (ids : List ClientId) (before : List Occurrence) (done : List Event) (w v : World) → Passes (new_world ids) before w → Reaches w done v → IsSafe v
-safe_behind ids before done w v h k = stays_safe ids (before ++ map happens done) v (passes_then (new_world ids) w v before (map happens done) h (reaches_passes w v done k))
-
--- and so does one more that is refused
-pub safe_refused : (ids : List ClientId) (before : List Occurrence) (done : List Event) (w u v : World) (e : Event) (f : WorldFault) → Passes (new_world ids) before w → Reaches w done u → IsRefused u e v f → IsSafe v
-safe_refused ids before done w u v e f h k r =
-    stays_safe ids (before ++ (map happens done ++ happens e ∷ [])) v
-    (passes_then (new_world ids) w v before (map happens done ++ happens e ∷ []) h (passes_then w u v (map happens done) (happens e ∷ []) (reaches_passes w u done k) (v, inr (f, r), refl)))

@@ -1,5 +1,5 @@
 -- What holds of every world that is reached.
-use Rattle.std.specs.Prelude.{ℕ, ◌≡◌, ◌⊎◌, List, [], ◌∷◌, ◌++◌, Some, None}
+use Rattle.std.specs.Prelude.{ℕ, ◌≡◌, ◌≤◌, ◌⊎◌, length, take, List, [], ◌∷◌, ◌++◌, Some, None}
 use Rattle.std.specs.FinMap.Entries.{put}
 use Rattle.std.specs.List.{Contains}
 use Rattle.pres_ids.specs.declared.id.SessionId.{SessionId}
@@ -19,8 +19,10 @@ use Rattle.pres_wire.specs.declared.down.Down.{Down}
 use Rattle.pres_server.specs.Streams.{stream, welcome}
 use Rattle.pres_log.specs.declared.entry.Entry.{Entry}
 use Rattle.pres_log.specs.declared.entry.Entry.TheVariants as entry
-use Rattle.pres_log.specs.Logs.{Stands, entries, item_at}
-use Rattle.pres_client.specs.Clients.{State as Client}
+use Rattle.pres_log.specs.Logs.{Stands, entries, item_at, tree}
+use Rattle.pres_client.specs.Clients.{State as Client, view}
+use Rattle.pres_tree.specs.declared.scalar.Scalar.{Scalar}
+use Rattle.pres_tree.specs.Rows.{Rows, value_at}
 use Rattle.pres_world.specs.declared.event.Event.{Event}
 use Rattle.pres_world.specs.declared.fault.WorldFault.{WorldFault}
 use Rattle.pres_world.specs.Orderly.{WritesStand, EndsStand, CancelsStand}
@@ -94,17 +96,28 @@ IsTold es (Push s r z values) = item_at (stream s es) r ≡ Some (Push s r z val
 IsTold es (OffDone s r z q) = item_at (stream s es) r ≡ Some (OffDone s r z q)
 IsTold es (Fault session code) = Unit {0}
 
+-- what a client shows of a path, at the server's number z, is what stood there after z entries
+abbrev pub ViewsAreTrue : World → Type 0
+ViewsAreTrue w = (id : ClientId) (c : Client) → IsClient w id c → (p : Path) (z : ℕ) (v : Rows Scalar) → view p c ≡ Some (z, v) → (z ≤ length (entries w.serving.history)) × (v ≡ value_at p (tree (take z (entries w.serving.history))))
+
+-- two clients' values of one path with the same number are equal
+abbrev pub ViewsAgree : World → Type 0
+ViewsAgree w = (i j : ClientId) (c d : Client) → IsClient w i c → IsClient w j d → (p : Path) (z : ℕ) (u v : Rows Scalar) → view p c ≡ Some (z, u) → view p d ≡ Some (z, v) → u ≡ v
+
 -- Each write whose reply a client took stands where the reply says, as it was sent, and came out as the reply says. So
 -- does each action for a session's end, and each cancel, that was acknowledged. All that clients took is what the
--- history tells their sessions. All that stands there was sent, and a session's packets with one number are one
--- message. Each write stands once, in its client's order. And each session ends once, by all that is due and nothing
--- that was cancelled, before any entry of a later session of its client.
+-- history tells their sessions, and what they show of a path is what stood there at its number, so that two of them
+-- agree. All that stands there was sent, and a session's packets with one number are one message. Each write stands
+-- once, in its client's order. And each session ends once, by all that is due and nothing that was cancelled, before
+-- any entry of a later session of its client.
 pub record IsSafe (w : World) : Type 0 where
   pub acknowledged : (s : SessionId) (r z q n done : ℕ) (out : Kept) → Contains w.acks (Reply s r z q n done out) → StandsAs w s n done out
   pub armed : (s : SessionId) (r z q : ℕ) → Contains w.acks (Armed s r z q) → StandsArmed w s z q
   pub told : (m : Down) → Contains w.acks m → IsTold (entries w.serving.history) m
   pub sent : (k : ℕ) (e : Entry) → Stands w.serving.history k e → IsSent w.ups e
   pub numbered : IsNumbered w.ups
+  pub views : ViewsAreTrue w
+  pub agree : ViewsAgree w
   pub writes : WritesStand w.serving.history
   pub ends : EndsStand w.serving.history
   pub cancels : CancelsStand w.serving.history

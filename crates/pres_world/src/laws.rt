@@ -17,9 +17,10 @@ pub fn legal_logs_are_orderly()
     ensures cancels { (log : Log) → IsLegal log → CancelsStand log }
 {}
 
-/// Whatever happens to a new world, it is safe: each write whose reply a client took stands in the
-/// history, once, where the reply says, and came out as it says; each action for a session's end that
-/// was acknowledged stands there; and what was cancelled is in no plan that an end pays.
+/// Whatever happens to a new world, it is safe: what clients show is true, so that two of them agree;
+/// each write whose reply a client took stands in the history, once, where the reply says, and came
+/// out as it says; each action for a session's end that was acknowledged stands there; and what was
+/// cancelled is in no plan that an end pays.
 pub fn worlds_stay_safe()
     ensures { (ids : List ClientId) (occurrences : List Occurrence) (v : World)
         → StaysSafe ids occurrences v }

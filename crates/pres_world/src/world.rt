@@ -191,11 +191,12 @@ impl World {
     }
 
     /// The events, one after the other, up to the first that is refused. Whatever happened to a new
-    /// world before, it is safe then: each write whose reply a client took stands in the history, once,
-    /// where the reply says, in its client's order, and came out as it says; each action for a
-    /// session's end that was acknowledged stands there; and each session that ended did so once, by
-    /// all that was due and nothing that was cancelled, before any entry of a later session of its
-    /// client.
+    /// world before, it is safe then: what a client shows of a path at a number is what stood there
+    /// after so many entries, so two clients' values of one path with the same number are equal; each
+    /// write whose reply a client took stands in the history, once, where the reply says, in its
+    /// client's order, and came out as it says; each action for a session's end that was acknowledged
+    /// stands there as it was sent; and each session that ended did so once, by all that was due and
+    /// nothing that was cancelled, before any entry of a later session of its client.
     pub fn run(&mut self, events: Vec<Event>) -> Result<(), WorldFault>
         ensures ok { OnOk result (Reaches self.old events.items self.new) }
         ensures err { IfErr result (IsCutShort self.old events.items self.new) }

@@ -1,5 +1,5 @@
 use Rattle.pres_world.proofs.Reached.{one_more}
-use Rattle.pres_world.proofs.Safety.{safe_behind, safe_refused}
+use Rattle.pres_world.proofs.Whole.{safe_behind, safe_refused}
 use Rattle.pres_world.proofs.world.World.run.Goals as goal
 
 pub loop-event-preserved : goal.loop-event-preserved

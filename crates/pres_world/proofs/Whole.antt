@@ -1,0 +1,152 @@
+-- Whatever happens to a new world, it is safe.
+use Rattle.std.proofs.Common.{map, refl, sym, ◌∙◌, ap, subst, ◌≡◌, ℕ, zero, suc, List, [], ◌∷◌, ◌++◌, inl, inr, Some, slice_get, if◌then◌else◌}
+use Rattle.pres_ids.specs.declared.id.SessionId.{SessionId}
+use Rattle.pres_ids.specs.Ids.{ClientId}
+use Rattle.pres_write.specs.declared.outcome.Kept.{Kept}
+use Rattle.pres_wire.specs.declared.down.Down.{Down}
+use Rattle.pres_wire.specs.declared.down.Down.TheVariants.{Armed, Reply}
+use Rattle.pres_log.specs.declared.entry.Entry.{Entry}
+use Rattle.pres_log.specs.declared.entry.Entry.TheVariants as entry
+use Rattle.pres_log.specs.Logs.{Stands, Log, entries, item_at}
+use Rattle.pres_server.specs.declared.input.Input.TheVariants as input
+use Rattle.pres_server.specs.LegalLog.{IsLegal}
+use Rattle.pres_client.specs.Calls.{after_call}
+use Rattle.pres_world.specs.declared.event.Ending.TheVariants as ending
+use Rattle.pres_world.specs.declared.event.Event.{Event}
+use Rattle.pres_world.specs.declared.event.Event.TheVariants as event
+use Rattle.pres_world.specs.declared.fault.WorldFault.{WorldFault}
+use Rattle.pres_world.specs.declared.fault.WorldFault.TheVariants as fault
+use Rattle.pres_world.specs.Safe.{Occurrence, happens, hands_out, Occurs, Passes, IsSent, StandsAs, StandsArmed, StaysSafe, IsSafe, IsTold}
+use Rattle.pres_world.specs.Worlds.{World, IsStep, IsStop, IsRefused, Reaches, becomes, new_world}
+use Rattle.pres_world.proofs.Backed.{IsWrite, IsArmed, contained}
+use Rattle.pres_world.proofs.Told.{Vouched}
+use Rattle.pres_world.proofs.Orderly.{writes_stand, ends_stand, cancels_undone}
+use Rattle.pres_client.specs.Steps.{calls, receives, IsMessage}
+use Rattle.std.specs.Option.{is_none}
+use Rattle.pres_client.specs.Steps.{after}
+use Rattle.pres_world.proofs.Safety.{served_grows, lost_grows, restarted_grows, Honest, item_backed, item_sent, step_honest, refused_honest, new_honest}
+use Rattle.pres_world.proofs.Stays.{Moves, call_stays, receive_stays}
+use Rattle.pres_world.proofs.Snaps.{streamed}
+use Rattle.pres_wire.specs.declared.down.Down.TheVariants as down
+use Rattle.pres_server.specs.Streams.{stream}
+use Rattle.pres_world.proofs.Stands.{none_or_some}
+use Rattle.pres_world.proofs.Numbered.{Numbered, becomes_numbered, again_numbered, quiet_numbered, grown_numbered, shown_true, packets_numbered, new_numbered}
+
+pub record Whole (w : World) : Type 0 where
+  pub honest : Honest w
+  pub numbered : Numbered w
+
+made_of : (w : World) → Honest w → (i : ℕ) (e : Entry) → slice_get (entries w.serving.history) i ≡ Some e → IsSent w.ups e
+made_of w h i e get = item_sent w.ups (entries w.serving.history) (suc i) e h.sent get
+
+-- what the log tells is a message
+told_message : (log : Log) → IsLegal log → (m : Down) → IsTold (entries log) m → IsMessage m
+told_message log legal (down.Push s r z values) h = by r h where
+  by : (r : ℕ) → item_at (stream s (entries log)) r ≡ Some (down.Push s r z values) → IsMessage (down.Push s r z values)
+  by zero k = absurd (none_or_some _ k)
+  by (suc i) k = (streamed log legal s i _ k).2
+told_message log legal (down.Welcome s z ops) h = tt
+told_message log legal (down.Reply s r z q n done out) h = tt
+told_message log legal (down.Gone s r z why) h = tt
+told_message log legal (down.Fault session reason) h = tt
+told_message log legal (down.Armed s r z q) h = tt
+told_message log legal (down.Denied s r z q why) h = tt
+told_message log legal (down.Snap s r z q p v) h = tt
+told_message log legal (down.OffDone s r z q) h = tt
+
+step_numbered : (w : World) (e : Event) (v : World) → Whole w → IsStep w e v → Numbered v
+step_numbered w (event.Call id k) v h is = subst Numbered (sym is.after) (subst (λ d. Numbered (becomes w id d)) made_it (becomes_numbered w id is.client (calls k) h.honest.sound.legal (made_of w h.honest) tt h.numbered is.there moves)) where
+  made_it : after is.client (calls k) ≡ after_call is.client k
+  made_it = ap (λ o. if is_none o then after_call is.client k else is.client) is.accepted
+
+  moves : Moves is.client (after is.client (calls k))
+  moves = subst (Moves is.client) (sym made_it) (call_stays is.client k)
+step_numbered w (event.Up packet now e) v h is = let g = served_grows w.ups w.serving (input.Up is.0) now e (packet, is.1) h.honest.sound in subst Numbered (sym is.2) (grown_numbered w _ g.more g.grown h.numbered)
+step_numbered w (event.Down packet) v h is =
+    let told = (item_backed (entries w.serving.history) w.serving.downs packet is.message h.honest.sound.downs is.sent).1 in
+    let n = becomes_numbered w is.session.client is.client (receives is.message) h.honest.sound.legal (made_of w h.honest) (told, told_message w.serving.history h.honest.sound.legal is.message told) h.numbered is.there (inl (receive_stays is.client is.message)) in
+    subst Numbered (sym is.after) (record { one = n.one; clients = n.clients })
+step_numbered w (event.Loss id now) v h is = let g = lost_grows w.ups _ w.serving now ending.Answered h.honest.sound in subst Numbered (sym is.1) (grown_numbered w _ g.more g.grown h.numbered)
+step_numbered w (event.Tick now) v h is = let g = served_grows w.ups w.serving input.Tick now ending.Answered tt h.honest.sound in subst Numbered (sym is) (grown_numbered w _ g.more g.grown h.numbered)
+step_numbered w (event.RestartClient id) v h is = subst Numbered (sym is.after) (again_numbered w id is.client h.numbered is.there)
+step_numbered w (event.RestartServer now) v h is = let g = restarted_grows w.ups w.serving is.0 now h.honest.sound is.1 in subst Numbered (sym is.2) (grown_numbered w is.0 g.more g.grown h.numbered)
+
+stop_numbered : (w : World) (e : Event) (v : World) → Whole w → IsStop w e v → Numbered v
+stop_numbered w (event.Call id k) v h is = absurd is
+stop_numbered w (event.Up packet now e) v h is = let g = served_grows w.ups w.serving (input.Up is.0) now ending.Stopped (packet, is.1) h.honest.sound in subst Numbered (sym is.2) (grown_numbered w _ g.more g.grown h.numbered)
+stop_numbered w (event.Down packet) v h is = absurd is
+stop_numbered w (event.Loss id now) v h is = let g = lost_grows w.ups _ w.serving now ending.Stopped h.honest.sound in subst Numbered (sym is.1) (grown_numbered w _ g.more g.grown h.numbered)
+stop_numbered w (event.Tick now) v h is = let g = served_grows w.ups w.serving input.Tick now ending.Stopped tt h.honest.sound in subst Numbered (sym is) (grown_numbered w _ g.more g.grown h.numbered)
+stop_numbered w (event.RestartClient id) v h is = absurd is
+stop_numbered w (event.RestartServer now) v h is = absurd is
+
+refused_numbered : (w : World) (e : Event) (v : World) (f : WorldFault) → Whole w → IsRefused w e v f → Numbered v
+refused_numbered w e v fault.Memory h (inl is) = subst Numbered (sym is) h.numbered
+refused_numbered w e v fault.Memory h (inr is) = stop_numbered w e v h is
+refused_numbered w e v fault.NoSuch h is = subst Numbered (sym is.0) h.numbered
+refused_numbered w e v (fault.Client f) h is = subst Numbered (sym is.0) h.numbered
+
+occurs_whole : (w : World) (o : Occurrence) (v : World) → Whole w → Occurs w o v → Whole v
+occurs_whole w (happens e) v h (inl is) = record { honest = step_honest w e v h.honest is; numbered = step_numbered w e v h is }
+occurs_whole w (happens e) v h (inr is) = record { honest = refused_honest w e v is.0 h.honest is.1; numbered = refused_numbered w e v is.0 h is.1 }
+occurs_whole w (hands_out id) v h (inl is) = subst Whole (sym is) h
+occurs_whole w (hands_out id) v h (inr is) = subst Whole (sym is.2) (record { honest = record { sound = h.honest.sound; acks = h.honest.acks; sent = h.honest.sent }; numbered = quiet_numbered w id is.0 h.numbered is.1 })
+
+passes_whole : (w : World) (occurrences : List Occurrence) (v : World) → Whole w → Passes w occurrences v → Whole v
+passes_whole w [] v h is = subst Whole (sym is) h
+passes_whole w (o ∷ later) v h is = passes_whole is.0 later v (occurs_whole w o is.0 h is.1) is.2
+
+stands_as : (w : World) (s : SessionId) (n done : ℕ) (out : Kept) → Honest w → IsWrite (entries w.serving.history) s n done out → StandsAs w s n done out
+stands_as w s n done out honest h = record {
+  session = h.session;
+  q = h.q;
+  op = h.op;
+  outcome = h.outcome;
+  stands = h.stands;
+  sent = item_sent w.ups (entries w.serving.history) done (entry.Op h.session h.q n h.op h.outcome) honest.sent h.stands;
+  client = h.client;
+  kept = h.kept;
+}
+
+stands_armed : (w : World) (s : SessionId) (z q : ℕ) → Honest w → IsArmed (entries w.serving.history) s z q → StandsArmed w s z q
+stands_armed w s z q honest (inl h) =
+    let sent = item_sent w.ups (entries w.serving.history) z (entry.Left s q h.0) honest.sent h.1 in
+    inl (sent.0, sent.1, subst (λ x. Stands w.serving.history z (entry.Left s q x)) sent.2 h.1)
+stands_armed w s z q honest (inr h) = inr (h.0, item_sent w.ups (entries w.serving.history) z (entry.Cancelled s q h.0) honest.sent h.1, h.1)
+
+pub stays_safe : (ids : List ClientId) (occurrences : List Occurrence) (v : World) → StaysSafe ids occurrences v
+stays_safe ids occurrences v passes =
+    let whole = passes_whole (new_world ids) occurrences v (record { honest = new_honest ids; numbered = new_numbered ids }) passes in
+    let h = whole.honest in
+    record {
+      acknowledged = λ s r z q n done out c. stands_as v s n done out h (contained (Vouched (entries v.serving.history)) v.acks (Reply s r z q n done out) h.acks c).0;
+      armed = λ s r z q c. stands_armed v s z q h (contained (Vouched (entries v.serving.history)) v.acks (Armed s r z q) h.acks c).0;
+      told = λ m c. (contained (Vouched (entries v.serving.history)) v.acks m h.acks c).1;
+      sent = λ k e at. item_sent v.ups (entries v.serving.history) k e h.sent at;
+      numbered = packets_numbered v whole.numbered;
+      views = λ id c there p z x shows. shown_true v id c whole.numbered there p z x shows;
+      agree = λ i j c d c_there d_there p z x y c_shows d_shows. (shown_true v i c whole.numbered c_there p z x c_shows).1 ∙ sym (shown_true v j d whole.numbered d_there p z y d_shows).1;
+      writes = writes_stand v.serving.history h.sound.legal;
+      ends = ends_stand v.serving.history h.sound.legal;
+      cancels = cancels_undone v.serving.history h.sound.legal;
+    }
+
+-- ---- runs
+
+passes_then : (u w v : World) (xs ys : List Occurrence) → Passes u xs w → Passes w ys v → Passes u (xs ++ ys) v
+passes_then u w v [] ys h k = subst (λ x. Passes x ys v) h k
+passes_then u w v (o ∷ xs) ys h k = (h.0, h.1, passes_then h.0 w v xs ys h.2 k)
+
+reaches_passes : (w v : World) (events : List Event) → Reaches w events v → Passes w (map happens events) v
+reaches_passes w v [] h = h
+reaches_passes w v (e ∷ later) h = (h.0, inl h.1, reaches_passes h.0 v later h.2)
+
+-- events that happen one after the other leave a world safe
+pub safe_behind : (ids : List ClientId) (before : List Occurrence) (done : List Event) (w v : World) → Passes (new_world ids) before w → Reaches w done v → IsSafe v
+safe_behind ids before done w v h k = stays_safe ids (before ++ map happens done) v (passes_then (new_world ids) w v before (map happens done) h (reaches_passes w v done k))
+
+-- and so does one more that is refused
+pub safe_refused : (ids : List ClientId) (before : List Occurrence) (done : List Event) (w u v : World) (e : Event) (f : WorldFault) → Passes (new_world ids) before w → Reaches w done u → IsRefused u e v f → IsSafe v
+safe_refused ids before done w u v e f h k r =
+    stays_safe ids (before ++ (map happens done ++ happens e ∷ [])) v
+    (passes_then (new_world ids) w v before (map happens done ++ happens e ∷ []) h (passes_then w u v (map happens done) (happens e ∷ []) (reaches_passes w u done k) (v, inr (f, r), refl)))
