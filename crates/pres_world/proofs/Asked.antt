@@ -34,7 +34,7 @@ use Rattle.pres_client.proofs.Found.{watch_of-with, watch_of-without}
 use Rattle.pres_client.proofs.SentSteps.{made_messages}
 use Rattle.pres_world.proofs.Hears.{receive_hears, without_fewer}
 use Rattle.pres_world.proofs.Backed.{get_front, get_last}
-use Rattle.pres_world.proofs.Stands.{none_or_some, get_push, got_small}
+use Rattle.pres_world.proofs.Stands.{none_or_some, get_dropped, get_push, got_small}
 
 -- the message listens to the path, or no more
 abbrev pub ons : Path → Up → Bool
@@ -246,11 +246,6 @@ on_waits p s q n (x ∷ ms) (suc j) m get h = or_true (is_on p x) (on_waits p s 
   or_true : (a : Bool) → list_any (is_on p) ms ≡ true → (a || list_any (is_on p) ms) ≡ true
   or_true true e = refl
   or_true false e = e
-
-get_dropped : {A : Type 0} (h : ℕ) (xs : List A) (j : ℕ) → slice_get (drop h xs) j ≡ slice_get xs (h + j)
-get_dropped zero xs j = let e : j ≡ 0 + j = omega arith in ap (slice_get xs) e
-get_dropped (suc h) [] j = refl
-get_dropped (suc h) (x ∷ xs) j = let e : suc (h + j) ≡ suc h + j = omega arith in get_dropped h xs j ∙ ap (slice_get (x ∷ xs)) e
 
 -- behind a message whose answer is the next, and that no other listen to the path waits behind, none names the path
 pub accepted_last : (p : Path) (c : State) (ms : List Up) → drop c.heard ms ≡ outstanding c → is_last p (drop 1 c.queue) ≡ true → Asked ms p → Last ms p (c.heard + 1)

@@ -161,14 +161,22 @@ armed_front : (es more : List Entry) (s : SessionId) (z q : ℕ) → IsArmed es 
 armed_front es more s z q (inl h) = inl (h.0, item_front es more z _ h.1)
 armed_front es more s z q (inr h) = inr (h.0, item_front es more z _ h.1)
 
+-- message q of the session was its client's write n, and stands
+abbrev pub IsAsked : List Entry → SessionId → ℕ → ℕ → Type 0
+IsAsked es s q n = (z : ℕ) × (((op : Op) × (outcome : Outcome) × (item_at es z ≡ Some (entry.Op s q n op outcome))) ⊎ (item_at es z ≡ Some (entry.Again s q n)))
+
+asked_front : (es more : List Entry) (s : SessionId) (q n : ℕ) → IsAsked es s q n → IsAsked (es ++ more) s q n
+asked_front es more s q n (z, inl h) = (z, inl (h.0, h.1, item_front es more z _ h.2))
+asked_front es more s q n (z, inr h) = (z, inr (item_front es more z _ h))
+
 -- what a reply says of a write is so, and what an Armed says of an action
 abbrev pub Backed : List Entry → Down → Type 0
-Backed es (down.Reply s r z q n done out) = IsWrite es s n done out
+Backed es (down.Reply s r z q n done out) = IsWrite es s n done out × IsAsked es s q n
 Backed es (down.Armed s r z q) = IsArmed es s z q
 Backed es _ = Unit {0}
 
 pub backed_front : (es more : List Entry) (m : Down) → Backed es m → Backed (es ++ more) m
-backed_front es more (down.Reply s r z q n done out) h = write_front es more s n done out h
+backed_front es more (down.Reply s r z q n done out) h = (write_front es more s n done out h.0, asked_front es more s q n h.1)
 backed_front es more (down.Welcome s z ops) h = tt
 backed_front es more (down.Gone s r z why) h = tt
 backed_front es more (down.Fault session reason) h = tt
@@ -186,16 +194,16 @@ push_says : (all : List Entry) (s : SessionId) (now : List Entry) (paths : List 
 push_says all s now [] = tt
 push_says all s now (p ∷ paths) = (λ r. tt, tt)
 
-again_says : (all now more : List Entry) (s : SessionId) (q n : ℕ) (row : Option Row) → slice_get (rows_for s.client now) (n - 1) ≡ row → 1 ≤ n → RowsMade all → now ++ more ≡ all → AllByRecursion (SaysSo all) (repeated_reply s (length now) q n row)
-again_says all now more s q n None get one rows is = tt
-again_says all now more s q n (Some row) get one rows is = (λ r. written, tt) where
+again_says : (all now more : List Entry) (s : SessionId) (q n : ℕ) (row : Option Row) → slice_get (rows_for s.client now) (n - 1) ≡ row → 1 ≤ n → RowsMade all → now ++ more ≡ all → IsAsked all s q n → AllByRecursion (SaysSo all) (repeated_reply s (length now) q n row)
+again_says all now more s q n None get one rows is asked = tt
+again_says all now more s q n (Some row) get one rows is asked = (λ r. (written, asked), tt) where
   count : n - 1 + 1 ≡ n
   count = omega (arith, one)
 
   written : IsWrite all s n row.done row.kept
   written = subst (λ k. IsWrite all s k row.done row.kept) count (rows s (n - 1) row (subst (λ l. slice_get (rows_for s.client l) (n - 1) ≡ Some row) is (rows_front s.client now more (n - 1) row get)))
 
-here : (before more all : List Entry) (e : Entry) → (before ++ e ∷ []) ++ more ≡ all → slice_get all (length before) ≡ Some e
+pub here : (before more all : List Entry) (e : Entry) → (before ++ e ∷ []) ++ more ≡ all → slice_get all (length before) ≡ Some e
 here before more all e is = subst (λ l. slice_get l (length before) ≡ Some e) is (get_front (before ++ e ∷ []) more (length before) e (get_last before e))
 
 numbered_here : (before more all : List Entry) (e : Entry) → (before ++ e ∷ []) ++ more ≡ all → item_at all (length (before ++ e ∷ [])) ≡ Some e
@@ -203,8 +211,8 @@ numbered_here before more all e is = ap (item_at all) (length-append before (e �
 
 own_says : (all before more : List Entry) (e : Entry) → (before ++ e ∷ []) ++ more ≡ all → StandsMay all → RowsMade all → AllByRecursion (SaysSo all) (own_answer (before ++ e ∷ []) e)
 own_says all before more (entry.Open s) is stands rows = tt
-own_says all before more (entry.Op s q n op outcome) is stands rows = (λ r. record { session = s; q = q; op = op; outcome = outcome; stands = numbered_here before more all (entry.Op s q n op outcome) is; client = refl; kept = refl }, tt)
-own_says all before more (entry.Again s q n) is stands rows = again_says all (before ++ entry.Again s q n ∷ []) more s q n _ refl (stands (length before) (entry.Again s q n) (here before more all (entry.Again s q n) is)).1.1 rows is
+own_says all before more (entry.Op s q n op outcome) is stands rows = let at = numbered_here before more all (entry.Op s q n op outcome) is in (λ r. (record { session = s; q = q; op = op; outcome = outcome; stands = at; client = refl; kept = refl }, (length (before ++ entry.Op s q n op outcome ∷ []), inl (op, outcome, at))), tt)
+own_says all before more (entry.Again s q n) is stands rows = again_says all (before ++ entry.Again s q n ∷ []) more s q n _ refl (stands (length before) (entry.Again s q n) (here before more all (entry.Again s q n) is)).1.1 rows is (length (before ++ entry.Again s q n ∷ []), inr (numbered_here before more all (entry.Again s q n) is))
 own_says all before more (entry.Left s q puts) is stands rows = (λ r. inl (puts, numbered_here before more all (entry.Left s q puts) is), tt)
 own_says all before more (entry.Cancelled s q path) is stands rows = (λ r. inr (path, numbered_here before more all (entry.Cancelled s q path) is), tt)
 own_says all before more (entry.Denied s q why) is stands rows = (λ r. tt, tt)

@@ -73,7 +73,7 @@ newest_more es m (entry.Ended s q why rows) h may = not_opening es (entry.Ended 
 none_open : OpenIsNewest []
 none_open s t o k c = absurd (true≢false (sym o))
 
-open_is_newest : (log : Log) → IsLegal log → (i : ℕ) → i ≤ length (entries log) → OpenIsNewest (take i (entries log))
+pub open_is_newest : (log : Log) → IsLegal log → (i : ℕ) → i ≤ length (entries log) → OpenIsNewest (take i (entries log))
 open_is_newest = prefix_rule OpenIsNewest none_open newest_more
 
 -- an entry's session is opened before it, or by it

@@ -21,3 +21,5 @@ pub mod Stands
 pub mod Stays
 pub mod Told
 pub mod Whole
+pub mod Writes
+pub mod Written

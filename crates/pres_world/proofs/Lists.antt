@@ -1,5 +1,5 @@
--- The list of a session's messages, as its client makes it.
-use Rattle.std.proofs.Common.{if◌then◌else◌, refl, sym, ◌∙◌, ap, subst, ◌≡◌, ◌+◌, ◌<◌, ℕ, zero, suc, Bool, true, false, List, [], ◌∷◌, ◌++◌, map, length, drop, slice_get, ◌⊎◌, inl, inr, Option, Some, None, true≢false, arith, unwrap_or}
+-- What a client makes: the list of a session's messages, and the writes of its start.
+use Rattle.std.proofs.Common.{if◌then◌else◌, refl, sym, ◌∙◌, ap, subst, ◌≡◌, ◌+◌, ◌<◌, ℕ, zero, suc, Bool, true, false, List, [], ◌∷◌, ◌++◌, map, length, drop, slice_get, ◌⊎◌, inl, inr, Option, Some, None, arith, unwrap_or, append-nil}
 use Rattle.std.specs.Option.{is_none}
 use Rattle.std.specs.List.{Contains, AllByRecursion}
 use Rattle.std.proofs.lemmas.List.Elements.{Contains-append_left}
@@ -25,6 +25,8 @@ use Rattle.pres_client.specs.Calls.{refusal}
 use Rattle.pres_client.specs.Sends.{Made, Unnumbered, numbered, op_messages, on_messages, opening, made_one, wrote_one, answered_one, made_by, made_step, kept_while, made}
 use Rattle.pres_client.specs.Steps.{Step, calls, receives, hands_out_sends, hands_out_notices, after, run}
 use Rattle.pres_world.proofs.Stands.{none_or_some, get_push}
+use Rattle.pres_world.proofs.Backed.{get_last}
+use Rattle.pres_world.proofs.Writes.{AllFit, Fits, fits_on, pushed_fit}
 
 -- the messages are of the session, and the k-th has q = k
 abbrev pub InList : SessionId → List Up → Type 0
@@ -65,54 +67,83 @@ opening_in d t i m get = numbered_in d.session 1 (on_messages d.session (map (λ
 abbrev pub Grown : State → Made → Made → Type 0
 Grown c t u = (u.messages ≡ t.messages) ⊎ ((f : Unnumbered) × (is_online c.phase ≡ true) × (u.messages ≡ t.messages ++ f (length t.messages + 1) ∷ []) × IsOf c.session f)
 
-one_grown : (c : State) (t : Made) (f : Unnumbered) → IsOf c.session f → Grown c t (made_one c t f)
-one_grown c t f h = by (is_online c.phase) refl where
-  by : (b : Bool) → is_online c.phase ≡ b → Grown c t (if b then record t { messages = t.messages ++ f (length t.messages + 1) ∷ [] } else t)
-  by true e = inr (f, e, refl, h)
-  by false e = inl refl
+-- an Online client counts its writes on from somewhere
+abbrev pub HasBase : State → Type 0
+HasBase c = is_online c.phase ≡ true → (x : ℕ) × (c.base ≡ Some x)
 
-wrote_grown : (c : State) (t : Made) (o : Op) → Grown c t (wrote_one c t o)
-wrote_grown c t o = one_grown c t (λ q. up.Op c.session q (base_of c + length t.writes + 1) o) (λ q. (refl, refl))
+-- what a step makes: the list stays or has a message more, there may be writes more, and each message still has the write
+-- with its number
+pub record Makes (c : State) (t u : Made) : Type 0 where
+  pub grown : Grown c t u
+  pub more : List Op
+  pub writes : u.writes ≡ t.writes ++ more
+  pub fit : HasBase c → AllFit c.base t.writes t.messages → AllFit c.base u.writes u.messages
 
-answered_grown : (c : State) (t : Made) (given : Answer) (o : Option Ask) → Grown c t (answered_one c t given o)
-answered_grown c t given None = inl refl
-answered_grown c t answer.Abort (Some a) = inl refl
-answered_grown c t (answer.New new) (Some a) = wrote_grown c t (op.Tx (comparison a.path a.value new))
+nothing : (c : State) (t : Made) → Makes c t t
+nothing c t = record { grown = inl refl; more = []; writes = sym (append-nil t.writes); fit = λ has h. h }
 
-listen_grown : (c : State) (t : Made) (p : Path) (b : Bool) → Grown c t (if b then made_one c t (λ q. up.On c.session q p) else t)
-listen_grown c t p true = one_grown c t (λ q. up.On c.session q p) (λ q. (refl, refl))
-listen_grown c t p false = inl refl
+-- a message without a write
+plain : (c : State) (t : Made) (f : Unnumbered) → IsOf c.session f → ((q : ℕ) (b : Option ℕ) (ws : List Op) → Fits b ws (f q)) → Makes c t (made_one c t f)
+plain c t f its none = by (is_online c.phase) refl where
+  by : (b : Bool) → is_online c.phase ≡ b → Makes c t (if b then record t { messages = t.messages ++ f (length t.messages + 1) ∷ [] } else t)
+  by true e = record { grown = inr (f, e, refl, its); more = []; writes = sym (append-nil t.writes); fit = λ has h. pushed_fit c.base t.writes t.messages (f (length t.messages + 1)) h (none (length t.messages + 1) c.base t.writes) }
+  by false e = nothing c t
 
-unlisten_grown : (c : State) (t : Made) (p : Path) (b : Bool) → Grown c t (if b then t else made_one c t (λ q. up.Off c.session q p))
-unlisten_grown c t p true = inl refl
-unlisten_grown c t p false = one_grown c t (λ q. up.Off c.session q p) (λ q. (refl, refl))
+one_write : (c : State) (t : Made) (o : Op) → Makes c t (wrote_one c t o)
+one_write c t o = record { grown = grown (is_online c.phase) refl; more = o ∷ []; writes = refl; fit = λ has h. fit has h (is_online c.phase) refl } where
+  f : Unnumbered
+  f = λ q. up.Op c.session q (base_of c + length t.writes + 1) o
 
-call_grown : (c : State) (t : Made) (k : Call) → Grown c t (made_by c t k)
-call_grown c t (call.Set p draft) = wrote_grown c t (op.Set (p, draft))
-call_grown c t (call.Update p places) = wrote_grown c t (op.Update (update_of p places.items))
-call_grown c t (call.Remove p) = wrote_grown c t (op.Set (p, []))
-call_grown c t (call.Transact p) = inl refl
-call_grown c t (call.Answer k given) = answered_grown c t given (ask_of k c.asks)
-call_grown c t (call.OnDisconnectSet p draft) = one_grown c t (λ q. up.Left c.session q (unconditional.Set (p, draft))) (λ q. (refl, refl))
-call_grown c t (call.OnDisconnectUpdate p places) = one_grown c t (λ q. up.Left c.session q (unconditional.Update (update_of p places.items))) (λ q. (refl, refl))
-call_grown c t (call.OnDisconnectRemove p) = one_grown c t (λ q. up.Left c.session q (unconditional.Set (p, []))) (λ q. (refl, refl))
-call_grown c t (call.OnDisconnectCancel p) = one_grown c t (λ q. up.Cancel c.session q p) (λ q. (refl, refl))
-call_grown c t (call.Listen p) = listen_grown c t p (is_none (watch_of p c.watches))
-call_grown c t (call.Unlisten p) = unlisten_grown c t p (is_none (watch_of p c.watches))
-call_grown c t call.GoOnline = inl refl
-call_grown c t call.GoOffline = one_grown c t (λ q. up.Bye c.session q) (λ q. (refl, refl))
-call_grown c t call.Lost = inl refl
-call_grown c t call.Beat = inl refl
-call_grown c t call.Resend = inl refl
+  grown : (b : Bool) → is_online c.phase ≡ b → Grown c t (if b then record t { messages = t.messages ++ f (length t.messages + 1) ∷ [] } else t)
+  grown true e = inr (f, e, refl, λ q. (refl, refl))
+  grown false e = inl refl
 
-pub step_grown : (c : State) (t : Made) (s : Step) → Grown c t (made_step c t s)
-step_grown c t (calls k) = by (is_none (refusal c k)) where
-  by : (b : Bool) → Grown c t (if b then made_by c t k else t)
-  by true = call_grown c t k
-  by false = inl refl
-step_grown c t (receives m) = inl refl
-step_grown c t hands_out_sends = inl refl
-step_grown c t hands_out_notices = inl refl
+  fit : HasBase c → AllFit c.base t.writes t.messages → (b : Bool) → is_online c.phase ≡ b → AllFit c.base (t.writes ++ o ∷ []) (if b then record t { messages = t.messages ++ f (length t.messages + 1) ∷ [] } else t).messages
+  fit has h true on =
+      let x = has on in
+      let is : base_of c ≡ x.0 = ap (λ b. unwrap_or b 0) x.1 in
+      pushed_fit c.base (t.writes ++ o ∷ []) t.messages _ (λ m there. fits_on c.base t.writes (o ∷ []) m (h m there)) (record { base = x.0; known = x.1; place = length t.writes; count = ap (λ b. b + length t.writes + 1) is; write = get_last t.writes o })
+  fit has h false on = λ m there. fits_on c.base t.writes (o ∷ []) m (h m there)
+
+answered_makes : (c : State) (t : Made) (given : Answer) (o : Option Ask) → Makes c t (answered_one c t given o)
+answered_makes c t given None = nothing c t
+answered_makes c t answer.Abort (Some a) = nothing c t
+answered_makes c t (answer.New new) (Some a) = one_write c t (op.Tx (comparison a.path a.value new))
+
+listen_makes : (c : State) (t : Made) (p : Path) (b : Bool) → Makes c t (if b then made_one c t (λ q. up.On c.session q p) else t)
+listen_makes c t p true = plain c t (λ q. up.On c.session q p) (λ q. (refl, refl)) (λ q b ws. tt)
+listen_makes c t p false = nothing c t
+
+unlisten_makes : (c : State) (t : Made) (p : Path) (b : Bool) → Makes c t (if b then t else made_one c t (λ q. up.Off c.session q p))
+unlisten_makes c t p true = nothing c t
+unlisten_makes c t p false = plain c t (λ q. up.Off c.session q p) (λ q. (refl, refl)) (λ q b ws. tt)
+
+call_makes : (c : State) (t : Made) (k : Call) → Makes c t (made_by c t k)
+call_makes c t (call.Set p draft) = one_write c t (op.Set (p, draft))
+call_makes c t (call.Update p places) = one_write c t (op.Update (update_of p places.items))
+call_makes c t (call.Remove p) = one_write c t (op.Set (p, []))
+call_makes c t (call.Transact p) = nothing c t
+call_makes c t (call.Answer k given) = answered_makes c t given (ask_of k c.asks)
+call_makes c t (call.OnDisconnectSet p draft) = plain c t (λ q. up.Left c.session q (unconditional.Set (p, draft))) (λ q. (refl, refl)) (λ q b ws. tt)
+call_makes c t (call.OnDisconnectUpdate p places) = plain c t (λ q. up.Left c.session q (unconditional.Update (update_of p places.items))) (λ q. (refl, refl)) (λ q b ws. tt)
+call_makes c t (call.OnDisconnectRemove p) = plain c t (λ q. up.Left c.session q (unconditional.Set (p, []))) (λ q. (refl, refl)) (λ q b ws. tt)
+call_makes c t (call.OnDisconnectCancel p) = plain c t (λ q. up.Cancel c.session q p) (λ q. (refl, refl)) (λ q b ws. tt)
+call_makes c t (call.Listen p) = listen_makes c t p (is_none (watch_of p c.watches))
+call_makes c t (call.Unlisten p) = unlisten_makes c t p (is_none (watch_of p c.watches))
+call_makes c t call.GoOnline = nothing c t
+call_makes c t call.GoOffline = plain c t (λ q. up.Bye c.session q) (λ q. (refl, refl)) (λ q b ws. tt)
+call_makes c t call.Lost = nothing c t
+call_makes c t call.Beat = nothing c t
+call_makes c t call.Resend = nothing c t
+
+pub step_makes : (c : State) (t : Made) (s : Step) → Makes c t (made_step c t s)
+step_makes c t (calls k) = by (is_none (refusal c k)) where
+  by : (b : Bool) → Makes c t (if b then made_by c t k else t)
+  by true = call_makes c t k
+  by false = nothing c t
+step_makes c t (receives m) = nothing c t
+step_makes c t hands_out_sends = nothing c t
+step_makes c t hands_out_notices = nothing c t
 
 -- ---- what was made, step by step
 
@@ -149,11 +180,6 @@ grown_in c t u s is (inr x) h =
 pub grown_front : (c : State) (t u : Made) → Grown c t u → (m : Up) → Contains t.messages m → Contains u.messages m
 grown_front c t u (inl same) m h = subst (λ l. Contains l m) (sym same) h
 grown_front c t u (inr x) m h = subst (λ l. Contains l m) (sym x.2) (Contains-append_left t.messages (x.0 (length t.messages + 1) ∷ []) m h)
-
--- a client that isn't Online makes nothing
-pub grown_offline : (c : State) (t u : Made) → is_online c.phase ≡ false → Grown c t u → u.messages ≡ t.messages
-grown_offline c t u off (inl same) = same
-grown_offline c t u off (inr x) = absurd (true≢false (sym x.1 ∙ off))
 
 -- what stands in the list is of the session
 pub listed_of : (s : SessionId) (ms : List Up) (m : Up) → InList s ms → Contains ms m → session_in m ≡ s

@@ -1,32 +1,39 @@
--- What a client sends with one number of one session is one message.
-use Rattle.std.proofs.Common.{if◌then◌else◌, refl, sym, ◌∙◌, ap, subst, ◌≡◌, ◌+◌, ◌<◌, ◌≤◌, ℕ, zero, suc, Bool, true, false, cond, List, [], ◌∷◌, ◌++◌, slice_get, ◌⊎◌, inl, inr, Some, None, true≢false, arith, unwrap_or, nat_lt, is_eq, Ordering, Less, Equal, Greater, length, take, drop}
+-- What each client of a world sent, and shows: what went out with one number of one session is one message, writes of one
+-- start have their numbers, and what is shown is what the log tells.
+use Rattle.std.proofs.Common.{if◌then◌else◌, ◌&&◌, not, refl, sym, ◌∙◌, ap, subst, ◌≡◌, ◌+◌, ◌<◌, ◌≤◌, ℕ, zero, suc, Bool, true, false, cond, List, [], ◌∷◌, ◌++◌, slice_get, ◌⊎◌, inl, inr, Option, Some, None, true≢false, arith, unwrap_or, nat_lt, is_eq, Ordering, Less, Equal, Greater, length, take, drop}
 use Rattle.std.specs.Prelude.{fold}
-use Rattle.std.specs.List.{All, Contains}
+use Rattle.std.specs.List.{All, AllByRecursion, Contains}
 use Rattle.std.specs.Ordering.{eq_by_cmp}
 use Rattle.std.specs.Cmp.{tied_itself}
 use Rattle.std.specs.FinMap.Entries.{find, put, find-put}
+use Rattle.std.proofs.lemmas.Bool.{and_parts, cases_order}
 use Rattle.std.proofs.lemmas.List.Elements.{All-contains, Contains-append_cases}
 use Rattle.pres_ids.specs.declared.id.SessionId.{SessionId}
-use Rattle.pres_ids.specs.Ids.{ClientId, client_cmp}
+use Rattle.pres_ids.specs.Ids.{ClientId, client_cmp, same_session}
 use Rattle.pres_ids.specs.Numbers.{greatest_number}
+use Rattle.pres_write.specs.declared.op.Op.{Op}
+use Rattle.pres_write.specs.declared.outcome.Outcome.{Outcome}
 use Rattle.pres_wire.specs.declared.down.Down.{Down}
+use Rattle.pres_wire.specs.declared.down.Down.TheVariants as down
 use Rattle.pres_wire.specs.declared.up.Up.{Up}
 use Rattle.pres_wire.specs.declared.up.Up.TheVariants as up
 use Rattle.pres_wire.specs.Messages.{session_in, q_in}
 use Rattle.pres_client.specs.declared.client.Phase.{Phase}
 use Rattle.pres_client.specs.declared.client.Phase.TheVariants as phase
 use Rattle.pres_client.specs.Clients.{State as Client, start, is_online, is_opening, outstanding, view}
-use Rattle.pres_client.specs.Receiving.{after_receive}
+use Rattle.pres_client.specs.Receiving.{accepts, after_receive}
 use Rattle.pres_client.specs.Steps.{Step, calls, receives, hands_out_sends, hands_out_notices, after, run, IsMessage, AreMessages, IsStep as MayHappen}
 use Rattle.pres_client.specs.Trails.{Trail, trail, trail_step, kept_for, nothing, takes, with_taken}
 use Rattle.pres_client.proofs.SentSteps.{sends_hold}
 use Rattle.pres_client.proofs.Trails.{views_hold}
 use Rattle.pres_log.specs.declared.entry.Entry.{Entry}
 use Rattle.pres_log.specs.declared.entry.Entry.TheVariants as entry
-use Rattle.pres_log.specs.Logs.{Log, entries, tree}
+use Rattle.pres_log.specs.Logs.{Log, entries, item_at, tree}
 use Rattle.pres_mail.specs.Watches.{watch_of}
 use Rattle.pres_server.specs.LegalLog.{IsLegal}
+use Rattle.pres_server.specs.Sessions.{session_of}
 use Rattle.pres_server.specs.Streams.{stream}
+use Rattle.pres_server.proofs.Since.{session_same}
 use Rattle.pres_tree.specs.declared.scalar.Scalar.{Scalar}
 use Rattle.pres_tree.specs.Paths.{Path}
 use Rattle.pres_tree.specs.Rows.{Rows, value_at}
@@ -38,16 +45,19 @@ use Rattle.pres_world.proofs.Hears.{Hears, receive_hears}
 use Rattle.pres_world.proofs.Asked.{Asked, Steps, count_after, step_steps, asked_step, opening_asked}
 use Rattle.pres_world.proofs.Faith.{Listed, stream_longer}
 use Rattle.pres_world.proofs.Follow.{Faith, Raw, seen_nothing, faith_kept, quiet_raw, next_of, takes_online, heard_raw, faith_front, faith_handed, faith_noted, raw_into, kept_again, trail_then}
-use Rattle.pres_world.proofs.Opened.{step_opened}
-use Rattle.pres_client.specs.Sends.{Made, none_made, made, made_step, kept_while, MayGoOut}
+use Rattle.pres_world.proofs.Opened.{IsWelcomed, step_opened, opened_taken}
+use Rattle.pres_world.proofs.Writes.{AllFit, IsNth, nth_on, nth_once, opening_fit}
+use Rattle.pres_world.proofs.Written.{IsBase, SomeWritten, Written, base_told, none_written, not_older, written_beside, written_front}
+use Rattle.pres_client.specs.Sends.{Made, none_made, made, made_step, kept_while, opening, MayGoOut}
 use Rattle.pres_client.proofs.SentOut.{steps_send}
 use Rattle.pres_server.proofs.AfterEntry.{clients_total, clients_apart}
-use Rattle.pres_world.specs.Members.{handed_out, started_again}
+use Rattle.pres_world.specs.Members.{acknowledged, handed_out, is_fault, started_again}
+use Rattle.pres_world.proofs.Backed.{Backed, IsWrite, all_into, item_front}
 use Rattle.pres_world.specs.Worlds.{World, Clients, joined, new_world, becomes, IsClient}
-use Rattle.pres_world.specs.Safe.{IsPacket, IsNumbered}
+use Rattle.pres_world.specs.Safe.{IsPacket, IsNumbered, IsRepeated}
 use Rattle.pres_world.proofs.Stands.{none_or_some, got_small}
-use Rattle.pres_world.proofs.Stays.{Begins, Moves, receive_stays}
-use Rattle.pres_world.proofs.Lists.{get_contained, InList, Grown, step_grown, grown_in, grown_front, opening_in, run_then, made_then, kept_if, opened_if, listed_of, listed_once}
+use Rattle.pres_world.proofs.Stays.{Begins, Moves, moves_base, receive_stays}
+use Rattle.pres_world.proofs.Lists.{get_contained, HasBase, InList, Grown, Makes, step_makes, grown_in, grown_front, opening_in, run_then, made_then, kept_if, opened_if, listed_of, listed_once}
 
 -- the session was asked for by the client, as its last one or before
 abbrev pub Within : Client → SessionId → Type 0
@@ -63,7 +73,11 @@ Opens ups c s = ((m : Up) (q : ℕ) → Contains ups m → Has m q c.session →
 abbrev pub list_of : ClientId → ℕ → List Step → List Up
 list_of id incarnation steps = (made (start id incarnation) none_made steps).messages
 
--- the client is an incarnation after steps, and its last list has all that was sent of its session with a number
+abbrev pub writes_of : ClientId → ℕ → List Step → List Op
+writes_of id incarnation steps = (made (start id incarnation) none_made steps).writes
+
+-- The client is an incarnation after steps. Its last list has all that was sent of its session with a number, its writes
+-- all that this incarnation sent of them, and the log tells what it shows.
 pub record Known (log : Log) (ups : List Up) (id : ClientId) (c : Client) : Type 0 where
   pub incarnation : ℕ
   pub steps : List Step
@@ -72,6 +86,12 @@ pub record Known (log : Log) (ups : List Up) (id : ClientId) (c : Client) : Type
   pub its : c.session.client ≡ id
   pub session : SessionId
   pub owner : session.client ≡ id
+  pub same : c.session.incarnation ≡ incarnation
+  pub of_start : session.incarnation ≡ incarnation
+  pub has_base : HasBase c
+  pub fit : AllFit c.base (writes_of id incarnation steps) (list_of id incarnation steps)
+  pub written : Written (entries log) ups id incarnation c.base (writes_of id incarnation steps)
+  pub earlier : (i : ℕ) → i < incarnation → SomeWritten (entries log) ups id i
   pub listed : InList session (list_of id incarnation steps)
   pub within : Within c session
   pub complete : (m : Up) (q : ℕ) → Contains ups m → Has m q session → Contains (list_of id incarnation steps) m
@@ -113,7 +133,10 @@ item_there (x ∷ xs) (suc i) m get = behind (item_there xs i m get) where
   behind : Contains xs m → Contains (x ∷ xs) m
   behind (k, less, is) = (suc k, omega (arith, less), is)
 
-packet_there : (ups : List Up) (m : Up) → IsPacket ups m → Contains ups m
+nothing_in : (m : Up) → Contains [] m → ⊥
+nothing_in m (k, less, is) = omega (arith, less)
+
+pub packet_there : (ups : List Up) (m : Up) → IsPacket ups m → Contains ups m
 packet_there ups m (zero, get) = absurd (none get) where
   none : None ≡ Some m → ⊥
   none e = grind arith
@@ -134,6 +157,46 @@ its_step log hands_out_notices h = tt
 
 number_is : (x y : ℕ) → Some x ≡ Some y → x ≡ y
 number_is x y e = ap (λ o. unwrap_or o x) e
+
+-- it comes to be Online with the step, or not
+abbrev Arrives : Client → Client → Type 0
+Arrives c d = (is_online d.phase ≡ true → is_online c.phase ≡ true) ⊎ ((is_online d.phase ≡ true) × (is_online c.phase ≡ false))
+
+arrival : (c d : Client) (a : Bool) → is_online d.phase ≡ a → (b : Bool) → is_online c.phase ≡ b → Arrives c d
+arrival c d false e b f = inl (λ on. absurd (true≢false (sym on ∙ e)))
+arrival c d true e true f = inl (λ on. f)
+arrival c d true e false f = inr (e, f)
+
+kept_writes : (c d : Client) (t : Made) → (kept_while c d t).writes ≡ t.writes
+kept_writes c d t = by (is_online d.phase) (is_online c.phase) where
+  by : (a b : Bool) → (if a then (if b then t else opening d t) else t).writes ≡ t.writes
+  by false b = refl
+  by true true = refl
+  by true false = refl
+
+-- what the writes are counted on from, where the client comes to be Online
+record NewBase (es : List Entry) (id : ClientId) (incarnation : ℕ) (c d : Client) : Type 0 where
+  pub count : ℕ
+  pub base : d.base ≡ Some (unwrap_or c.base count)
+  pub told : IsBase es id incarnation count
+
+new_base : (log : Log) (c : Client) (s : Step) (id : ClientId) (incarnation : ℕ) → Heard log s → c.session.client ≡ id → c.session.incarnation ≡ incarnation → IsWelcomed c s (after c s) → NewBase (entries log) id incarnation c (after c s)
+new_base log c (receives (down.Welcome s z count)) id incarnation heard its its_start h = record {
+  count = count;
+  base = h.base;
+  told = subst (λ i. IsBase (entries log) i incarnation count) (ap (λ (x : SessionId). x.client) h.session ∙ its) (subst (λ i. IsBase (entries log) s.client i count) (ap (λ (x : SessionId). x.incarnation) h.session ∙ its_start) (base_told (entries log) s z count heard.0));
+}
+new_base log c (receives (down.Reply s r z q n done out)) id incarnation heard its its_start h = absurd h
+new_base log c (receives (down.Gone s r z why)) id incarnation heard its its_start h = absurd h
+new_base log c (receives (down.Fault session reason)) id incarnation heard its its_start h = absurd h
+new_base log c (receives (down.Armed s r z q)) id incarnation heard its its_start h = absurd h
+new_base log c (receives (down.Denied s r z q why)) id incarnation heard its its_start h = absurd h
+new_base log c (receives (down.Snap s r z q p v)) id incarnation heard its its_start h = absurd h
+new_base log c (receives (down.Push s r z vs)) id incarnation heard its its_start h = absurd h
+new_base log c (receives (down.OffDone s r z q)) id incarnation heard its its_start h = absurd h
+new_base log c (calls k) id incarnation heard its its_start h = absurd h
+new_base log c hands_out_sends id incarnation heard its its_start h = absurd h
+new_base log c hands_out_notices id incarnation heard its its_start h = absurd h
 
 step_known : (log : Log) → IsLegal log → (ups : List Up) → ((i : ℕ) (e : Entry) → slice_get (entries log) i ≡ Some e → IsSent ups e) → (id : ClientId) (c : Client) (s : Step) → Heard log s → Known log ups id c → Moves c (after c s) → Next log ups id (after c s)
 step_known log legal ups came id c s heard k moves = by (is_online d.phase) refl (is_online c.phase) refl where
@@ -158,8 +221,11 @@ step_known log legal ups came id c s heard k moves = by (is_online d.phase) refl
   ms : List Up
   ms = list_of id k.incarnation (k.steps ++ more)
 
+  makes : Makes c t u
+  makes = step_makes c t s
+
   grown : Grown c t u
-  grown = step_grown c t s
+  grown = makes.grown
 
   ran : run c0 (k.steps ++ more) ≡ handed_out d
   ran = run_then c0 k.steps more ∙ ap (λ x. run x more) k.ran
@@ -167,8 +233,11 @@ step_known log legal ups came id c s heard k moves = by (is_online d.phase) refl
   kept : kept_while d (handed_out d) v ≡ v
   kept = kept_if d (handed_out d) v (is_online d.phase) refl (λ e. e)
 
+  is_made : made c0 none_made (k.steps ++ more) ≡ v
+  is_made = made_then c0 none_made k.steps more ∙ ap (λ x. made x t more) k.ran ∙ kept
+
   is_list : ms ≡ v.messages
-  is_list = ap (λ (x : Made). x.messages) (made_then c0 none_made k.steps more ∙ ap (λ x. made x t more) k.ran ∙ kept)
+  is_list = ap (λ (x : Made). x.messages) is_made
 
   is_sent : list_of id k.incarnation (k.steps ++ s ∷ []) ≡ v.messages
   is_sent = ap (λ (x : Made). x.messages) (made_then c0 none_made k.steps (s ∷ []) ∙ ap (λ x. made x t (s ∷ [])) k.ran)
@@ -280,7 +349,76 @@ step_known log legal ups came id c s heard k moves = by (is_online d.phase) refl
         let few = by_count o s heard in
         let same = ap (λ x. length (stream x es)) (in_session on) in
         omega (arith, n, few, same)
-    by_phase false o = let n = (step_opened c s).none on o in omega (arith, n)
+    by_phase false o = let n = opened_taken c s on o in omega (arith, n)
+
+  -- ---- what was written
+
+  ws : List Op
+  ws = writes_of id k.incarnation (k.steps ++ more)
+
+  is_writes : ws ≡ t.writes ++ makes.more
+  is_writes = ap (λ (x : Made). x.writes) is_made ∙ kept_writes c d u ∙ makes.writes
+
+  same_now : d.session.incarnation ≡ k.incarnation
+  same_now = by_move moves where
+    by_move : Moves c d → d.session.incarnation ≡ k.incarnation
+    by_move (inl x) = ap (λ (y : SessionId). y.incarnation) x.session ∙ k.same
+    by_move (inr x) = ap (λ (y : SessionId). y.incarnation) x.session ∙ k.same
+
+  arrives : Arrives c d
+  arrives = arrival c d (is_online d.phase) refl (is_online c.phase) refl
+
+  begun : is_online d.phase ≡ true → is_online c.phase ≡ false → NewBase es id k.incarnation c d
+  begun on off = new_base log c s id k.incarnation heard k.its k.same (step_opened c s on off)
+
+  base_into : (x : ℕ) → c.base ≡ Some x → d.base ≡ Some x
+  base_into x e = by_arrival arrives where
+    by_arrival : Arrives c d → d.base ≡ Some x
+    by_arrival (inl h) = moves_base c d moves h ∙ e
+    by_arrival (inr h) = let b = begun h.0 h.1 in b.base ∙ ap (λ o. Some (unwrap_or o b.count)) e
+
+  has_base_now : HasBase d
+  has_base_now on = by_arrival arrives where
+    by_arrival : Arrives c d → (x : ℕ) × (d.base ≡ Some x)
+    by_arrival (inl h) = let b = k.has_base (h on) in (b.0, base_into b.0 b.1)
+    by_arrival (inr h) = let b = begun h.0 h.1 in (unwrap_or c.base b.count, b.base)
+
+  fit_now : AllFit d.base ws ms
+  fit_now = by_arrival arrives where
+    shape : (b : Option ℕ) → AllFit b u.writes v.messages → AllFit b ws ms
+    shape b h = subst (λ l. AllFit b ws l) (sym is_list) (subst (λ l. AllFit b l v.messages) (sym (ap (λ (x : Made). x.writes) is_made ∙ kept_writes c d u)) h)
+
+    by_arrival : Arrives c d → AllFit d.base ws ms
+    by_arrival (inl h) = shape d.base (subst (λ b. AllFit b u.writes v.messages) (sym (moves_base c d moves h)) (subst (λ (x : Made). AllFit c.base u.writes x.messages) (sym (kept_if c d u (is_online d.phase) refl h)) (makes.fit k.has_base k.fit)))
+    by_arrival (inr h) = let b = has_base_now h.0 in shape d.base (subst (λ (x : Made). AllFit d.base u.writes x.messages) (sym (opened_if c d u h.0 h.1)) (opening_fit d u b.0 b.1))
+
+  based_now : (x : ℕ) → d.base ≡ Some x → IsBase es id k.incarnation x
+  based_now x e = by_arrival arrives where
+    by_base : NewBase es id k.incarnation c d → (o : Option ℕ) → c.base ≡ o → IsBase es id k.incarnation x
+    by_base b None n = subst (IsBase es id k.incarnation) (number_is b.count x (sym (ap (λ o. Some (unwrap_or o b.count)) n) ∙ sym b.base ∙ e)) b.told
+    by_base b (Some y) n = k.written.based x (n ∙ sym (ap (λ o. Some (unwrap_or o b.count)) n) ∙ sym b.base ∙ e)
+
+    by_arrival : Arrives c d → IsBase es id k.incarnation x
+    by_arrival (inl h) = k.written.based x (sym (moves_base c d moves h) ∙ e)
+    by_arrival (inr h) = by_base (begun h.0 h.1) c.base refl
+
+  written_now : Written es (ups ++ d.sends) id k.incarnation d.base ws
+  written_now = record {
+    fits = λ x q n o there its its_start. by_place x q n o (Contains-append_cases ups d.sends (up.Op x q n o) there) its its_start;
+    based = based_now;
+  } where
+    by_place : (x : SessionId) (q n : ℕ) (o : Op) → Contains ups (up.Op x q n o) ⊎ Contains d.sends (up.Op x q n o) → x.client ≡ id → x.incarnation ≡ k.incarnation → IsNth d.base ws n o
+    by_place x q n o (inl old) its its_start = subst (λ l. IsNth d.base l n o) (sym is_writes) (nth_on c.base d.base t.writes makes.more n o base_into (k.written.fits x q n o old its its_start))
+    by_place x q n o (inr new) its its_start = fit_now (up.Op x q n o) (new_listed (up.Op x q n o) q new refl)
+
+  -- what is new is of this start
+  earlier_now : (session : SessionId) → InList session ms → session.incarnation ≡ k.incarnation → (i : ℕ) → i < k.incarnation → SomeWritten es (ups ++ d.sends) id i
+  earlier_now session listed of_start i less = let w = k.earlier i less in record { base = w.base; writes = w.writes; all = written_beside es ups (ups ++ d.sends) id i w.base w.writes old w.all } where
+    old : (x : SessionId) (q n : ℕ) (o : Op) → Contains (ups ++ d.sends) (up.Op x q n o) → x.client ≡ id → x.incarnation ≡ i → Contains ups (up.Op x q n o)
+    old x q n o there its its_start = by_place (Contains-append_cases ups d.sends (up.Op x q n o) there) where
+      by_place : Contains ups (up.Op x q n o) ⊎ Contains d.sends (up.Op x q n o) → Contains ups (up.Op x q n o)
+      by_place (inl here) = here
+      by_place (inr new) = absurd (let is = ap (λ (y : SessionId). y.incarnation) (listed_of session ms (up.Op x q n o) listed (new_listed (up.Op x q n o) q new refl)) in omega (arith, less, of_start, its_start, is))
 
   -- ---- the list goes on
 
@@ -294,6 +432,12 @@ step_known log legal ups came id c s heard k moves = by (is_online d.phase) refl
       its = client;
       session = k.session;
       owner = k.owner;
+      same = same_now;
+      of_start = k.of_start;
+      has_base = has_base_now;
+      fit = fit_now;
+      written = written_now;
+      earlier = earlier_now k.session listed k.of_start;
       listed = listed;
       within = widen c d k.session moves k.within;
       complete = complete;
@@ -370,6 +514,12 @@ step_known log legal ups came id c s heard k moves = by (is_online d.phase) refl
         its = client;
         session = d.session;
         owner = client;
+        same = same_now;
+        of_start = same_now;
+        has_base = has_base_now;
+        fit = fit_now;
+        written = written_now;
+        earlier = earlier_now d.session listed same_now;
         listed = listed;
         within = within;
         complete = complete;
@@ -424,6 +574,12 @@ fresh log ups id c k = record {
   its = refl;
   session = before;
   owner = refl;
+  same = refl;
+  of_start = refl;
+  has_base = λ e. absurd (true≢false (sym e));
+  fit = λ m there. absurd (nothing_in m there);
+  written = none_written (entries log) ups id n (λ s q i o there its its_start. apart (up.Op s q i o) (k.known (up.Op s q i o) q there refl its) its_start);
+  earlier = earlier;
   listed = λ i m get. absurd (none_or_some m get);
   within = inr (refl, omega arith);
   complete = λ m q there has. absurd (apart m (k.known m q there has.0 (ap (λ (s : SessionId). s.client) has.1)) (ap (λ (s : SessionId). s.incarnation) has.1));
@@ -444,6 +600,13 @@ fresh log ups id c k = record {
   apart m (inl w) e = omega (arith, w, e)
   apart m (inr w) e = let x = w.0 in omega (arith, x, e)
 
+  earlier : (i : ℕ) → i < n → SomeWritten (entries log) ups id i
+  earlier i less = by (cases_order i k.incarnation) where
+    by : (i ≡ k.incarnation) ⊎ ((i < k.incarnation) ⊎ (k.incarnation < i)) → SomeWritten (entries log) ups id i
+    by (inl is) = record { base = c.base; writes = writes_of id k.incarnation k.steps; all = subst (λ j. Written (entries log) ups id j c.base (writes_of id k.incarnation k.steps)) (sym is) k.written }
+    by (inr (inl small)) = k.earlier i small
+    by (inr (inr large)) = absurd (let same = k.same in omega (arith, less, large, same))
+
   rises : (s : SessionId) → Within c s → Within (start id n) s
   rises s (inl w) = inl (omega (arith, w))
   rises s (inr w) = let x = w.0 in inl (omega (arith, x))
@@ -463,6 +626,12 @@ quieted log ups id c k = record {
   its = k.its;
   session = k.session;
   owner = k.owner;
+  same = k.same;
+  of_start = k.of_start;
+  has_base = k.has_base;
+  fit = subst (λ l. AllFit c.base l (list_of id k.incarnation (k.steps ++ hands_out_notices ∷ []))) (sym writes) (subst (λ l. AllFit c.base t.writes l) (sym same) k.fit);
+  written = subst (Written (entries log) ups id k.incarnation c.base) (sym writes) k.written;
+  earlier = k.earlier;
   listed = subst (InList k.session) (sym same) k.listed;
   within = k.within;
   complete = λ m q there has. subst (λ l. Contains l m) (sym same) (k.complete m q there has);
@@ -485,8 +654,14 @@ quieted log ups id c k = record {
   t : Made
   t = made (start id k.incarnation) none_made k.steps
 
+  all : made (start id k.incarnation) none_made (k.steps ++ hands_out_notices ∷ []) ≡ t
+  all = made_then (start id k.incarnation) none_made k.steps (hands_out_notices ∷ []) ∙ ap (λ x. made x t (hands_out_notices ∷ [])) k.ran ∙ kept_if c (record c { notices = [] }) t (is_online c.phase) refl (λ e. e)
+
   same : list_of id k.incarnation (k.steps ++ hands_out_notices ∷ []) ≡ t.messages
-  same = ap (λ (x : Made). x.messages) (made_then (start id k.incarnation) none_made k.steps (hands_out_notices ∷ []) ∙ ap (λ x. made x t (hands_out_notices ∷ [])) k.ran ∙ kept_if c (record c { notices = [] }) t (is_online c.phase) refl (λ e. e))
+  same = ap (λ (x : Made). x.messages) all
+
+  writes : writes_of id k.incarnation (k.steps ++ hands_out_notices ∷ []) ≡ t.writes
+  writes = ap (λ (x : Made). x.writes) all
 
 -- what another client sent
 others : (log : Log) (ups new : List Up) (id other : ClientId) (c : Client) → ((m : Up) (q : ℕ) → Contains new m → q_in m ≡ Some q → (session_in m).client ≡ id) → (other ≡ id → ⊥) → Known log ups other c → Known log (ups ++ new) other c
@@ -498,6 +673,12 @@ others log ups new id other c from apart k = record {
   its = k.its;
   session = k.session;
   owner = k.owner;
+  same = k.same;
+  of_start = k.of_start;
+  has_base = k.has_base;
+  fit = k.fit;
+  written = written_beside (entries log) ups (ups ++ new) other k.incarnation c.base (writes_of other k.incarnation k.steps) (λ s q n o there its its_start. old (up.Op s q n o) q there refl its) k.written;
+  earlier = λ i less. let w = k.earlier i less in record { base = w.base; writes = w.writes; all = written_beside (entries log) ups (ups ++ new) other i w.base w.writes (λ s q n o there its its_start. old (up.Op s q n o) q there refl its) w.all };
   listed = k.listed;
   within = k.within;
   complete = λ m q there has. k.complete m q (old m q there has.0 (ap (λ (s : SessionId). s.client) has.1 ∙ k.owner)) has;
@@ -520,9 +701,31 @@ others log ups new id other c from apart k = record {
 abbrev pub OneMessage : List Up → Type 0
 OneMessage ups = (m k : Up) (q : ℕ) → Contains ups m → Contains ups k → session_in m ≡ session_in k → q_in m ≡ Some q → q_in k ≡ Some q → m ≡ k
 
+-- the client of a session that sent a message with a number is there
+abbrev pub HasClient : Clients → ClientId → Type 0
+HasClient clients id = (c : Client) × (find client_cmp id clients ≡ Some c)
+
+-- the write that a reply tells of was asked for by the start of the client that took the reply, or by an earlier one
+abbrev pub Early : List Entry → Down → Type 0
+Early es (down.Reply s r z q n done out) = ((e : Entry) × (item_at es done ≡ Some e)) × ((u : SessionId) (p k : ℕ) (o : Op) (x : Outcome) → item_at es done ≡ Some (entry.Op u p k o x) → u.incarnation ≤ s.incarnation)
+Early es _ = Unit {0}
+
+early_front : (es more : List Entry) (m : Down) → Early es m → Early (es ++ more) m
+early_front es more (down.Reply s r z q n done out) h = ((h.0.0, item_front es more done h.0.0 h.0.1), λ u p k o x at. h.1 u p k o x (h.0.1 ∙ sym (item_front es more done h.0.0 h.0.1) ∙ at))
+early_front es more (down.Welcome s z count) h = tt
+early_front es more (down.Gone s r z why) h = tt
+early_front es more (down.Fault session reason) h = tt
+early_front es more (down.Armed s r z q) h = tt
+early_front es more (down.Denied s r z q why) h = tt
+early_front es more (down.Snap s r z q p v) h = tt
+early_front es more (down.Push s r z values) h = tt
+early_front es more (down.OffDone s r z q) h = tt
+
 pub record Numbered (w : World) : Type 0 where
   pub one : OneMessage w.ups
   pub clients : (id : ClientId) (c : Client) → IsClient w id c → Known w.serving.history w.ups id c
+  pub owned : (m : Up) (q : ℕ) → Contains w.ups m → q_in m ≡ Some q → HasClient w.clients (session_in m).client
+  pub early : AllByRecursion (Early (entries w.serving.history)) w.acks
 
 one_more : (log : Log) (ups : List Up) (id : ClientId) (d : Client) → OneMessage ups → Next log ups id d → OneMessage (ups ++ d.sends)
 one_more log ups id d one n m k q m_there k_there same mq kq = by (Contains-append_cases ups d.sends m m_there) (Contains-append_cases ups d.sends k k_there) where
@@ -553,10 +756,19 @@ put_known log ups clients id d here rest other c found = by (eq_by_cmp client_cm
       subst (Known log ups other) is (subst (λ x. Known log ups x d) (sym same) here)
   by false e = rest other c (λ same. true≢false (sym (ap is_eq (tied_itself clients_total id)) ∙ ap (λ x. eq_by_cmp client_cmp x id) (sym same) ∙ e)) (sym (find-put client_cmp clients_total other id d clients ∙ ap (λ x. cond x (Some d) (find client_cmp other clients)) e) ∙ found)
 
+-- it is still there
+put_there : (clients : Clients) (id : ClientId) (d : Client) (other : ClientId) → HasClient clients other → HasClient (put client_cmp id d clients) other
+put_there clients id d other h = by (eq_by_cmp client_cmp other id) refl where
+  by : (b : Bool) → eq_by_cmp client_cmp other id ≡ b → HasClient (put client_cmp id d clients) other
+  by true e = (d, find-put client_cmp clients_total other id d clients ∙ ap (λ x. cond x (Some d) (find client_cmp other clients)) e)
+  by false e = (h.0, find-put client_cmp clients_total other id d clients ∙ ap (λ x. cond x (Some d) (find client_cmp other clients)) e ∙ h.1)
+
 pub becomes_numbered : (w : World) (id : ClientId) (c : Client) (s : Step) → IsLegal w.serving.history → ((i : ℕ) (e : Entry) → slice_get (entries w.serving.history) i ≡ Some e → IsSent w.ups e) → Heard w.serving.history s → Numbered w → IsClient w id c → Moves c (after c s) → Numbered (becomes w id (after c s))
 becomes_numbered w id c s legal came heard h there moves = record {
   one = one_more w.serving.history w.ups id d h.one n;
   clients = put_known w.serving.history (w.ups ++ d.sends) w.clients id (handed_out d) n.later (λ other x apart found. others w.serving.history w.ups d.sends id other x (λ m q in_new has. ap (λ (y : SessionId). y.client) (n.new m q in_new has) ∙ n.later.owner) apart (h.clients other x found));
+  owned = λ m q there has. by_place m q has (Contains-append_cases w.ups d.sends m there);
+  early = h.early;
 } where
   d : Client
   d = after c s
@@ -564,8 +776,12 @@ becomes_numbered w id c s legal came heard h there moves = record {
   n : Next w.serving.history w.ups id d
   n = step_known w.serving.history legal w.ups came id c s heard (h.clients id c there) moves
 
+  by_place : (m : Up) (q : ℕ) → q_in m ≡ Some q → Contains w.ups m ⊎ Contains d.sends m → HasClient (put client_cmp id (handed_out d) w.clients) (session_in m).client
+  by_place m q has (inl old) = put_there w.clients id (handed_out d) (session_in m).client (h.owned m q old has)
+  by_place m q has (inr new) = put_there w.clients id (handed_out d) (session_in m).client (subst (HasClient w.clients) (sym (ap (λ (y : SessionId). y.client) (n.new m q new has) ∙ n.later.owner)) (c, there))
+
 puts_numbered : (w : World) (id : ClientId) (d : Client) → Numbered w → Known w.serving.history w.ups id d → Numbered (record w { clients = put client_cmp id d w.clients })
-puts_numbered w id d h here = record { one = h.one; clients = put_known w.serving.history w.ups w.clients id d here (λ other x apart found. h.clients other x found) }
+puts_numbered w id d h here = record { one = h.one; clients = put_known w.serving.history w.ups w.clients id d here (λ other x apart found. h.clients other x found); owned = λ m q there has. put_there w.clients id d (session_in m).client (h.owned m q there has); early = h.early }
 
 pub again_numbered : (w : World) (id : ClientId) (c : Client) → Numbered w → IsClient w id c → Numbered (record w { clients = put client_cmp id (started_again id c) w.clients })
 again_numbered w id c h there = puts_numbered w id (started_again id c) h (again w.serving.history w.ups id c (h.clients id c there))
@@ -583,6 +799,12 @@ known_front log later more ups id c grown k = record {
   its = k.its;
   session = k.session;
   owner = k.owner;
+  same = k.same;
+  of_start = k.of_start;
+  has_base = k.has_base;
+  fit = k.fit;
+  written = longer k.incarnation c.base (writes_of id k.incarnation k.steps) k.written;
+  earlier = λ i less. let w = k.earlier i less in record { base = w.base; writes = w.writes; all = longer i w.base w.writes w.all };
   listed = k.listed;
   within = k.within;
   complete = k.complete;
@@ -592,10 +814,17 @@ known_front log later more ups id c grown k = record {
   messages = k.messages;
   few = λ on. let was = k.few on in let longer = stream_longer c.session (entries log) more in subst (λ l. c.taken ≤ length (stream c.session l)) (sym grown) (omega (arith, was, longer));
   faith = λ p. subst (λ l. Faith l c (list_of id k.incarnation k.steps) p (trail p (start id k.incarnation) nothing k.steps)) (sym grown) (faith_front (entries log) more c _ p _ k.few (k.faith p));
-}
+} where
+  longer : (i : ℕ) (b : Option ℕ) (ws : List Op) → Written (entries log) ups id i b ws → Written (entries later) ups id i b ws
+  longer i b ws w = subst (λ l. Written l ups id i b ws) (sym grown) (written_front (entries log) more ups id i b ws w)
 
 pub grown_numbered : (w : World) (v : Served) (more : List Entry) → entries v.history ≡ entries w.serving.history ++ more → Numbered w → Numbered (record w { serving = v })
-grown_numbered w v more grown h = record { one = h.one; clients = λ id c there. known_front w.serving.history v.history more w.ups id c grown (h.clients id c there) }
+grown_numbered w v more grown h = record {
+  one = h.one;
+  clients = λ id c there. known_front w.serving.history v.history more w.ups id c grown (h.clients id c there);
+  owned = h.owned;
+  early = subst (λ l. AllByRecursion (Early l) w.acks) (sym grown) (all_into (Early (entries w.serving.history)) (Early (entries w.serving.history ++ more)) w.acks (early_front (entries w.serving.history) more) h.early);
+}
 
 -- ---- what is shown
 
@@ -606,9 +835,6 @@ shown_true w id c h there p z v shows =
 
 -- ---- a new world
 
-nothing_in : (m : Up) → Contains [] m → ⊥
-nothing_in m (k, less, is) = omega (arith, less)
-
 first_known : (id : ClientId) → Known [] [] id (start id 1)
 first_known id = record {
   incarnation = 1;
@@ -618,6 +844,12 @@ first_known id = record {
   its = refl;
   session = record { client = id; incarnation = 1; attempt = 0 };
   owner = refl;
+  same = refl;
+  of_start = refl;
+  has_base = λ e. absurd (true≢false (sym e));
+  fit = λ m there. absurd (nothing_in m there);
+  written = none_written [] [] id 1 (λ s q n o there its its_start. nothing_in (up.Op s q n o) there);
+  earlier = λ i less. record { base = None; writes = []; all = none_written [] [] id i (λ s q n o there its its_start. nothing_in (up.Op s q n o) there) };
   listed = λ i m get. absurd (none_or_some m get);
   within = inr (refl, omega arith);
   complete = λ m q there has. absurd (nothing_in m there);
@@ -634,9 +866,74 @@ joined_known clients [] h = h
 joined_known clients (x ∷ ids) h = joined_known (joined clients x) ids (put_known [] [] clients x (start x 1) (first_known x) (λ other c apart found. h other c found))
 
 pub new_numbered : (ids : List ClientId) → Numbered (new_world ids)
-new_numbered ids = record { one = λ m k q x y same mq kq. absurd (nothing_in m x); clients = joined_known [] ids (λ id c found. absurd (nobody c found)) } where
+new_numbered ids = record { one = λ m k q x y same mq kq. absurd (nothing_in m x); clients = joined_known [] ids (λ id c found. absurd (nobody c found)); owned = λ m q there has. absurd (nothing_in m there); early = tt } where
   nobody : (c : Client) → None ≡ Some c → ⊥
   nobody c e = grind arith
+
+-- ---- a reply that is taken
+
+early_ack : (log : Log) (ups : List Up) (id : ClientId) (c : Client) (m : Down) → Known log ups id c → ((z : ℕ) (e : Entry) → item_at (entries log) z ≡ Some e → IsSent ups e) → Backed (entries log) m → accepts c m ≡ true → Early (entries log) m
+early_ack log ups id c (down.Reply s r z q n done out) k came backed taken = ((entry.Op w.session w.q n w.op w.outcome, w.stands), early) where
+  w : IsWrite (entries log) s n done out
+  w = backed.0
+
+  is : s ≡ c.session
+  is = session_same s c.session (and_parts (same_session s c.session) _ (and_parts (is_online c.phase) _ taken).1).0
+
+  early : (u : SessionId) (p j : ℕ) (o : Op) (x : Outcome) → item_at (entries log) done ≡ Some (entry.Op u p j o x) → u.incarnation ≤ s.incarnation
+  early u p j o x at = by (k.known (up.Op u p j o) p (packet_there ups (up.Op u p j o) (came done (entry.Op u p j o x) at)) refl its) where
+    its : u.client ≡ id
+    its = ap (λ e. (session_of (unwrap_or e (entry.Open u))).client) (sym at ∙ w.stands) ∙ w.client ∙ ap (λ (y : SessionId). y.client) is ∙ k.its
+
+    by : Within c u → u.incarnation ≤ s.incarnation
+    by (inl less) = let e = ap (λ (y : SessionId). y.incarnation) is in omega (arith, less, e)
+    by (inr same) = let e = ap (λ (y : SessionId). y.incarnation) is in let x = same.0 in omega (arith, x, e)
+early_ack log ups id c (down.Welcome s z count) k came backed taken = tt
+early_ack log ups id c (down.Gone s r z why) k came backed taken = tt
+early_ack log ups id c (down.Fault session reason) k came backed taken = tt
+early_ack log ups id c (down.Armed s r z q) k came backed taken = tt
+early_ack log ups id c (down.Denied s r z q why) k came backed taken = tt
+early_ack log ups id c (down.Snap s r z q p v) k came backed taken = tt
+early_ack log ups id c (down.Push s r z values) k came backed taken = tt
+early_ack log ups id c (down.OffDone s r z q) k came backed taken = tt
+
+pub early_acks : (log : Log) (ups : List Up) (id : ClientId) (c : Client) (m : Down) → Known log ups id c → ((z : ℕ) (e : Entry) → item_at (entries log) z ≡ Some e → IsSent ups e) → Backed (entries log) m → AllByRecursion (Early (entries log)) (acknowledged c m)
+early_acks log ups id c m k came backed = by (accepts c m) refl (is_fault m) where
+  by : (a : Bool) → accepts c m ≡ a → (b : Bool) → AllByRecursion (Early (entries log)) (if a && not b then m ∷ [] else [])
+  by true e true = tt
+  by true e false = (early_ack log ups id c m k came backed e, tt)
+  by false e b = tt
+
+-- ---- writes of one start
+
+-- what went out of the start of the client that a session is of
+written_of : (log : Log) (ups : List Up) (id : ClientId) (c : Client) (s : SessionId) → Known log ups id c → Within c s → SomeWritten (entries log) ups id s.incarnation
+written_of log ups id c s k (inl less) = let same = k.same in k.earlier s.incarnation (omega (arith, less, same))
+written_of log ups id c s k (inr within) = record { base = c.base; writes = writes_of id k.incarnation k.steps; all = subst (λ i. Written (entries log) ups id i c.base (writes_of id k.incarnation k.steps)) (sym (within.0 ∙ k.same)) k.written }
+
+all_written : (w : World) → Numbered w → (s : SessionId) (q n : ℕ) (o : Op) → Contains w.ups (up.Op s q n o) → SomeWritten (entries w.serving.history) w.ups s.client s.incarnation
+all_written w h s q n o there =
+    let c = h.owned (up.Op s q n o) q there refl in
+    let k = h.clients s.client c.0 c.1 in
+    written_of w.serving.history w.ups s.client c.0 s k (k.known (up.Op s q n o) q there refl refl)
+
+-- two packets of one start of a client with one number carry one write
+pub packets_repeat : (w : World) → Numbered w → IsRepeated w.ups
+packets_repeat w h s t q p n o x first second its its_start =
+    let there = packet_there w.ups (up.Op s q n o) first in
+    let a = all_written w h s q n o there in
+    nth_once a.base a.writes n o x (a.all.fits s q n o there refl refl) (a.all.fits t p n x (packet_there w.ups (up.Op t p n x) second) (sym its) (sym its_start))
+
+-- what stands for a write that was asked for is what was asked for, where no later start asked for it
+pub same_write : (w : World) → Numbered w → IsLegal w.serving.history → (s u : SessionId) (q p n : ℕ) (o x : Op) (r : Outcome) (i : ℕ) → IsPacket w.ups (up.Op s q n o) → IsPacket w.ups (up.Op u p n x) →
+    slice_get (entries w.serving.history) i ≡ Some (entry.Op u p n x r) → u.client ≡ s.client → u.incarnation ≤ s.incarnation → o ≡ x
+same_write w h legal s u q p n o x r i first second get its early =
+    let there = packet_there w.ups (up.Op s q n o) first in
+    let a = all_written w h s q n o there in
+    let asked = a.all.fits s q n o there refl refl in
+    let count = asked.count in
+    let late = not_older w.serving.history legal s.client s.incarnation asked.base (a.all.based asked.base asked.known) u p n x r i get its (omega (arith, count)) in
+    nth_once a.base a.writes n o x asked (a.all.fits u p n x (packet_there w.ups (up.Op u p n x) second) its (omega (arith, early, late)))
 
 pub packets_numbered : (w : World) → Numbered w → IsNumbered w.ups
 packets_numbered w h m k q x y = h.one m k q (packet_there w.ups m x) (packet_there w.ups k y)

@@ -12,7 +12,7 @@ use Rattle.pres_world.proofs.Stands.{none_or_some, stands_may, ends_once, op_onc
 use Rattle.pres_world.proofs.EndsFirst.{ends_come_first}
 
 -- an item that is numbered from 1 on, and its place
-place : {A : Type 0} (xs : List A) (k : ℕ) (x : A) → item_at xs k ≡ Some x → (i : ℕ) × (k ≡ suc i) × (slice_get xs i ≡ Some x)
+pub place : {A : Type 0} (xs : List A) (k : ℕ) (x : A) → item_at xs k ≡ Some x → (i : ℕ) × (k ≡ suc i) × (slice_get xs i ≡ Some x)
 place xs zero x at = absurd (none_or_some x at)
 place xs (suc i) x at = (i, refl, at)
 

@@ -1,5 +1,5 @@
 -- Where entries stand in a legal log: each may come after those before it.
-use Rattle.std.proofs.Common.{refl, sym, ◌∙◌, ap, subst, ◌≡◌, ◌+◌, ◌≤◌, ◌<◌, ℕ, zero, suc, List, [], ◌∷◌, ◌++◌, length, take, Bool, true, false, ◌||◌, ◌⊎◌, inl, inr, Option, Some, None, true≢false, arith, slice_get, unwrap_or, append_assoc, append-nil, length-append, filter_map, cond}
+use Rattle.std.proofs.Common.{refl, sym, ◌∙◌, ap, subst, ◌≡◌, ◌+◌, ◌≤◌, ◌<◌, ℕ, zero, suc, List, [], ◌∷◌, ◌++◌, length, take, drop, Bool, true, false, ◌||◌, ◌⊎◌, inl, inr, Option, Some, None, true≢false, arith, slice_get, unwrap_or, append_assoc, append-nil, length-append, filter_map, cond}
 use Rattle.std.specs.List.{list_any}
 use Rattle.std.proofs.lemmas.Bool.{cases_order, and_parts, not-true}
 use Rattle.pres_ids.specs.declared.id.SessionId.{SessionId}
@@ -106,10 +106,16 @@ get_taken (y ∷ xs) i zero x get less = absurd (omega (arith, less))
 get_taken (y ∷ xs) zero (suc j) x get less = get
 get_taken (y ∷ xs) (suc i) (suc j) x get less = get_taken xs i j x get (omega (arith, less))
 
+-- an item of what is left behind the first h
+pub get_dropped : {A : Type 0} (h : ℕ) (xs : List A) (j : ℕ) → slice_get (drop h xs) j ≡ slice_get xs (h + j)
+get_dropped zero xs j = let e : j ≡ 0 + j = omega arith in ap (slice_get xs) e
+get_dropped (suc h) [] j = refl
+get_dropped (suc h) (x ∷ xs) j = let e : suc (h + j) ≡ suc h + j = omega arith in get_dropped h xs j ∙ ap (slice_get (x ∷ xs)) e
+
 -- ---- earlier and later places
 
 -- an item is among those before a later place
-among : {A : Type 0} (xs : List A) (i j : ℕ) (x : A) → slice_get xs i ≡ Some x → i < j → (mid : List A) × (take j xs ≡ (take i xs ++ x ∷ []) ++ mid)
+pub among : {A : Type 0} (xs : List A) (i j : ℕ) (x : A) → slice_get xs i ≡ Some x → i < j → (mid : List A) × (take j xs ≡ (take i xs ++ x ∷ []) ++ mid)
 among [] i j x e l = absurd (none_or_some x e)
 among (z ∷ xs) i zero x e l = absurd (omega arith)
 among (z ∷ xs) zero (suc j) x e l = (take j xs, ap (λ y. y ∷ take j xs) (ap (λ o. unwrap_or o x) e))
@@ -156,7 +162,7 @@ abbrev write_number : Entry → ℕ
 write_number (entry.Op s q n o r) = n
 write_number _ = 0
 
-ops-append : (c : ClientId) (es fs : List Entry) → ops c es ≤ ops c (es ++ fs)
+pub ops-append : (c : ClientId) (es fs : List Entry) → ops c es ≤ ops c (es ++ fs)
 ops-append c es [] = let same = ap (ops c) (append-nil es) in omega (arith, same)
 ops-append c es (f ∷ fs) =
     let one = ap length (rows_for-append c es f) ∙ length-append (rows_for c es) (filter_map (λ (p : ℕ × Entry). row_in c p.0 p.1) ((length es + 1, f) ∷ [])) in
@@ -164,7 +170,7 @@ ops-append c es (f ∷ fs) =
     let same = ap (ops c) (append_assoc es (f ∷ []) fs) in
     omega (arith, one, more, same)
 
-op_counts : (s : SessionId) (q n : ℕ) (op : Op) (r : Outcome) (es : List Entry) → ops s.client (es ++ entry.Op s q n op r ∷ []) ≡ ops s.client es + 1
+pub op_counts : (s : SessionId) (q n : ℕ) (op : Op) (r : Outcome) (es : List Entry) → ops s.client (es ++ entry.Op s q n op r ∷ []) ≡ ops s.client es + 1
 op_counts s q n op r es =
     ap length (row_given s.client es (entry.Op s q n op r) (Some row) (ap (λ b. cond b (Some row) None) (client_itself s.client)))
     ∙ length-append (rows_for s.client es) (filter_map (λ (_ : ℕ). Some row) (0 ∷ [])) where

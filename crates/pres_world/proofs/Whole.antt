@@ -2,7 +2,9 @@
 use Rattle.std.proofs.Common.{map, refl, sym, ◌∙◌, ap, subst, ◌≡◌, ℕ, zero, suc, List, [], ◌∷◌, ◌++◌, inl, inr, Some, slice_get, if◌then◌else◌}
 use Rattle.pres_ids.specs.declared.id.SessionId.{SessionId}
 use Rattle.pres_ids.specs.Ids.{ClientId}
+use Rattle.pres_write.specs.declared.op.Op.{Op}
 use Rattle.pres_write.specs.declared.outcome.Kept.{Kept}
+use Rattle.pres_wire.specs.declared.up.Up.TheVariants as up
 use Rattle.pres_wire.specs.declared.down.Down.{Down}
 use Rattle.pres_wire.specs.declared.down.Down.TheVariants.{Armed, Reply}
 use Rattle.pres_log.specs.declared.entry.Entry.{Entry}
@@ -16,11 +18,12 @@ use Rattle.pres_world.specs.declared.event.Event.{Event}
 use Rattle.pres_world.specs.declared.event.Event.TheVariants as event
 use Rattle.pres_world.specs.declared.fault.WorldFault.{WorldFault}
 use Rattle.pres_world.specs.declared.fault.WorldFault.TheVariants as fault
-use Rattle.pres_world.specs.Safe.{Occurrence, happens, hands_out, Occurs, Passes, IsSent, StandsAs, StandsArmed, StaysSafe, IsSafe, IsTold}
+use Rattle.pres_world.specs.Members.{acknowledged}
+use Rattle.pres_world.specs.Safe.{Occurrence, happens, hands_out, Occurs, Passes, IsPacket, IsSent, StandsAs, StandsArmed, StaysSafe, IsSafe, IsTold}
 use Rattle.pres_world.specs.Worlds.{World, IsStep, IsStop, IsRefused, Reaches, becomes, new_world}
-use Rattle.pres_world.proofs.Backed.{IsWrite, IsArmed, contained}
+use Rattle.pres_world.proofs.Backed.{IsAsked, IsWrite, IsArmed, all_front, contained}
 use Rattle.pres_world.proofs.Told.{Vouched}
-use Rattle.pres_world.proofs.Orderly.{writes_stand, ends_stand, cancels_undone}
+use Rattle.pres_world.proofs.Orderly.{place, writes_stand, ends_stand, cancels_undone}
 use Rattle.pres_client.specs.Steps.{calls, receives, IsMessage}
 use Rattle.std.specs.Option.{is_none}
 use Rattle.pres_client.specs.Steps.{after}
@@ -30,7 +33,7 @@ use Rattle.pres_world.proofs.Snaps.{streamed}
 use Rattle.pres_wire.specs.declared.down.Down.TheVariants as down
 use Rattle.pres_server.specs.Streams.{stream}
 use Rattle.pres_world.proofs.Stands.{none_or_some}
-use Rattle.pres_world.proofs.Numbered.{Numbered, becomes_numbered, again_numbered, quiet_numbered, grown_numbered, shown_true, packets_numbered, new_numbered}
+use Rattle.pres_world.proofs.Numbered.{Early, Numbered, becomes_numbered, again_numbered, early_acks, quiet_numbered, grown_numbered, shown_true, packets_numbered, packets_repeat, same_write, new_numbered}
 
 pub record Whole (w : World) : Type 0 where
   pub honest : Honest w
@@ -63,9 +66,10 @@ step_numbered w (event.Call id k) v h is = subst Numbered (sym is.after) (subst 
   moves = subst (Moves is.client) (sym made_it) (call_stays is.client k)
 step_numbered w (event.Up packet now e) v h is = let g = served_grows w.ups w.serving (input.Up is.0) now e (packet, is.1) h.honest.sound in subst Numbered (sym is.2) (grown_numbered w _ g.more g.grown h.numbered)
 step_numbered w (event.Down packet) v h is =
-    let told = (item_backed (entries w.serving.history) w.serving.downs packet is.message h.honest.sound.downs is.sent).1 in
-    let n = becomes_numbered w is.session.client is.client (receives is.message) h.honest.sound.legal (made_of w h.honest) (told, told_message w.serving.history h.honest.sound.legal is.message told) h.numbered is.there (inl (receive_stays is.client is.message)) in
-    subst Numbered (sym is.after) (record { one = n.one; clients = n.clients })
+    let vouched = item_backed (entries w.serving.history) w.serving.downs packet is.message h.honest.sound.downs is.sent in
+    let n = becomes_numbered w is.session.client is.client (receives is.message) h.honest.sound.legal (made_of w h.honest) (vouched.1, told_message w.serving.history h.honest.sound.legal is.message vouched.1) h.numbered is.there (inl (receive_stays is.client is.message)) in
+    let early = early_acks w.serving.history w.ups is.session.client is.client is.message (h.numbered.clients is.session.client is.client is.there) (λ z e at. item_sent w.ups (entries w.serving.history) z e h.honest.sent at) vouched.0 in
+    subst Numbered (sym is.after) (record { one = n.one; clients = n.clients; owned = n.owned; early = all_front (Early (entries w.serving.history)) w.acks (acknowledged is.client is.message) h.numbered.early early })
 step_numbered w (event.Loss id now) v h is = let g = lost_grows w.ups _ w.serving now ending.Answered h.honest.sound in subst Numbered (sym is.1) (grown_numbered w _ g.more g.grown h.numbered)
 step_numbered w (event.Tick now) v h is = let g = served_grows w.ups w.serving input.Tick now ending.Answered tt h.honest.sound in subst Numbered (sym is) (grown_numbered w _ g.more g.grown h.numbered)
 step_numbered w (event.RestartClient id) v h is = subst Numbered (sym is.after) (again_numbered w id is.client h.numbered is.there)
@@ -96,17 +100,31 @@ passes_whole : (w : World) (occurrences : List Occurrence) (v : World) → Whole
 passes_whole w [] v h is = subst Whole (sym is) h
 passes_whole w (o ∷ later) v h is = passes_whole is.0 later v (occurs_whole w o is.0 h is.1) is.2
 
-stands_as : (w : World) (s : SessionId) (n done : ℕ) (out : Kept) → Honest w → IsWrite (entries w.serving.history) s n done out → StandsAs w s n done out
-stands_as w s n done out honest h = record {
+-- the message that asked for the write
+asked_by : (w : World) (s : SessionId) (q n : ℕ) → Honest w → IsAsked (entries w.serving.history) s q n → (o : Op) × IsPacket w.ups (up.Op s q n o)
+asked_by w s q n honest (z, inl h) = (h.0, item_sent w.ups (entries w.serving.history) z (entry.Op s q n h.0 h.1) honest.sent h.2)
+asked_by w s q n honest (z, inr h) = item_sent w.ups (entries w.serving.history) z (entry.Again s q n) honest.sent h
+
+stands_as : (w : World) (s : SessionId) (r z q n done : ℕ) (out : Kept) → Whole w → IsWrite (entries w.serving.history) s n done out → IsAsked (entries w.serving.history) s q n → Early (entries w.serving.history) (Reply s r z q n done out) → StandsAs w s q n done out
+stands_as w s r z q n done out whole h asks early = record {
   session = h.session;
-  q = h.q;
+  first_q = h.q;
   op = h.op;
   outcome = h.outcome;
   stands = h.stands;
-  sent = item_sent w.ups (entries w.serving.history) done (entry.Op h.session h.q n h.op h.outcome) honest.sent h.stands;
+  sent = sent;
   client = h.client;
+  asked = subst (λ o. IsPacket w.ups (up.Op s q n o)) (same_write w whole.numbered whole.honest.sound.legal s h.session q h.q n asked.0 h.op h.outcome at.0 asked.1 sent at.2 h.client (early.1 h.session h.q n h.op h.outcome h.stands)) asked.1;
   kept = h.kept;
-}
+} where
+  sent : IsPacket w.ups (up.Op h.session h.q n h.op)
+  sent = item_sent w.ups (entries w.serving.history) done (entry.Op h.session h.q n h.op h.outcome) whole.honest.sent h.stands
+
+  asked : (o : Op) × IsPacket w.ups (up.Op s q n o)
+  asked = asked_by w s q n whole.honest asks
+
+  at : (i : ℕ) × (done ≡ suc i) × (slice_get (entries w.serving.history) i ≡ Some (entry.Op h.session h.q n h.op h.outcome))
+  at = place (entries w.serving.history) done _ h.stands
 
 stands_armed : (w : World) (s : SessionId) (z q : ℕ) → Honest w → IsArmed (entries w.serving.history) s z q → StandsArmed w s z q
 stands_armed w s z q honest (inl h) =
@@ -119,11 +137,14 @@ stays_safe ids occurrences v passes =
     let whole = passes_whole (new_world ids) occurrences v (record { honest = new_honest ids; numbered = new_numbered ids }) passes in
     let h = whole.honest in
     record {
-      acknowledged = λ s r z q n done out c. stands_as v s n done out h (contained (Vouched (entries v.serving.history)) v.acks (Reply s r z q n done out) h.acks c).0;
+      acknowledged = λ s r z q n done out c.
+          let backed = (contained (Vouched (entries v.serving.history)) v.acks (Reply s r z q n done out) h.acks c).0 in
+          stands_as v s r z q n done out whole backed.0 backed.1 (contained (Early (entries v.serving.history)) v.acks (Reply s r z q n done out) whole.numbered.early c);
       armed = λ s r z q c. stands_armed v s z q h (contained (Vouched (entries v.serving.history)) v.acks (Armed s r z q) h.acks c).0;
       told = λ m c. (contained (Vouched (entries v.serving.history)) v.acks m h.acks c).1;
       sent = λ k e at. item_sent v.ups (entries v.serving.history) k e h.sent at;
       numbered = packets_numbered v whole.numbered;
+      repeats = packets_repeat v whole.numbered;
       views = λ id c there p z x shows. shown_true v id c whole.numbered there p z x shows;
       agree = λ i j c d c_there d_there p z x y c_shows d_shows. (shown_true v i c whole.numbered c_there p z x c_shows).1 ∙ sym (shown_true v j d whole.numbered d_there p z y d_shows).1;
       writes = writes_stand v.serving.history h.sound.legal;

@@ -63,15 +63,17 @@ IsSent ups (entry.Off s q p) = IsPacket ups (up.Off s q p)
 IsSent ups (entry.Ended s None why rows) = Unit {0}
 IsSent ups (entry.Ended s (Some q) why rows) = IsPacket ups (up.Bye s q)
 
--- write n of the client of s stands under this number as it was sent, and came out so
-pub record StandsAs (w : World) (s : SessionId) (n done : ℕ) (out : Kept) : Type 0 where
+-- Write n of the client of s, which it asked for by message q of the session, stands under this number as it was sent, and
+-- came out so. Where it was sent again, the message that the entry was made of is another one with the same write.
+pub record StandsAs (w : World) (s : SessionId) (q n done : ℕ) (out : Kept) : Type 0 where
   pub session : SessionId
-  pub q : ℕ
+  pub first_q : ℕ
   pub op : Op
   pub outcome : Outcome
-  pub stands : Stands w.serving.history done (entry.Op session q n op outcome)
-  pub sent : IsPacket w.ups (up.Op session q n op)
+  pub stands : Stands w.serving.history done (entry.Op session first_q n op outcome)
+  pub sent : IsPacket w.ups (up.Op session first_q n op)
   pub client : session.client ≡ s.client
+  pub asked : IsPacket w.ups (up.Op s q n op)
   pub kept : kept_of outcome ≡ out
 
 -- what was sent as message q of the session, for its end or to take such back, stands under the number
@@ -83,6 +85,10 @@ StandsArmed w s z q =
 -- two packets of one session with one number are one message
 abbrev pub IsNumbered : List Up → Type 0
 IsNumbered ups = (m k : Up) (q : ℕ) → IsPacket ups m → IsPacket ups k → session_in m ≡ session_in k → q_in m ≡ Some q → q_in k ≡ Some q → m ≡ k
+
+-- two packets of one start of a client with one number of a write carry one operation
+abbrev pub IsRepeated : List Up → Type 0
+IsRepeated ups = (s t : SessionId) (q p n : ℕ) (o x : Op) → IsPacket ups (up.Op s q n o) → IsPacket ups (up.Op t p n x) → s.client ≡ t.client → s.incarnation ≡ t.incarnation → o ≡ x
 
 -- the entries tell it to its session: the Welcome behind the session's opening, or the message of its stream with this number
 abbrev pub IsTold : List Entry → Down → Type 0
@@ -104,18 +110,20 @@ ViewsAreTrue w = (id : ClientId) (c : Client) → IsClient w id c → (p : Path)
 abbrev pub ViewsAgree : World → Type 0
 ViewsAgree w = (i j : ClientId) (c d : Client) → IsClient w i c → IsClient w j d → (p : Path) (z : ℕ) (u v : Rows Scalar) → view p c ≡ Some (z, u) → view p d ≡ Some (z, v) → u ≡ v
 
--- Each write whose reply a client took stands where the reply says, as it was sent, and came out as the reply says. So
--- does each action for a session's end, and each cancel, that was acknowledged. All that clients took is what the
--- history tells their sessions, and what they show of a path is what stood there at its number, so that two of them
--- agree. All that stands there was sent, and a session's packets with one number are one message. Each write stands
--- once, in its client's order. And each session ends once, by all that is due and nothing that was cancelled, before
--- any entry of a later session of its client.
+-- Each write whose reply a client took stands where the reply says, as the client asked for it, and came out as the
+-- reply says. So does each action for a session's end, and each cancel, that was acknowledged. All that clients took is
+-- what the history tells their sessions, and what they show of a path is what stood there at its number, so that two of
+-- them agree. All that stands there was sent; a session's packets with one number are one message, and those of one
+-- start of a client with one number of a write carry one operation. Each write stands once, in its client's order. And
+-- each session ends once, by all that is due and nothing that was cancelled, before any entry of a later session of its
+-- client.
 pub record IsSafe (w : World) : Type 0 where
-  pub acknowledged : (s : SessionId) (r z q n done : ℕ) (out : Kept) → Contains w.acks (Reply s r z q n done out) → StandsAs w s n done out
+  pub acknowledged : (s : SessionId) (r z q n done : ℕ) (out : Kept) → Contains w.acks (Reply s r z q n done out) → StandsAs w s q n done out
   pub armed : (s : SessionId) (r z q : ℕ) → Contains w.acks (Armed s r z q) → StandsArmed w s z q
   pub told : (m : Down) → Contains w.acks m → IsTold (entries w.serving.history) m
   pub sent : (k : ℕ) (e : Entry) → Stands w.serving.history k e → IsSent w.ups e
   pub numbered : IsNumbered w.ups
+  pub repeats : IsRepeated w.ups
   pub views : ViewsAreTrue w
   pub agree : ViewsAgree w
   pub writes : WritesStand w.serving.history
