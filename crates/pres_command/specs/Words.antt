@@ -11,7 +11,7 @@ use Rattle.clap.specs.declared.builder.value_parser.ValueParser.TheVariants as p
 use Rattle.pres_command.specs.declared.words.Calling.{Calling}
 use Rattle.pres_command.specs.declared.words.Request.{Request}
 use Rattle.pres_service.specs.declared.serve.Serving.{Serving}
-use Rattle.pres_command.specs.declared.words.Request.TheVariants.{Apply, Serve, Client}
+use Rattle.pres_command.specs.declared.words.Request.TheVariants.{Apply, Sim, Serve, Client}
 
 -- ---- the program and its subcommands
 
@@ -25,6 +25,9 @@ up_to most rule = record rule { parser = Some (parser.Unsigned 1 most) }
 abbrev pub apply_shape : App
 apply_shape = new_app (codes "apply")
 
+abbrev pub sim_shape : App
+sim_shape = new_app (codes "sim")
+
 abbrev pub serve_shape : App
 serve_shape = with_rule (with_rule (with_rule (new_app (codes "serve")) (needed (codes "ADDRESS"))) (needed (codes "FILE")))
     (up_to 1024 (record (new_rule (codes "connections")) { long = Some (codes "connections"); value_names = 1 }))
@@ -37,9 +40,9 @@ abbrev pub on_top : Shape → Shape
 on_top s = record s { has_version = true; subcommand_required = true; disable_help_subcommand = true }
 
 abbrev pub program : App
-program = with_subcommand (with_subcommand (with_subcommand
+program = with_subcommand (with_subcommand (with_subcommand (with_subcommand
     (record (new_app (codes "presence")) { top = on_top (new_app (codes "presence")).top })
-    apply_shape.top) serve_shape.top) client_shape.top
+    apply_shape.top) sim_shape.top) serve_shape.top) client_shape.top
 
 -- no argument of the command is one of its subcommands too
 abbrev pub HasNoGlobals : Command → Type 0
@@ -55,9 +58,9 @@ AsksApply words = drop 1 words ≡ codes "apply" ∷ []
 abbrev Names : Text → List Text → Type 0
 Names name words = option_map (λ p. p.0) (subcommand_of program words) ≡ Some name
 
--- the words ask for a server or a client
-abbrev pub AsksNet : List Text → Type 0
-AsksNet words = Names (codes "serve") words ⊎ Names (codes "client") words
+-- the words ask for another run than that of `apply`: a server, a client or a script
+abbrev pub AsksAnother : List Text → Type 0
+AsksAnother words = Names (codes "serve") words ⊎ (Names (codes "client") words ⊎ Names (codes "sim") words)
 
 -- the words are no mistake, and ask for no help and no version
 abbrev pub AreTaken : List Text → Type 0
@@ -88,5 +91,6 @@ IsCalled calling rows = (first_of (codes "ADDRESS") rows ≡ Some calling.addres
 -- the request is that of the subcommand, with what that is given
 abbrev pub IsAskedBy : Request → Option (Text × List Row) → Type 0
 IsAskedBy Apply asked = (rows : List Row) × (asked ≡ Some (codes "apply", rows))
+IsAskedBy Sim asked = (rows : List Row) × (asked ≡ Some (codes "sim", rows))
 IsAskedBy (Serve serving) asked = (rows : List Row) × (asked ≡ Some (codes "serve", rows)) × IsServed serving rows
 IsAskedBy (Client calling) asked = (rows : List Row) × (asked ≡ Some (codes "client", rows)) × IsCalled calling rows

@@ -1,21 +1,22 @@
 //! The program, over its words and streams.
 
-ghost use Rattle.std.specs.Prelude.{◌≡◌, ◌⊎◌, ◌≢◌, ◌++◌, ℕ, List, codes, map};
+ghost use Rattle.std.specs.Prelude.{◌≡◌, ◌⊎◌, ◌≢◌, ◌++◌, ℕ, IfSome, List, codes, map};
 ghost use Rattle.std.specs.Io.KnownBytes.{Appends};
 ghost use Rattle.clap.specs.Words.{Row, kind_of};
 ghost use Rattle.pres_apply.specs.Lines.{Finished, Stopped};
 ghost use Rattle.pres_service.specs.Outputs.{listening_line, number_line};
+ghost use Rattle.pres_service.specs.Scripts.{IsScript};
 ghost use Rattle.pres_service.specs.Visits.{HasVisited};
 ghost use Rattle.pres_command.specs.Runs.{Asks, HasCalled, HasServed};
 ghost use Rattle.pres_command.specs.Statuses.{IsStatus};
-ghost use Rattle.pres_command.specs.Words.{AreTaken, AsksApply, AsksNet, IsMistake};
+ghost use Rattle.pres_command.specs.Words.{AreTaken, AsksApply, AsksAnother, IsMistake};
 
 use crate::words::{Calling, Request, read_words};
 use clap::Error;
 use clap::error::ErrorKind;
 use pres_apply::{RunFault, apply_run};
 use pres_ids::{ClientId, IdFault};
-use pres_service::{ServiceFault, Serving, Visit, client_run, serve_run};
+use pres_service::{ServiceFault, Serving, Visit, client_run, serve_run, sim_run};
 use std::alloc::Global;
 use std::io;
 use std::io::{Read, Write};
@@ -59,12 +60,15 @@ pub fn presence_run<
     ensures called { (rows : List Row)
         → Asks (codes "client") rows (map (λ word. word.now) words.now) → result ≡ 0
         → HasCalled rows (R.remaining input.old) (W.contents output.old) (W.contents output.new) }
+    ensures played { (rows : List Row)
+        → Asks (codes "sim") rows (map (λ word. word.now) words.now) → result ≡ 0
+        → IfSome (R.remaining input.old) IsScript }
     ensures untaken { ¬ AreTaken (map (λ word. word.now) words.now) → input.new ≡ input.old }
-    ensures done { ¬ AsksNet (map (λ word. word.now) words.now) → result ≡ 0
+    ensures done { ¬ AsksAnother (map (λ word. word.now) words.now) → result ≡ 0
         → Finished (R.remaining input.old) (W.contents output.old) (W.contents output.new)
         ⊎ (input.new ≡ input.old) }
     ensures words { result ≡ 2 → (input.new ≡ input.old) × (output.new ≡ output.old) }
-    ensures memory { ¬ AsksNet (map (λ word. word.now) words.now) → result ≡ 5
+    ensures memory { ¬ AsksAnother (map (λ word. word.now) words.now) → result ≡ 5
         → Stopped (R.remaining input.old) (R.remaining input.new)
         (W.contents output.old) (W.contents output.new) }
 {
@@ -75,6 +79,7 @@ pub fn presence_run<
             tell(status, faults);
             status
         }
+        Ok(Request::Sim) => sim_status(alloc, input, output, faults),
         Ok(Request::Serve(serving)) => serve_status(host, rt, alloc, serving, output, faults),
         Ok(Request::Client(calling)) => client_status(rt, alloc, calling, input, output, faults),
         Err(error) => explain(&error, output, faults),
@@ -95,6 +100,23 @@ fn apply_status<R: Read, W: Write>(alloc: Global, input: &mut R, output: &mut W)
         Ok(true) => REFUSED,
         Err(RunFault::Memory) => NO_MEMORY,
         Err(_) => REFUSED,
+    }
+}
+
+// Runs `presence sim`, and answers the exit status.
+fn sim_status<R: Read, W: Write, F: Write>(
+    alloc: Global,
+    input: &mut R,
+    output: &mut W,
+    faults: &mut F,
+) -> u8
+    ensures status { IsStatus result }
+    ensures words { result ≢ 2 }
+    ensures done { result ≡ 0 → IfSome (R.remaining input.old) IsScript }
+{
+    match sim_run(alloc, input, output) {
+        Ok(()) => DONE,
+        Err(fault) => tell_fault(&fault, faults),
     }
 }
 
@@ -170,7 +192,8 @@ fn client_status<
     }
 }
 
-// Says on the stream for faults why a server or a client ended early, and answers the exit status.
+// Says on the stream for faults why a server, a client or a script ended early, and answers the exit
+// status.
 fn tell_fault<F: Write>(fault: &ServiceFault, faults: &mut F) -> u8
     ensures status { IsStatus result }
     ensures words { result ≢ 2 }

@@ -4,7 +4,7 @@ ghost use Rattle.std.specs.Prelude.{◌≡◌, Some, IfErr, IfOk, IfSome, MatchR
 ghost use Rattle.clap.specs.Words.{app_of, found_of, kind_of, rows_of, subcommand_of};
 ghost use Rattle.clap.specs.declared.error.kind.ErrorKind.TheVariants.{OutOfMemory};
 ghost use Rattle.pres_command.specs.Words.{AreTaken, AsksApply, HasNoGlobals, IsAskedBy, IsCalled, IsMistake, IsServed};
-ghost use Rattle.pres_command.specs.Words.{apply_shape, client_shape, program, serve_shape};
+ghost use Rattle.pres_command.specs.Words.{apply_shape, client_shape, program, serve_shape, sim_shape};
 
 use clap::builder::ValueParser;
 use clap::error::ErrorKind;
@@ -24,6 +24,8 @@ const MOST_INCARNATIONS: u64 = 9_007_199_254_740_991;
 pub enum Request<'a> {
     /// Answers operations from the input with replies and the tree.
     Apply,
+    /// Does what the input's lines say, as a script of a world, and prints what that makes.
+    Sim,
     /// Serves connections over TCP.
     Serve(Serving<'a>),
     /// Does what the input's lines say as a client of a server.
@@ -44,6 +46,15 @@ fn apply_command<'a>(alloc: Global) -> Command<'a>
 {
     Command::new(alloc, "apply").about(
         "Carries out operations, a JSON line each, and prints replies and the tree",
+    )
+}
+
+fn sim_command<'a>(alloc: Global) -> Command<'a>
+    ensures app { app_of result ≡ sim_shape }
+    ensures local { HasNoGlobals result }
+{
+    Command::new(alloc, "sim").about(
+        "Runs a script of a server, its clients and the packets between them, and prints what it makes",
     )
 }
 
@@ -101,6 +112,7 @@ fn command<'a>(alloc: Global) -> Result<Command<'a>, AllocError>
         .subcommand_required(true)
         .disable_help_subcommand(true)
         .subcommand(apply_command(alloc))?
+        .subcommand(sim_command(alloc))?
         .subcommand(serve)?
         .subcommand(client)
 }
@@ -135,6 +147,9 @@ fn request_of<'a>(name: &str, given: &ArgMatches<'a>) -> Option<Request<'a>>
 {
     if name == "apply" {
         return Some(Request::Apply);
+    }
+    if name == "sim" {
+        return Some(Request::Sim);
     }
     if name == "serve" {
         return match server_of(given) {

@@ -2,4 +2,5 @@ pub mod Faults
 pub mod Lines
 pub mod Outputs
 pub mod Reading
+pub mod Scripts
 pub mod Visits

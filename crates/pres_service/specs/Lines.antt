@@ -161,7 +161,7 @@ abbrev pub lines_in : List ℕ → List (Option Said)
 lines_in input = map line_of_bytes (lines_of input)
 
 -- the number of the first line that says nothing, counted from n on
-abbrev pub first_bad : ℕ → List (Option Said) → Option ℕ
+abbrev pub first_bad : {A : Type 0} → ℕ → List (Option A) → Option ℕ
 first_bad n [] = None
 first_bad n (None ∷ lines) = Some n
 first_bad n (Some s ∷ lines) = first_bad (n + 1) lines

@@ -123,8 +123,8 @@ fn follow<R: Net<Listener = TcpListener, Stream = TcpStream> + RandomSource + Co
     }
 }
 
-// All of the input.
-fn bytes_of<I: Read>(alloc: Global, input: &mut I) -> Result<Vec<u8>, ServiceFault>
+/// All of the input.
+pub fn bytes_of<I: Read>(alloc: Global, input: &mut I) -> Result<Vec<u8>, ServiceFault>
     ensures read { IfOk result (λ read. IfSome (I.remaining input.old) (λ bytes.
         read.items ≡ bytes)) }
     ensures err { IfErr result (λ e. (e ≡ fault.Memory) ⊎ (e ≡ fault.Input)) }
@@ -189,8 +189,8 @@ fn lines_of(alloc: Global, input: &[u8]) -> Result<Vec<Line>, Unmade>
     Ok(lines)
 }
 
-// The lines of the input, without what ends them.
-fn texts_of(alloc: Global, input: &[u8]) -> Result<Vec<&[u8]>, AllocError>
+/// The lines of the input, without what ends them.
+pub fn texts_of(alloc: Global, input: &[u8]) -> Result<Vec<&[u8]>, AllocError>
     ensures { IfOk result (λ texts. map (λ text. text.now) texts.items ≡ lines_of input.now) }
 {
     if input.is_empty() {

@@ -152,6 +152,13 @@ fn answering(alloc: Global, given: &str) -> Result<Line, Unread>
     Ok(Line::Call(Call::Answer(request, answer)))
 }
 
+/// A whole number below 2^64: none where the text is none.
+pub fn number_of(text: &str) -> Option<u64>
+    ensures { result ≡ whole_in text.now }
+{
+    whole(text).ok()
+}
+
 // A whole number.
 fn whole(text: &str) -> Result<u64, Unread>
     ensures { IsWhole (whole_in text.now) result }

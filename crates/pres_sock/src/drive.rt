@@ -1,20 +1,20 @@
 //! The client's side of a connection.
 
-ghost use Rattle.std.specs.Prelude.{◌≡◌, ◌∷◌, ◌++◌, true, false, [], Some, IfOk, IfErr, IfSome, OnOk, option_map, string_bytes};
+ghost use Rattle.std.specs.Prelude.{◌≡◌, ◌∷◌, ◌++◌, true, false, [], Some, IfOk, IfErr, IfSome, OnOk};
 ghost use Rattle.std.specs.Io.KnownBytes.{Appends};
 ghost use Rattle.pres_client.specs.declared.call.Call.TheVariants.{GoOnline, GoOffline};
 ghost use Rattle.pres_client.specs.Steps.{IsMessage};
 ghost use Rattle.pres_sock.specs.Driven.{Drives, IsSettled, asked_in};
-ghost use Rattle.pres_sock.specs.Printed.{place_text, words_of, value_in, notice_text, notice_lines, refusal_text, line_of};
+ghost use Rattle.pres_sock.specs.Printed.{notice_lines, refusal_text, line_of};
 ghost use Rattle.pres_sock.specs.Ends.{is_handshake};
 
 use crate::fault::SockFault;
+use crate::notices::notice_line;
 use crate::socket;
 use crate::socket::{Came, Socket, close, connect, flush};
 use pres_client::{Call, Client, ClientFault, Notice};
-use pres_tree::{Path, Tree};
-use pres_wire::{Down, Number, Up, WireFault};
-use std::alloc::{AllocError, Global};
+use pres_wire::{Down, Up, WireFault};
+use std::alloc::Global;
 use std::io::{Read, Write};
 use tungstenite::{Error, MaskKeys};
 
@@ -290,56 +290,4 @@ fn tell_refusal<W: Write>(alloc: Global, output: &mut W, number: u8) -> Result<(
     ensures err { IfErr result (λ e. is_handshake e ≡ false) }
 {
     tell(output, format!(in alloc; "refused {number}\n")?.as_bytes())
-}
-
-// The notice's line.
-fn notice_line(alloc: Global, notice: &Notice) -> Result<Vec<u8>, AllocError>
-    ensures { IfOk result (λ line. line.items ≡ line_of (notice_text notice.now)) }
-{
-    let mut line = words_of(alloc, notice)?.into_bytes();
-    if let Some(value) = value_in(notice) {
-        value.print(alloc, &mut line)?;
-    }
-    line.push(b'\n')?;
-    Ok(line)
-}
-
-// What the notice tells before its value.
-fn words_of(alloc: Global, notice: &Notice) -> Result<String, AllocError>
-    ensures { IfOk result (λ text. string_bytes text ≡ words_of notice.now) }
-{
-    match notice {
-        Notice::Done { request, number } => { format!(in alloc; "done {request} {}", number.get()) }
-        Notice::Ask {
-            request,
-            attempt,
-            ..
-        } => { format!(in alloc; "ask {request} {attempt} ") }
-        Notice::TooManyTries { request } => format!(in alloc; "toomany {request}"),
-        Notice::Aborted { request } => format!(in alloc; "aborted {request}"),
-        Notice::Armed { request } => format!(in alloc; "armed {request}"),
-        Notice::ActionLost { request } => format!(in alloc; "lost {request}"),
-        Notice::Value { path, number, .. } => place_text(alloc, path, *number),
-        Notice::Connected(is_open) => format!(in alloc; "connected {is_open}"),
-        Notice::Denied { request, why } => format!(in alloc; "denied {request} {}", why.number()),
-        Notice::Faulted(code) => format!(in alloc; "faulted {}", code.number()),
-    }
-}
-
-// Where a value stands, and at which number.
-fn place_text(alloc: Global, path: &Path, number: Number) -> Result<String, AllocError>
-    ensures { IfOk result (λ text. string_bytes text ≡ place_text path.now number) }
-{
-    let path = path.text(alloc)?;
-    format!(in alloc; "value {path} {} ", number.get())
-}
-
-// The value that the notice shows.
-fn value_in(notice: &Notice) -> Option<&Tree>
-    ensures { option_map (λ value. value.now) result ≡ value_in notice.now }
-{
-    match notice {
-        Notice::Ask { value, .. } | Notice::Value { value, .. } => Some(value),
-        _ => None,
-    }
 }

@@ -5,6 +5,7 @@
 mod drive;
 mod fault;
 mod meter;
+mod notices;
 mod place;
 mod serve;
 mod socket;
@@ -12,4 +13,5 @@ mod socket;
 pub use drive::{Line, drive_client};
 pub use fault::SockFault;
 pub use meter::{MAX_IDLE_READS, MAX_READS};
+pub use notices::notice_line;
 pub use serve::{Clock, serve_stream};

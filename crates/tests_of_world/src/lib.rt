@@ -1,4 +1,4 @@
-//! Tests of worlds, over the public calls of `pres_world`. They stand in a crate of their own, since a
+//! Tests of worlds: scripts, as `presence sim` runs them. They stand in a crate of their own, since a
 //! crate with tests is proved twice.
 #![tactic(auto)]
 
