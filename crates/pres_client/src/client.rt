@@ -41,7 +41,6 @@ impl Phase {
 
 /// One incarnation of a client: it makes the messages that its calls need, and keeps each until
 /// its answer was received. Contracts see it as plain data.
-#[derive(Drop)]
 pub struct Client {
     pub(crate) alloc: Global,
     pub(crate) session: SessionId,
@@ -58,6 +57,29 @@ pub struct Client {
     pub(crate) watches: Watches,
     pub(crate) asks: Asks,
     pub(crate) mail: Mail,
+}
+
+// By hand, so that letting go of a client is one step of a proof, in the crates above too.
+impl Drop for Client {
+    fn drop(self) {
+        let Client {
+            alloc: _,
+            session: _,
+            attempts: _,
+            phase: _,
+            base: _,
+            made: _,
+            sent: _,
+            answered: _,
+            heard: _,
+            taken: _,
+            seen: _,
+            requests: _,
+            watches: _,
+            asks: _,
+            mail: _,
+        } = self;
+    }
 }
 
 impl Model for Client {

@@ -25,7 +25,6 @@ const FEW: usize = 32;
 
 /// Values under keys, in key order. Contracts see them as they see an ordered map: by their
 /// entries.
-#[derive(Drop)]
 pub(crate) struct Children<V> {
     store: Store<V>,
 }
@@ -36,6 +35,14 @@ pub(crate) struct Children<V> {
 pub(crate) enum Store<V> {
     Few(Vec<(Key, V)>),
     Many(BTreeMap<Key, V>),
+}
+
+// By hand, so that letting go of children is one step of a proof, however they are kept.
+impl<V: Drop> Drop for Children<V> {
+    fn drop(self) {
+        let Children { store } = self;
+        drop(store);
+    }
 }
 
 impl<V> Model for Children<V> {

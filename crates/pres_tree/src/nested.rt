@@ -5,7 +5,7 @@ ghost use Rattle.std.specs.BTreeMap.{IsOrdered};
 ghost use Rattle.pres_tree.specs.declared.fault.TreeFault.TheVariants.{Memory};
 ghost use Rattle.pres_tree.specs.Keys.{key_cmp};
 ghost use Rattle.pres_tree.specs.Paths.{path_cmp, sorted_by};
-ghost use Rattle.pres_tree.specs.Layer.{Children as AreChildren, child_rows, deepest_of};
+ghost use Rattle.pres_tree.specs.Layer.{Children as AreChildren, IsNode, child_rows, deepest_of, rows_of_node};
 ghost use Rattle.pres_tree.specs.Rows.{IsValue, Fits, is_null, leaf_at, value_at, depth_of, with_leaves, children_with, rows_in};
 ghost use Rattle.pres_tree.specs.Writes.{Undoes, write, after};
 
@@ -59,7 +59,6 @@ pub trait Leaf: Form<Self> + Drop {
 /// A value over leaves of the type `L`: null, one leaf, or values under keys. Null has one form:
 /// no object stands without children, and no child is null.
 #[cycle(tree)]
-#[derive(Drop)]
 pub struct Nested<L> {
     pub(crate) node: Node<L>,
 }
@@ -70,6 +69,15 @@ pub(crate) enum Node<L> {
     Empty,
     Leaf(L),
     Object(Children<Nested<L>>),
+}
+
+// By hand, so that letting go of a value is one step of a proof, whatever it holds.
+impl<L: Drop> Drop for Nested<L> {
+    #[cycle(dropped)]
+    fn drop(self) {
+        let Nested { node } = self;
+        drop(node);
+    }
 }
 
 impl<L> Model for Nested<L> {
@@ -468,6 +476,15 @@ fn changed_children<L, M: Drop, C: Change<L, M>>(
 }
 
 impl<L: Drop> Nested<L> {
+    // What the value is made of.
+    fn into_node(self) -> Node<L>
+        ensures rows { rows_of_node result ≡ self }
+        ensures sound { IsNode result }
+    {
+        let Nested { node } = self;
+        node
+    }
+
     /// The same of a value that isn't needed any more: its keys and leaves are moved.
     pub fn into_changed<M: Drop, C: Change<L, M>>(
         self,
@@ -489,7 +506,7 @@ fn moved<L: Drop, M: Drop, C: Change<L, M>>(
 ) -> Result<Nested<M>, AllocError>
     ensures { IfOk result (λ t. t ≡ with_leaves (C.makes how.now) value) }
 {
-    match value.node {
+    match value.into_node() {
         Node::Empty => Ok(Nested::empty()),
         Node::Leaf(leaf) => Ok(Nested::scalar(how.change_owned(leaf))),
         Node::Object(children) => {

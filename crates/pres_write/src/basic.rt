@@ -19,10 +19,16 @@ use std::marker::Model;
 /// One write: a value that takes the place of all that stands at the path, or none, which
 /// removes it. No leaf of the value is more than `MAX_DEPTH` keys from the root, and null has one
 /// form, none. Contracts see it as the record of both.
-#[derive(Drop)]
 pub struct Basic {
     path: Path,
     value: Option<Tree>,
+}
+
+// By hand, so that letting go of a write is one step of a proof, in the crates above too.
+impl Drop for Basic {
+    fn drop(self) {
+        let Basic { path: _, value: _ } = self;
+    }
 }
 
 impl Model for Basic {
@@ -84,7 +90,8 @@ impl Basic {
         ensures parts { result ≡ (self.path, self.value) }
         ensures fits { Fits result.0 (rows_in result.1) }
     {
-        (self.path, self.value)
+        let Basic { path, value } = self;
+        (path, value)
     }
 
     /// An equal write.

@@ -11,10 +11,16 @@ use std::marker::Model;
 
 /// A draft and the path that it is to stand at, where no leaf of it is more than `MAX_DEPTH`
 /// keys from the root. Contracts see the pair of both.
-#[derive(Drop)]
 pub struct Placement {
     path: Path,
     draft: Draft,
+}
+
+// By hand, so that letting go of a placement is one step of a proof, in the crates above too.
+impl Drop for Placement {
+    fn drop(self) {
+        let Placement { path: _, draft: _ } = self;
+    }
 }
 
 impl Model for Placement {
@@ -75,7 +81,8 @@ impl Placement {
         ensures parts { result ≡ self }
         ensures fits { Fits result.0 result.1 }
     {
-        (self.path, self.draft)
+        let Placement { path, draft } = self;
+        (path, draft)
     }
 
     /// An equal placement.

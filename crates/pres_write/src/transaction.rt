@@ -16,11 +16,21 @@ use std::marker::Model;
 
 /// A draft for the path, which is written if the path holds exactly the expected value. No leaf of
 /// either is more than `MAX_DEPTH` keys from the root.
-#[derive(Drop)]
 pub struct Transaction {
     path: Path,
     expect: Tree,
     new: Draft,
+}
+
+// By hand, so that letting go of a transaction is one step of a proof, in the crates above too.
+impl Drop for Transaction {
+    fn drop(self) {
+        let Transaction {
+            path: _,
+            expect: _,
+            new: _,
+        } = self;
+    }
 }
 
 impl Model for Transaction {

@@ -33,10 +33,16 @@ pub(crate) const MOST: usize = 256;
 
 /// Drafts at 0 to 256 places below a path, of which none is at or above another. Contracts see
 /// the path, and the places in path order with the path cut off.
-#[derive(Drop)]
 pub struct Update {
     path: Path,
     places: BTreeMap<Path, Draft>,
+}
+
+// By hand, so that letting go of an update is one step of a proof, in the crates above too.
+impl Drop for Update {
+    fn drop(self) {
+        let Update { path: _, places: _ } = self;
+    }
 }
 
 impl Model for Update {

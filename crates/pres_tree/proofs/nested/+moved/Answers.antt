@@ -14,15 +14,15 @@ use Rattle.pres_tree.proofs.nested.+moved.Goals as goal
 
 pub moved-moved_children-requires : goal.moved-moved_children-requires
 moved-moved_children-requires g t c κs within =
-    let at = at_object {n = c.value.inside.node} c.in-Object.children c.value.invariant c.value.view_is c.in-Object.is in
-    (omega (arith, c.decreases, tallest-le-height c.in-Object.children.entries at.children, height-sorted_by (child_rows c.in-Object.children.entries), ap height at.is, ap (λ m. tallest m.entries) c.in-Object.children-is), within)
+    let at = at_object c.in-Object.children c.into_node.ensures.sound c.into_node.ensures.rows c.in-Object.is in
+    (omega (arith, c.decreases, tallest-le-height c.in-Object.children.entries at.children, height-sorted_by (child_rows c.in-Object.children.entries), ap height at.is), within)
 
 pub moved-invariant_of-result : goal.moved-invariant_of-result
 moved-invariant_of-result g t c =
-    let at = at_object {n = c.value.inside.node} c.in-Object.children c.value.invariant c.value.view_is c.in-Object.is in
+    let at = at_object c.in-Object.children c.into_node.ensures.sound c.into_node.ensures.rows c.in-Object.is in
     let f = g.C.Change.makes c.args.how.now in
     let is : c.in_ok-changed-in-Object.changed.entries ≡ children_with f c.in-Object.children.entries =
-    c.in_ok-changed-in-Object.ensures.entries ∙ ap (λ m. children_with f m.entries) c.in-Object.children-is in (
+    c.in_ok-changed-in-Object.ensures.entries in (
       omega (arith, at.some, ap length is, changed_length f c.in-Object.children.entries),
       subst Children (sym is) (changed_children f c.in-Object.children.entries at.children),
       c.in_ok-changed-in-Object.ensures.ordered,
@@ -31,10 +31,10 @@ moved-invariant_of-result g t c =
 
 pub moved-returns-in_ok-changed-in-Object : goal.moved-returns-in_ok-changed-in-Object
 moved-returns-in_ok-changed-in-Object g t c =
-    let at = at_object {n = c.value.inside.node} c.in-Object.children c.value.invariant c.value.view_is c.in-Object.is in
+    let at = at_object c.in-Object.children c.into_node.ensures.sound c.into_node.ensures.rows c.in-Object.is in
     let f = g.C.Change.makes c.args.how.now in
     changed_object f c.in-Object.children.entries c.in_ok-changed-in-Object.changed.entries c.args.value
-    (c.in_ok-changed-in-Object.ensures.entries ∙ ap (λ m. children_with f m.entries) c.in-Object.children-is) at.is
+    c.in_ok-changed-in-Object.ensures.entries at.is
 
 pub moved_children-children-init : goal.moved_children-children-init
 moved_children-children-init g t c = ([], sym (append-nil c.args.children.entries), c.new-changed.ensures.empty, c.new-changed.ensures.ordered)

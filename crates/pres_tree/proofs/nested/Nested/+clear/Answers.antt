@@ -9,7 +9,7 @@ use Rattle.pres_tree.proofs.Values.{null_value, null_fits, value_after}
 use Rattle.pres_tree.proofs.Found.{Children-set, Children-remove, null_is_empty, sets_then, write_root, write_absent, rows_at, set_at}
 use Rattle.pres_tree.proofs.Nodes.{at_object, at_other, no_keys, object_write, empty_write, rows_at_some, view_order}
 use Rattle.pres_tree.proofs.nested.Nested.+clear.Goals as goal
-use Rattle.pres_tree.proofs.nested.Nested.+clear.Goals.{in-Leaf-2, in-Object+in-Few-2, in-Object+in-Many-2, in-Empty-2}
+use Rattle.pres_tree.proofs.nested.Nested.+clear.Goals.{in-Leaf-2, in-Object-2, in-Empty-2}
 
 pub returns-in_default : goal.returns-in_default
 returns-in_default g t c =
@@ -71,8 +71,7 @@ returns-then-is_empty g t c =
     child in
     elim c.match-self-3.branch [
       | in-Leaf-2 w ↦ w.self-is ∙ done
-      | in-Object+in-Few-2 w ↦ w.self-is ∙ done
-      | in-Object+in-Many-2 w ↦ w.self-is ∙ done
+      | in-Object-2 w ↦ w.self-is ∙ done
       | in-Empty-2 w ↦ w.self-is ∙ done
     ]
 
