@@ -7,6 +7,7 @@ pub mod Faith
 pub mod Follow
 pub mod Found
 pub mod Hears
+pub mod Known
 pub mod Legal
 pub mod Lists
 pub mod Lost
