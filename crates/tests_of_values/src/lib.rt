@@ -1,8 +1,10 @@
-//! Tests of values, operations, messages and saved bodies, over the public calls of `pres_tree`,
-//! `pres_write`, `pres_wire` and `pres_body`. They stand in a crate of their own, since a crate with
-//! tests is proved twice.
+//! Tests of values, operations, messages, saved bodies and operations from lines, over the public
+//! calls of `pres_tree`, `pres_write`, `pres_wire`, `pres_body` and `pres_apply`. They stand in a
+//! crate of their own, since a crate with tests is proved twice.
 #![tactic(auto)]
 
+#[cfg(test)]
+mod apply;
 #[cfg(test)]
 mod bodies;
 #[cfg(test)]

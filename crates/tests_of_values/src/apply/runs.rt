@@ -1,6 +1,6 @@
 //! Inputs and what is answered to them.
 
-use crate::streams::{Drops, End, answers};
+use crate::apply::streams::{Drops, End, answers};
 
 const SET_A: &str = r#"{"now":1000,"op":"set","path":"/a","value":1}"#;
 

@@ -1,6 +1,6 @@
 //! Inputs that can't be read to their end, and outputs that take no more.
 
-use crate::streams::{Clogs, Drops, End, answers, ended};
+use crate::apply::streams::{Clogs, Drops, End, answers, ended};
 
 const SET_A: &str = r#"{"now":1000,"op":"set","path":"/a","value":1}"#;
 
