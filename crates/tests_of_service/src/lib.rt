@@ -1,6 +1,7 @@
-//! Tests of a server that is kept in a file, of its clients, of scripts of worlds, and of the command
-//! line, over the public calls of `pres_service` and `pres_command`. They stand in a crate of their
-//! own, since a crate with tests is proved twice.
+//! Tests of connections over streams of known bytes and over TCP, of a server that is kept in a file,
+//! of its clients, of scripts of worlds, and of the command line, over the public calls of the crates
+//! from `pres_sock` to `pres_command`. They stand in a crate of their own, since a crate with tests is
+//! proved twice.
 #![tactic(auto)]
 
 #[cfg(test)]
@@ -8,8 +9,18 @@ mod board;
 #[cfg(test)]
 mod command;
 #[cfg(test)]
+mod connections;
+#[cfg(test)]
+mod drives;
+#[cfg(test)]
+mod ends;
+#[cfg(test)]
 mod files;
 #[cfg(test)]
-mod scripts;
+mod script;
 #[cfg(test)]
 mod visits;
+#[cfg(test)]
+mod wakes;
+#[cfg(test)]
+mod worlds;
