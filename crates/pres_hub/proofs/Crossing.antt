@@ -6,6 +6,7 @@ use Rattle.std.proofs.Crossing.{crosses, send as global_is}
 use Rattle.std.proofs.MapsCrossing.{crosses as maps}
 use Rattle.std.proofs.MapsCrossingOver.{crosses as maps_over}
 use Rattle.rtrb.proofs.producer.Producer.TheSendSync.{the_send as producer_is}
+use Rattle.rtrb.proofs.consumer.Consumer.TheSendSync.{the_send as consumer_is}
 use Rattle.std.below.std_heap.proofs.GlobalAllocator.TheSendSync.{the_frees}
 use Rattle.pres_tree.proofs.nested.Nested.TheLaws.TheKnot.{crosses as knot}
 use Rattle.pres_tree.proofs.key.Key.TheSendSync.{the_send as key_is}
@@ -44,6 +45,7 @@ use Rattle.pres_server.specs.contracts.server.Server as server
 use Rattle.pres_wire.specs.contracts.values.Values as values
 use Rattle.pres_wire.specs.contracts.down.Down as down
 use Rattle.pres_ring.specs.contracts.feed.Feed as feed
+use Rattle.pres_ring.specs.contracts.outbox.Outbox as outbox
 use Rattle.pres_lines.specs.contracts.lines.Lines as lines
 use Rattle.pres_keeper.specs.contracts.memory.MemKeeper as keeper
 use Rattle.pres_lines.specs.contracts.place.Place as place
@@ -127,6 +129,9 @@ server_send = search (log_send, moment_is, index_send, global_is, declared_send,
 
 pub feed_send : IsSend feed.the_row
 feed_send = search (session_is, down_send, producer_is, global_is, the_frees, declared_send, as_row_send, crosses, sendable) depth 60 fits 20000
+
+pub outbox_send : IsSend outbox.the_row
+outbox_send = search (session_is, down_send, consumer_is, global_is, the_frees, declared_send, as_row_send, crosses, sendable) depth 60 fits 20000
 
 pub place_send : IsSend place.the_row
 place_send = search (feed_send, why_is, crosses, sendable) depth 60 fits 20000

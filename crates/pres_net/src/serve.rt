@@ -111,7 +111,11 @@ fn accept_all<
 
 // One connection, from its handshake to its end.
 #[inline(never)]
-fn connection<L: Ledger, K: Keeper + Drop, R: Net + Wait + Clock>(
+fn connection<
+    L: Ledger + Send + Sync,
+    K: Keeper + Drop + Send,
+    R: Net + Threads + Wait + Clock + Sync,
+>(
     rt: &R,
     alloc: Global,
     hub: &Hub<L, K, StreamBell, OpenGate>,

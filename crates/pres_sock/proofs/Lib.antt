@@ -1,2 +1,3 @@
 mod Driven
 mod Messages
+mod Crossing

@@ -1,5 +1,5 @@
 -- Why a connection ended.
-use Rattle.std.specs.Prelude.{ℕ, Bool, true, false}
+use Rattle.std.specs.Prelude.{ℕ, Bool, true, false, Result, Ok, Err}
 use Rattle.tungstenite.specs.declared.error.Error.{Error}
 use Rattle.tungstenite.specs.declared.error.Error.TheVariants as error
 use Rattle.pres_sock.specs.declared.fault.SockFault.{SockFault}
@@ -9,6 +9,11 @@ use Rattle.pres_sock.specs.declared.fault.SockFault.TheVariants as fault
 abbrev pub is_handshake : SockFault → Bool
 is_handshake (fault.Handshake e) = true
 is_handshake e = false
+
+-- it ended so
+abbrev pub fails_to_shake : {A : Type 0} → Result A SockFault → Bool
+fails_to_shake (Ok x) = false
+fails_to_shake (Err e) = is_handshake e
 
 -- the number that programs print
 abbrev pub number_of : SockFault → ℕ

@@ -3,7 +3,7 @@
 ghost use Rattle.std.specs.Prelude.{◌≡◌, ◌≤◌, true, false, None, Ok, IfOk, IfErr, IfSome};
 ghost use Rattle.pres_wire.specs.UpForms.{decoded};
 ghost use Rattle.pres_wire.specs.declared.up.Up.TheVariants.{Hello};
-ghost use Rattle.pres_sock.specs.Ends.{is_handshake};
+ghost use Rattle.pres_sock.specs.Ends.{is_handshake, fails_to_shake};
 
 use crate::fault::SockFault;
 use crate::place::{Place, Visit, code_of, join, ring};
@@ -16,6 +16,8 @@ use std::alloc::Global;
 use std::io::{Read, Write};
 use std::sync::Wait;
 use std::sync::ledger::Ledger;
+use std::thread;
+use std::thread::Threads;
 use tungstenite::NoMask;
 
 /// The time in milliseconds since 1970, as a log has it.
@@ -32,22 +34,66 @@ enum Step {
     Close,
 }
 
+// A connection whose session was opened, the bells that are to be rung, and whether it goes on.
+struct Served<L: Ledger, B, S> {
+    socket: Socket<S, NoMask>,
+    place: Place<L>,
+    due: Vec<B>,
+    step: Result<Step, SockFault>,
+    ghost joined: { 1 ≤ place.seat.made },
+    ghost shaken: { fails_to_shake step ≡ false },
+}
+
+impl<L: Ledger, B, S> Served<L, B, S> {
+    fn goes_on(&self) -> bool {
+        matches!(self.step, Ok(Step::GoOn))
+    }
+}
+
+impl<L: Ledger, B, S: Read + Write + Drop> Served<L, B, S> {
+    // Sends what waits.
+    fn send(&mut self, alloc: Global) {
+        self.step = send_all(alloc, &mut self.socket, &mut self.place);
+    }
+
+    // What this read is answered with, and what waits for the session.
+    fn turn<K: Keeper + Drop, G: Gate, R: Wait, C: Clock>(
+        &mut self,
+        visit: &Visit<'_, L, K, B, G, R>,
+        came: Came,
+        clock: &mut C,
+    )
+    where
+        B: Bell + Clone + Drop,
+    {
+        let (socket, place, due) = (&mut self.socket, &mut self.place, &mut self.due);
+        self.step = turn(visit, socket, place, due, came, clock);
+    }
+}
+
 // The most messages that are taken between two reads: a ring has room for so many.
 const BURST: usize = 256;
+
+// How many reads in a row give nothing before a connection rests.
+const RESTS_BEHIND: u32 = 20;
 
 /// Serves one connection until it is over: its seat's parting, where a session was opened, and why
 /// the connection ended, where it wasn't closed. The seat that it joins is given to `leave`, so a
 /// parting counts a Hello at least, and there is none where the handshake failed. The bell is the
 /// connection's own: it is rung where something is to be sent, and ends a read that waits.
+///
+/// Messages are answered in a thread of their own, which ends once nothing has come for 20 reads: so
+/// a connection that only listens keeps no more of a stack than its reads take. Where no such thread
+/// can be made, they are answered in the caller's.
 #[inline(never)]
 pub fn serve_stream<
-    L: Ledger,
-    K: Keeper + Drop,
-    B: Bell + Clone + Drop,
-    G: Gate,
-    R: Wait,
-    S: Read + Write + Drop,
-    C: Clock,
+    L: Ledger + Send + Sync,
+    K: Keeper + Drop + Send,
+    B: Bell + Clone + Drop + Send,
+    G: Gate + Sync,
+    R: Wait + Threads + Sync,
+    S: Read + Write + Drop + Send,
+    C: Clock + Send,
 >(
     rt: &R,
     alloc: Global,
@@ -60,20 +106,27 @@ pub fn serve_stream<
     ensures handshake { IfErr result.1 (λ e. is_handshake e ≡ true → result.0 ≡ None) }
 {
     let visit = Visit { rt, alloc, hub };
-    let mut socket = match shake(alloc, stream) {
-        Ok(socket) => socket,
-        Err(fault) => return (None, Err(fault)),
+    let arrival = Arrival {
+        visit: &visit,
+        stream,
+        bell,
+        clock: &mut *clock,
     };
-    let mut due = Vec::new(alloc);
-    let mut place = match greet(&visit, &mut socket, bell, &mut due, clock) {
-        Ok(Some(place)) => place,
+    let mut served = match apart(rt, arrival) {
+        Ok(Some(served)) => served,
         Ok(None) => return (None, Ok(())),
         Err(fault) => return (None, Err(fault)),
     };
-    let served = serve(&visit, &mut socket, &mut place, &mut due, clock);
+    serve(&visit, &mut served, &mut *clock);
+    let Served {
+        mut socket,
+        place,
+        mut due,
+        step,
+    } = served;
     let parting = place.leave(&visit, &mut due, Moment::at(clock.now()));
     ring(&mut due);
-    let ended = match served {
+    let ended = match step {
         Ok(Step::Close) => {
             close(&mut socket);
             Ok(())
@@ -82,6 +135,80 @@ pub fn serve_stream<
         Err(fault) => Err(fault),
     };
     (Some(parting), ended)
+}
+
+// Work that is done in a thread of its own, or in the caller's where none can be made.
+trait Task {
+    type Output;
+
+    fn run(self) -> Self::Output;
+}
+
+#[inline(never)]
+fn apart<R: Threads, T: Task<Output = A> + Send + Drop, A: Send>(rt: &R, task: T) -> A {
+    thread::join(rt, move || task.run(), || ()).0
+}
+
+// The first work for a connection: the handshake, a session, and what comes first.
+#[derive(Drop)]
+struct Arrival<'a, L: Ledger, K: Keeper + Drop, B, G: Gate, R, S, C> {
+    visit: &'a Visit<'a, L, K, B, G, R>,
+    stream: S,
+    bell: Option<B>,
+    clock: &'a mut C,
+}
+
+impl<
+    'a,
+    L: Ledger,
+    K: Keeper + Drop,
+    B: Bell + Clone + Drop,
+    G: Gate,
+    R: Wait,
+    S: Read + Write + Drop,
+    C: Clock,
+> Task for Arrival<'a, L, K, B, G, R, S, C> {
+    type Output = Result<Option<Served<L, B, S>>, SockFault>;
+
+    fn run(self) -> Result<Option<Served<L, B, S>>, SockFault> {
+        let Arrival {
+            visit,
+            stream,
+            bell,
+            clock,
+        } = self;
+        open(visit, stream, bell, clock)
+    }
+}
+
+// The handshake, a session, and what comes first. None where the connection is over before a session.
+fn open<
+    L: Ledger,
+    K: Keeper + Drop,
+    B: Bell + Clone + Drop,
+    G: Gate,
+    R: Wait,
+    S: Read + Write + Drop,
+    C: Clock,
+>(
+    visit: &Visit<'_, L, K, B, G, R>,
+    stream: S,
+    bell: Option<B>,
+    clock: &mut C,
+) -> Result<Option<Served<L, B, S>>, SockFault> {
+    let mut socket = shake(visit.alloc, stream)?;
+    let mut due = Vec::new(visit.alloc);
+    let Some(place) = greet(visit, &mut socket, bell, &mut due, &mut *clock)? else {
+        return Ok(None);
+    };
+    let mut served = Served {
+        socket,
+        place,
+        due,
+        step: Ok(Step::GoOn),
+    };
+    turns(visit, &mut served, Came::Nothing, clock);
+    Ok(Some(served))
 }
 
 // Before a session is open: reads until one is. None where the connection is over before.
@@ -170,8 +297,48 @@ fn hello_in(alloc: Global, text: &str) -> Result<SessionId, Code>
     }
 }
 
-// One read after the other, until the connection is over.
+// Rests until something comes, which is answered in a thread of its own, until the connection is over.
 fn serve<
+    L: Ledger + Send + Sync,
+    K: Keeper + Drop + Send,
+    B: Bell + Clone + Drop + Send,
+    G: Gate + Sync,
+    R: Wait + Threads + Sync,
+    S: Read + Write + Drop + Send,
+    C: Clock + Send,
+>(visit: &Visit<'_, L, K, B, G, R>, served: &mut Served<L, B, S>, clock: &mut C) {
+    for _ in 0..u64::MAX {
+        if !served.goes_on() {
+            return;
+        }
+        match read(&mut served.socket) {
+            Ok(Came::Nothing) => served.send(visit.alloc),
+            Ok(came) => apart(
+                visit.rt,
+                Waking {
+                    visit: &*visit,
+                    served: &mut *served,
+                    came,
+                    clock: &mut *clock,
+                },
+            ),
+            Err(fault) => served.step = Err(fault),
+        }
+    }
+    served.step = Err(SockFault::Turns);
+}
+
+// The work for a connection that rested: what came is answered, and what comes behind it.
+#[derive(Drop)]
+struct Waking<'a, L: Ledger, K: Keeper + Drop, B, G: Gate, R, S, C> {
+    visit: &'a Visit<'a, L, K, B, G, R>,
+    served: &'a mut Served<L, B, S>,
+    came: Came,
+    clock: &'a mut C,
+}
+
+impl<
+    'a,
     L: Ledger,
     K: Keeper + Drop,
     B: Bell + Clone + Drop,
@@ -179,29 +346,53 @@ fn serve<
     R: Wait,
     S: Read + Write + Drop,
     C: Clock,
->(
-    visit: &Visit<'_, L, K, B, G, R>,
-    socket: &mut Socket<S, NoMask>,
-    place: &mut Place<L>,
-    due: &mut Vec<B>,
-    clock: &mut C,
-) -> Result<Step, SockFault>
-    ensures grows { place.old.seat.made ≤ place.new.seat.made }
-    ensures err { IfErr result (λ e. is_handshake e ≡ false) }
-{
-    let mut step = send_all(visit.alloc, socket, place);
-    'turns: for _ in 0..u64::MAX {
-        ring(due);
-        match step? {
-            Step::GoOn => {}
-            over => return Ok(over),
-        }
-        step = turn(visit, socket, place, due, clock);
+> Task for Waking<'a, L, K, B, G, R, S, C> {
+    type Output = ();
+
+    fn run(self) {
+        let Waking {
+            visit,
+            served,
+            came,
+            clock,
+        } = self;
+        turns(visit, served, came, clock)
     }
-    Err(SockFault::Turns)
 }
 
-// One read, what it is answered with, and what waits for the session.
+// One turn after the other, until so many reads in a row gave nothing, or the connection is over.
+fn turns<
+    L: Ledger,
+    K: Keeper + Drop,
+    B: Bell + Clone + Drop,
+    G: Gate,
+    R: Wait,
+    S: Read + Write + Drop,
+    C: Clock,
+>(visit: &Visit<'_, L, K, B, G, R>, served: &mut Served<L, B, S>, came: Came, clock: &mut C) {
+    let mut idle = 0;
+    served.turn(visit, came, &mut *clock);
+    for _ in 0..u64::MAX {
+        ring(&mut served.due);
+        if !served.goes_on() || idle >= RESTS_BEHIND {
+            return;
+        }
+        match read(&mut served.socket) {
+            Ok(came) => {
+                idle = if matches!(came, Came::Nothing) {
+                    idle + 1
+                } else {
+                    0
+                };
+                served.turn(visit, came, &mut *clock);
+            }
+            Err(fault) => served.step = Err(fault),
+        }
+    }
+    served.step = Err(SockFault::Turns);
+}
+
+// What this read is answered with, and what waits for the session.
 #[inline(never)]
 fn turn<
     L: Ledger,
@@ -216,18 +407,16 @@ fn turn<
     socket: &mut Socket<S, NoMask>,
     place: &mut Place<L>,
     due: &mut Vec<B>,
+    came: Came,
     clock: &mut C,
 ) -> Result<Step, SockFault>
     ensures grows { place.old.seat.made ≤ place.new.seat.made }
     ensures err { IfErr result (λ e. is_handshake e ≡ false) }
 {
-    let came = match read(socket)? {
-        Came::Close => {
-            flush(socket)?;
-            return Ok(Step::Closed);
-        }
-        came => came,
-    };
+    if let Came::Close = came {
+        flush(socket)?;
+        return Ok(Step::Closed);
+    }
     let answer = answer_to(visit, place, due, came, clock)?;
     put_answer(visit.alloc, socket, answer)?;
     send_all(visit.alloc, socket, place)

@@ -11,6 +11,7 @@ use std::marker::Brand;
 use std::process::Abort;
 use std::sync::Wait;
 use std::sync::ledger::{Blank, Ledger};
+use std::thread::Threads;
 
 // One moment.
 #[derive(Drop)]
@@ -42,7 +43,7 @@ fn end_text(ended: Result<(), SockFault>) -> &'static str {
 }
 
 // One connection to a new hub, with a ledger that the caller picks.
-fn served_with<L: Ledger, R: Wait + Abort>(
+fn served_with<L: Ledger + Send + Sync, R: Wait + Threads + Abort + Sync>(
     rt: &R,
     alloc: Global,
     blank: Blank,
@@ -75,11 +76,12 @@ fn served_with<L: Ledger, R: Wait + Abort>(
 }
 
 // One connection to a new hub.
-fn served<R: Wait + Abort>(rt: &R, alloc: Global, stream: Script) -> Outcome {
+fn served<R: Wait + Threads + Abort + Sync>(rt: &R, alloc: Global, stream: Script) -> Outcome {
     served_with::<Brand, R>(rt, alloc, Blank::new(1 << 53), stream)
 }
 
-// The pieces of a stream: the request, and a frame for each line, whose first word is its kind.
+// The pieces of a stream: the request, and a frame for each line, whose first word is its kind; behind
+// `nothing` a read gives nothing.
 fn pieces(rt: &impl Abort, alloc: Global, lines: &str) -> Vec<Vec<u8>> {
     let mut pieces = Vec::new(alloc);
     let mut head = Vec::new(alloc);
@@ -88,6 +90,7 @@ fn pieces(rt: &impl Abort, alloc: Global, lines: &str) -> Vec<Vec<u8>> {
     for line in lines.lines() {
         let (kind, text) = line.split_once(' ').unwrap_or((line, ""));
         let piece = match kind {
+            "nothing" => Vec::new(alloc),
             "text" => frame(rt, alloc, 1, text.as_bytes()),
             "binary" => frame(rt, alloc, 2, text.as_bytes()),
             "long" => frame(rt, alloc, 1, long(rt, alloc).as_bytes()),
@@ -109,7 +112,7 @@ fn long(rt: &impl Abort, alloc: Global) -> String {
 }
 
 // What a connection of these lines is answered, how it ended, and what was counted.
-fn answered<R: Wait + Abort>(
+fn answered<R: Wait + Threads + Abort + Sync>(
     rt: &R,
     alloc: Global,
     lines: &str,
@@ -178,13 +181,33 @@ fn a_bye_closes_the_connection(rt: HostRuntime) {
     assert_eq!(rt; served.counts, (2, 2, 0, Some(2)));
 }
 
+// So many lines of nothing let a connection rest.
+const RESTS: usize = 30;
+
+// What comes behind a rest is answered as what comes at once.
+#[test]
+fn what_comes_behind_a_rest_is_answered(rt: HostRuntime) {
+    let mut lines = String::new(rt.alloc());
+    for line in BYE.lines() {
+        for _ in 0..RESTS {
+            lines.push_str("nothing\n").expect(&rt, "memory");
+        }
+        lines.push_str(line).expect(&rt, "memory");
+        lines.push('\n').expect(&rt, "memory");
+    }
+    let (said, served) = answered(&rt, rt.alloc(), lines.as_str(), NONE);
+    assert_eq!(rt; said.as_str(), BYE_ANSWERS);
+    assert_eq!(rt; served.ended, "closed");
+    assert_eq!(rt; served.counts, (2, 2, 0, Some(2)));
+}
+
 const SHORT: &str = r#"text {"m":"hello","s":["alice",1,1]}
 binary 1
 text {"m":"op","n":1,"op":{"op":"set","path":"/a","value":1},"q":1,"s":["alice",1,1]}
 close"#;
 
 // How many runs, in which a read or a write fails, leave a seat out or a session open.
-fn left_behind<R: Wait + Abort>(rt: &R, alloc: Global) -> u32 {
+fn left_behind<R: Wait + Threads + Abort + Sync>(rt: &R, alloc: Global) -> u32 {
     let mut left: u32 = 0;
     for number in 1..20 {
         for fails in [
@@ -214,7 +237,7 @@ fn each_failure_ends_the_session(rt: HostRuntime) {
 }
 
 // How a connection ends that opens a session, whose peer is silent for so many reads and then goes.
-fn ended_silent<R: Wait + Abort>(rt: &R, alloc: Global, reads: u32) -> Outcome {
+fn ended_silent<R: Wait + Threads + Abort + Sync>(rt: &R, alloc: Global, reads: u32) -> Outcome {
     let mut pieces = pieces(rt, alloc, HELLO);
     // one read gives nothing behind the Hello
     for _ in 1..reads {
