@@ -1,9 +1,11 @@
 // The load of bench/serve: one thread over epoll, with raw frames whose mask is 0. Each use prints one line NAME=NUMBER ..
 //
 //   load write KIND PORT CLIENTS SECONDS   clients with one write in flight each; KIND: presence, redis, mqtt,
-//                                          etcd, loop_append or loop_place
-//   load sync FILE append|place SECONDS    the disk alone: 200 bytes behind the file's end, or 8 KiB over old ones, synced
-//   load loop FILE append|place            says its port, and serves one connection after the other: each message is written
+//                                          etcd, loop_append, loop_page or loop_place
+//   load sync FILE append|page|place SECONDS
+//                                          the disk alone: 200 bytes or 4 KiB behind the file's end, or 8 KiB over old bytes
+//                                          in the three writes of a commit, synced
+//   load loop FILE append|page|place       says its port, and serves one connection after the other: each message is written
 //                                          so, synced, and then answered
 //   load push PORT LISTENERS WRITES        writes at random moments: how long until each listener has them
 //   load flood PORT LISTENERS SECONDS      one writer, one write in flight: how many pushes came, and in order
@@ -362,6 +364,7 @@ static const Kind kinds[] = {
     {"mqtt", mqtt_open, mqtt_ask, mqtt_answered},
     {"etcd", dial, etcd_ask, etcd_answered},
     {"loop_append", dial, redis_ask, redis_answered},
+    {"loop_page", dial, redis_ask, redis_answered},
     {"loop_place", dial, redis_ask, redis_answered},
 };
 
@@ -403,20 +406,29 @@ typedef struct {
     size_t len, length, at; // of a write, of all places, of the next write
 } Kept;
 
-static char kept_bytes[2 * (24 + 4096)]; // what a commit of one row writes: two pages, each with its header
+// What a commit of one row writes: two pages, each with its header. Eight bytes before them and one behind them are written apart.
+static char kept_bytes[2 * (24 + 4096)];
 
 static Kept kept_in(const char *file, const char *way) {
-    int is_append = !strcmp(way, "append");
-    Kept kept = {open(file, O_RDWR | O_CREAT | O_TRUNC, 0600), is_append ? 200 : sizeof kept_bytes, 0, 0};
+    int is_place = !strcmp(way, "place");
+    size_t len = is_place ? sizeof kept_bytes : strcmp(way, "page") ? 200 : 4096;
+    Kept kept = {open(file, O_RDWR | O_CREAT | O_TRUNC, 0600), len, 0, 0};
     if (kept.fd < 0) die(file);
-    for (int i = 0; !is_append && i < 512; i++, kept.length += kept.len)
+    for (int i = 0; is_place && i < 512; i++, kept.length += kept.len)
         if (write(kept.fd, kept_bytes, kept.len) < 0) die("write");
     if (fsync(kept.fd)) die("fsync");
     return kept;
 }
 
+static void put_at(Kept *kept, size_t len, size_t at) {
+    if (pwrite(kept->fd, kept_bytes, len, at) < 0) die("write");
+}
+
 static void keep(Kept *kept) {
-    if (pwrite(kept->fd, kept_bytes, kept->len, kept->at) < 0 || fdatasync(kept->fd)) die("fdatasync");
+    if (kept->length) put_at(kept, 8, kept->at);
+    put_at(kept, kept->len, kept->at);
+    if (kept->length) put_at(kept, 1, kept->at);
+    if (fdatasync(kept->fd)) die("fdatasync");
     kept->at += kept->len;
     if (kept->length) kept->at %= kept->length;
 }

@@ -115,13 +115,7 @@ fn connection<
     L: Ledger + Send + Sync,
     K: Keeper + Drop + Send,
     R: Net + Threads + Wait + Clock + Sync,
->(
-    rt: &R,
-    alloc: Global,
-    hub: &Hub<L, K, StreamBell, OpenGate>,
-    crowd: &Crowd,
-    stream: TcpStream,
-) {
+>(rt: &R, alloc: Global, hub: &Hub<L, K, StreamBell, OpenGate>, crowd: &Crowd, stream: TcpStream) {
     let (_, _) = (
         stream.set_nodelay(true),
         stream.set_write_timeout(Some(Duration::from_millis(WRITE_MILLIS))),
