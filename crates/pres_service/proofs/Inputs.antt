@@ -5,7 +5,7 @@ use Rattle.std.specs.Str.{is_utf8, IsUtf8}
 use Rattle.std.proofs.lemmas.Str.{IsUtf8-from_is_utf8, is_utf8-from_IsUtf8}
 use Rattle.std.specs.List.{slice_split}
 use Rattle.pres_service.specs.Lines.{AreLines, Said, first_bad, line_in, line_of_bytes, lines_in, lines_of, without_last_feed, said}
-use Rattle.pres_sock.specs.declared.drive.Line.{Line}
+use Rattle.pres_drive.specs.declared.drive.Line.{Line}
 
 -- a text is the line that it says
 pub line_of_text : (bytes : List ℕ) → IsUtf8 bytes → line_in bytes ≡ line_of_bytes bytes

@@ -2,5 +2,4 @@ pub mod Faults
 pub mod Lines
 pub mod Outputs
 pub mod Reading
-pub mod Scripts
 pub mod Visits

@@ -17,8 +17,8 @@ use Rattle.pres_wire.specs.Fields.{path_in}
 use Rattle.pres_client.specs.declared.call.Answer.TheVariants as answer
 use Rattle.pres_client.specs.declared.call.Call.{Call}
 use Rattle.pres_client.specs.declared.call.Call.TheVariants as call
-use Rattle.pres_sock.specs.declared.drive.Line.{Line}
-use Rattle.pres_sock.specs.declared.drive.Line.TheVariants as line
+use Rattle.pres_drive.specs.declared.drive.Line.{Line}
+use Rattle.pres_drive.specs.declared.drive.Line.TheVariants as line
 
 abbrev pub Text : Type 0
 Text = List ℕ

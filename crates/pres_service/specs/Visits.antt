@@ -3,8 +3,8 @@ use Rattle.std.specs.Prelude.{◌≡◌, ℕ, List, [], ◌∷◌, ◌++◌, map
 use Rattle.pres_ids.specs.Ids.{ClientId}
 use Rattle.pres_client.specs.declared.call.Call.TheVariants.{GoOnline, GoOffline}
 use Rattle.pres_client.specs.Clients.{State, start}
-use Rattle.pres_sock.specs.declared.drive.Line.{Line}
-use Rattle.pres_sock.specs.Driven.{Drives, asked_in}
+use Rattle.pres_drive.specs.declared.drive.Line.{Line}
+use Rattle.pres_drive.specs.Driven.{Drives, asked_in}
 use Rattle.pres_service.specs.Lines.{lines_in, said}
 
 -- a new client was asked to go online, for what the lines say, and to go offline, the output grew by what was printed, and

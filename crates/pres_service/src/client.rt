@@ -9,8 +9,8 @@ ghost use Rattle.pres_service.specs.Lines.{AreLines, first_bad, line_of_bytes, l
 use crate::fault::ServiceFault;
 use crate::lines::line_of;
 use pres_client::Client;
+use pres_drive::{Line, drive_client};
 use pres_ids::{ClientId, Number};
-use pres_sock::{Line, drive_client};
 use std::alloc::{AllocError, AllocFailed, Global};
 use std::io;
 use std::io::{ErrorKind, Read, Write};

@@ -1,15 +1,13 @@
-//! What `presence serve`, `presence client` and `presence sim` do: a server over TCP that is kept in a
-//! file, the calls of a client over TCP, and a script of a world.
+//! What `presence serve` and `presence client` do: a server over TCP that is kept in a file, and the
+//! calls of a client over TCP.
 #![tactic(auto)]
 
 mod client;
 mod fault;
 mod lines;
-mod script;
 mod serve;
-mod sim;
 
-pub use client::{Visit, client_run};
+pub use client::{Visit, bytes_of, client_run, texts_of};
 pub use fault::ServiceFault;
+pub use lines::{line_of, number_of};
 pub use serve::{Serving, serve_run};
-pub use sim::sim_run;

@@ -12,7 +12,7 @@ ghost use Rattle.pres_service.specs.Reading.{IsPart, IsRead, IsWhole, of_fault};
 ghost use Rattle.pres_service.specs.Lines.{Said, said, draft_in, draft_read, places_in, places_of, places_read, whole_in, with_json, answering, waiting, path_line, given_line, bare_line, line_in};
 
 use pres_client::{Answer, Call};
-use pres_sock::Line;
+use pres_drive::Line;
 use pres_tree::{Path, TreeFault};
 use pres_write::Draft;
 use serde_json::{Map, Value};

@@ -2,20 +2,17 @@
 
 ghost use Rattle.std.specs.Prelude.{◌≡◌, ◌≢◌, ◌^◌, ◌++◌, ℕ, IfErr, OnOk};
 ghost use Rattle.std.specs.Io.KnownBytes.{Appends};
-ghost use Rattle.pres_saved.specs.Keeps.{IsReady};
 ghost use Rattle.pres_service.specs.declared.fault.ServiceFault.TheVariants as fault;
 ghost use Rattle.pres_service.specs.Outputs.{listening_line, number_line};
 
 use crate::fault::ServiceFault;
-use pres_engine::{Premise, SavedFault, Supposed};
+use pres_engine::{Premise, Supposed};
+use pres_file::{Opened, keeper_in};
 use pres_hub::{Core, Hub, Keeper, OpenGate};
 use pres_net::{StreamBell, WallClock, serve_connections};
-use pres_saved::SqlKeeper;
 use pres_server::Moment;
-use sqlite::{Alter, Connection};
 use std::alloc::Global;
-use std::fs;
-use std::io::{ErrorKind, Write};
+use std::io::Write;
 use std::marker::Brand;
 use std::net::{Net, TcpListener, TcpStream};
 use std::sync::Wait;
@@ -32,7 +29,7 @@ pub struct Serving<'a> {
     pub connections: Option<u32>,
 }
 
-/// Opens the file, or makes its tables where it is absent or empty, goes over what it holds, listens
+/// Opens the file, or makes it where it is absent or holds nothing, goes over what it holds, listens
 /// at the address, and serves connections. It says on the output where it listens, once it does, and
 /// at its end the number of the last entry; on the stream for faults, over an old file, how many
 /// entries it has and how long it took to read them.
@@ -51,11 +48,7 @@ where
         (listening_line serving.entry.address.now ++ number_line number)) }
     ensures silent { IfErr result (λ e. e ≢ fault.Input → output.new ≡ output.old) }
 {
-    let is_new = is_empty(host, serving.file);
-    let Ok(connection) = Connection::open(host, serving.file) else {
-        return Err(ServiceFault::from(SavedFault::Database));
-    };
-    let keeper = keeper_of(alloc, connection, is_new)?;
+    let Opened { keeper, is_new } = keeper_in(host, serving.file)?;
     let number = granted(rt, alloc, keeper, serving, is_new, output, faults)?;
     match writeln!(output, "number {number}") {
         Ok(()) => Ok(()),
@@ -63,61 +56,12 @@ where
     }
 }
 
-// Whether there is no such file, or one without a byte, as a server leaves it that was stopped
-// before it had made its tables.
-fn is_empty(host: &HostRuntime, file: &str) -> bool {
-    match fs::metadata(host, file) {
-        Ok(found) => found.len() == 0,
-        Err(error) => error.kind() == ErrorKind::NotFound,
-    }
-}
-
-// What keeps the batches: the tables that are found, or are made in a new file. A file of no bytes
-// may have tables all the same, in the log beside it.
-fn keeper_of<S: Alter + Drop>(
-    alloc: Global,
-    connection: Connection<S>,
-    is_new: bool,
-) -> Result<SqlKeeper<S>, SavedFault> {
-    if !connection.is_autocommit() {
-        drop(connection);
-        return Err(SavedFault::Database);
-    }
-    match SqlKeeper::open(alloc, connection) {
-        Ok(keeper) => Ok(keeper),
-        Err((SavedFault::NotOurs, connection)) => made(alloc, connection, is_new),
-        Err((fault, connection)) => {
-            drop(connection);
-            Err(fault)
-        }
-    }
-}
-
-// The tables made in a new file.
-fn made<S: Alter + Drop>(
-    alloc: Global,
-    connection: Connection<S>,
-    is_new: bool,
-) -> Result<SqlKeeper<S>, SavedFault> {
-    if !is_new || !connection.is_autocommit() {
-        drop(connection);
-        return Err(SavedFault::NotOurs);
-    }
-    match SqlKeeper::create(alloc, connection) {
-        Ok(keeper) => Ok(keeper),
-        Err((fault, connection)) => {
-            drop(connection);
-            Err(fault)
-        }
-    }
-}
-
-// The number of the last entry. That the tables which were found are those of the statements is
-// taken for granted.
-fn granted<S: Alter + Drop + Send, R, W: Write, F: Write>(
+// The number of the last entry. That the keeper is ready, since the tables which were found are those
+// of the statements, is taken for granted.
+fn granted<K: Keeper + Drop + Send, R, W: Write, F: Write>(
     rt: &R,
     alloc: Global,
-    keeper: SqlKeeper<S>,
+    keeper: K,
     serving: Serving<'_>,
     is_new: bool,
     output: &mut W,
@@ -129,14 +73,14 @@ where
         (listening_line serving.entry.address.now)) }
     ensures silent { IfErr result (λ e. e ≢ fault.Input → output.new ≡ output.old) }
 {
-    supposing::<Brand, S, R, W, F>(rt, alloc, keeper, serving, is_new, output, faults)
+    supposing::<Brand, K, R, W, F>(rt, alloc, keeper, serving, is_new, output, faults)
 }
 
 // The same, where a premise says that the keeper is ready.
-fn supposing<P: Premise + Send, S: Alter + Drop + Send, R, W: Write, F: Write>(
+fn supposing<P: Premise + Send, K: Keeper + Drop + Send, R, W: Write, F: Write>(
     rt: &R,
     alloc: Global,
-    keeper: SqlKeeper<S>,
+    keeper: K,
     serving: Serving<'_>,
     is_new: bool,
     output: &mut W,
@@ -144,15 +88,13 @@ fn supposing<P: Premise + Send, S: Alter + Drop + Send, R, W: Write, F: Write>(
 ) -> Result<u64, ServiceFault>
 where
     R: Net<Listener = TcpListener, Stream = TcpStream> + Threads + Wait + Clock + Sync,
-    requires { P.holds → IsReady S.Store keeper }
+    requires { P.holds → K.ready keeper }
     ensures said { OnOk result (Appends (W.contents output.old) (W.contents output.new)
         (listening_line serving.entry.address.now)) }
     ensures silent { IfErr result (λ e. e ≢ fault.Input → output.new ≡ output.old) }
 {
-    let keeper = Supposed::<SqlKeeper<S>, P>::new(keeper);
-    counted::<Supposed<SqlKeeper<S>, P>, R, W, F>(
-        rt, alloc, keeper, serving, is_new, output, faults,
-    )
+    let keeper = Supposed::<K, P>::new(keeper);
+    counted::<Supposed<K, P>, R, W, F>(rt, alloc, keeper, serving, is_new, output, faults)
 }
 
 // The same over a keeper.

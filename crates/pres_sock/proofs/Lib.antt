@@ -1,3 +1,1 @@
-mod Driven
-mod Messages
 mod Crossing

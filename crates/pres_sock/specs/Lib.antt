@@ -1,4 +1,2 @@
-pub mod Driven
 pub mod Ends
-pub mod Printed
 pub mod Refusals

@@ -1,17 +1,13 @@
 //! Connections over WebSocket (RFC 6455), over any stream: the server's side, with a hub behind it,
-//! and the client's.
+//! and what the client's side shares with it.
 #![tactic(auto)]
 
-mod drive;
 mod fault;
 mod meter;
-mod notices;
 mod place;
 mod serve;
-mod socket;
+pub mod socket;
 
-pub use drive::{Line, drive_client};
 pub use fault::SockFault;
-pub use meter::{MAX_IDLE_READS, MAX_READS};
-pub use notices::notice_line;
+pub use meter::{MAX_IDLE_READS, MAX_READS, Metered};
 pub use serve::{Clock, serve_stream};

@@ -13,7 +13,7 @@ pub const MAX_READS: u32 = u32::MAX;
 /// `WouldBlock`, whichever of three words the stream has for it; a write begins the count of those
 /// anew, so that a listener that only hears is not out of turns.
 #[derive(Drop)]
-pub(crate) struct Metered<S> {
+pub struct Metered<S> {
     stream: S,
     reads: u32,
     idle: u32,

@@ -27,7 +27,7 @@ pub trait Clock {
 }
 
 // Whether the connection goes on, and who ends it else.
-#[derive(Clone, Copy, Drop, PartialEq, Eq)]
+#[derive(Drop)]
 enum Step {
     GoOn,
     Closed,

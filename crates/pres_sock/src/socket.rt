@@ -14,7 +14,7 @@ use tungstenite::{
 };
 
 /// A socket whose reads are counted: a client's frames are masked, and a server's are not.
-pub(crate) type Socket<S, M> = WebSocket<Metered<S>, M>;
+pub type Socket<S, M> = WebSocket<Metered<S>, M>;
 
 // How many bytes a read asks for.
 const READ_SIZE: usize = 1024;
@@ -70,7 +70,7 @@ fn nonce_of<M: MaskKeys>(keys: &mut M) -> [u8; 16] {
 }
 
 /// A client's handshake, tried again after each read that gives nothing.
-pub(crate) fn connect<S: Read + Write + Drop, M: MaskKeys + Drop>(
+pub fn connect<S: Read + Write + Drop, M: MaskKeys + Drop>(
     alloc: Global,
     stream: S,
     mut keys: M,
@@ -98,7 +98,7 @@ pub(crate) fn connect<S: Read + Write + Drop, M: MaskKeys + Drop>(
 
 /// What a read brought.
 #[derive(Drop)]
-pub(crate) enum Came {
+pub enum Came {
     /// A text message.
     Text(Utf8Bytes),
     /// A binary message.
@@ -110,7 +110,7 @@ pub(crate) enum Came {
 }
 
 /// One read. A ping is answered by the socket itself.
-pub(crate) fn read<S: Read + Write + Drop, M: MaskKeys + Drop>(
+pub fn read<S: Read + Write + Drop, M: MaskKeys + Drop>(
     socket: &mut Socket<S, M>,
 ) -> Result<Came, SockFault>
     ensures { IfErr result (λ e. is_handshake e ≡ false) }
@@ -134,7 +134,7 @@ pub(crate) fn read<S: Read + Write + Drop, M: MaskKeys + Drop>(
 }
 
 /// Puts the text into what is to be sent, as a message.
-pub(crate) fn write<S: Read + Write + Drop, M: MaskKeys + Drop>(
+pub fn write<S: Read + Write + Drop, M: MaskKeys + Drop>(
     alloc: Global,
     socket: &mut Socket<S, M>,
     text: &str,
@@ -147,7 +147,7 @@ pub(crate) fn write<S: Read + Write + Drop, M: MaskKeys + Drop>(
 }
 
 /// Sends what was written.
-pub(crate) fn flush<S: Read + Write + Drop, M: MaskKeys + Drop>(
+pub fn flush<S: Read + Write + Drop, M: MaskKeys + Drop>(
     socket: &mut Socket<S, M>,
 ) -> Result<(), SockFault>
     ensures { IfErr result (λ e. is_handshake e ≡ false) }
@@ -157,7 +157,7 @@ pub(crate) fn flush<S: Read + Write + Drop, M: MaskKeys + Drop>(
 
 /// Closes the connection as RFC 6455, 7.1.1, has it: what the peer has still sent is read, so that
 /// it gets the close. Whatever fails then, the connection is over.
-pub(crate) fn close<S: Read + Write + Drop, M: MaskKeys + Drop>(socket: &mut Socket<S, M>) {
+pub fn close<S: Read + Write + Drop, M: MaskKeys + Drop>(socket: &mut Socket<S, M>) {
     let frame = CloseFrame {
         code: CloseCode::Normal,
         reason: Utf8Bytes::from_static(""),

@@ -4,11 +4,11 @@ ghost use Rattle.std.specs.Prelude.{◌≡◌, ◌^◌};
 
 use crate::drives::{Sheet, TOLD, Zeros, end_text, lines, text_of};
 use pres_client::Client;
+use pres_drive::drive_client;
 use pres_hub::{Core, Hub, MemKeeper, OpenGate};
 use pres_ids::{ClientId, Number};
 use pres_net::{StreamBell, serve_connections};
 use pres_server::Moment;
-use pres_sock::drive_client;
 use rtrb::RingBuffer;
 use std::alloc::Global;
 use std::marker::Brand;

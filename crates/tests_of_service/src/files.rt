@@ -38,6 +38,22 @@ impl Place {
         }
     }
 
+    /// Makes the file anew, as a database without tables, with pages of 4,096 bytes.
+    pub(crate) fn make_blank(&self, host: &HostRuntime, rt: &impl Abort) {
+        self.clear(host);
+        let blank = Connection::open(host, self.file.as_str()).expect(rt, "a database");
+        drop(blank);
+    }
+
+    /// How many bytes a page of the file has.
+    pub(crate) fn page_size(&self, host: &HostRuntime, rt: &impl Abort) -> u16 {
+        let bytes = fs::read(host, self.file.as_str()).expect(rt, "a file");
+        match (bytes.get(16), bytes.get(17)) {
+            (Some(high), Some(low)) => u16::from_be_bytes([*high, *low]),
+            _ => 0,
+        }
+    }
+
     /// The name of a database with a table of another program.
     pub(crate) fn foreign(&self, host: &HostRuntime, rt: &impl Abort) -> String {
         let name = format!(in host.alloc(); "{}.other", self.file).expect(rt, "memory");

@@ -10,9 +10,9 @@ use std::net::{Net, TcpListener, TcpStream};
 use std::process::Abort;
 use std::random::RandomSource;
 use std::sync::Wait;
-use std::thread;
 use std::thread::Threads;
 use std::time::{Clock, Duration};
+use std::{fs, thread};
 
 // Who visits a server, and what the client's lines are.
 #[derive(Clone, Copy)]
@@ -146,6 +146,23 @@ fn a_file_survives(rt: HostRuntime) {
     assert_eq!(rt; first.as_str(), FIRST_SAID);
     let second = one(&rt, &rt, &place, SECOND);
     assert_eq!(rt; second.as_str(), SECOND_SAID);
+    place.clear(&rt);
+}
+
+// A file in which there is nothing yet gets its tables: one that a server was stopped in the making
+// of, and a database without tables, whose pages stay as large as they are. Those of a new file have
+// 1,024 bytes (https://sqlite.org/fileformat.html, 1.3.2).
+#[test]
+fn a_file_that_holds_nothing_is_made(rt: HostRuntime) {
+    let place = new_place(&rt, &rt, "nothing");
+    fs::write(&rt, place.file.as_str(), "\0").expect(&rt, "a file");
+    let said = one(&rt, &rt, &place, FIRST);
+    assert_eq!(rt; said.as_str(), FIRST_SAID);
+    assert_eq!(rt; place.page_size(&rt, &rt), 1024);
+    place.make_blank(&rt, &rt);
+    let said = one(&rt, &rt, &place, FIRST);
+    assert_eq!(rt; said.as_str(), FIRST_SAID);
+    assert_eq!(rt; place.page_size(&rt, &rt), 4096);
     place.clear(&rt);
 }
 

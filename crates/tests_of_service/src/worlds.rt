@@ -1,6 +1,6 @@
 //! Scripts of a world, and what each makes. A script is data, so a new one costs no proof.
 
-use pres_service::sim_run;
+use pres_sim::sim_run;
 use std::alloc::Global;
 use std::process::Abort;
 

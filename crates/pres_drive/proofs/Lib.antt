@@ -1,0 +1,2 @@
+mod Driven
+mod Messages

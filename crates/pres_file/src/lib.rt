@@ -1,0 +1,7 @@
+//! The file of a server: made where there is none, and the keeper over it.
+#![tactic(auto)]
+
+mod fresh;
+mod keeper;
+
+pub use keeper::{Opened, keeper_in, keeper_over};

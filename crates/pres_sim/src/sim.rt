@@ -1,0 +1,394 @@
+//! `presence sim`: a script of a world, and what it makes.
+
+ghost use Rattle.std.specs.Prelude.{◌≡◌, ◌⊎◌, None, map, IfErr, IfOk, IfSome, MatchResult};
+ghost use Rattle.pres_service.specs.declared.fault.ServiceFault.TheVariants as fault;
+ghost use Rattle.pres_sim.specs.Scripts.{AreSteps, IsScript};
+
+use crate::script::{Step, client_of, step_in};
+use pres_client::{Call, Client, ClientFault, Notice};
+use pres_drive::notice_line;
+use pres_ids::ClientId;
+use pres_service::{ServiceFault, bytes_of, texts_of};
+use pres_tree::{Path, Tree};
+use pres_wire::{Down, Up};
+use pres_world::{Event, World, WorldFault};
+use std::alloc::{AllocError, Global};
+use std::collections::BTreeSet;
+use std::io::{Read, Write};
+
+// The number of the first line behind the one that names the clients.
+const FIRST_STEP: u64 = 2;
+
+/// Makes a world of the clients that the first line of the input names, and does what each further
+/// line says. What each makes goes to the output: the packets that clients and the server sent, each
+/// with its number, and what clients note; or why it is refused. At the end go the server's number
+/// and its tree, or `stopped`, and what each client shows. The first line that says nothing is told
+/// as `bad line` and its number, and ends the run, refused as Input, as an output does that can't be
+/// written.
+pub fn sim_run<I: Read, W: Write>(
+    alloc: Global,
+    input: &mut I,
+    output: &mut W,
+) -> Result<(), ServiceFault>
+    ensures lines { MatchResult result
+        (λ _. IfSome (I.remaining input.old) IsScript)
+        (λ e. (e ≡ fault.Memory) ⊎ (e ≡ fault.Input)) }
+{
+    let bytes = bytes_of(alloc, input)?;
+    let texts = texts_of(alloc, bytes.as_slice())?;
+    match texts.split_first() {
+        Some((first, rest)) => play_script(alloc, first, rest, output),
+        None => Err(bad_line(output, 1)),
+    }
+}
+
+// Does what the lines say in a world of the clients that the first names.
+fn play_script<W: Write>(
+    alloc: Global,
+    first: &[u8],
+    rest: &[&[u8]],
+    output: &mut W,
+) -> Result<(), ServiceFault>
+    ensures good { IfOk result (λ _. AreSteps (map (λ text. text.now) rest.now)) }
+    ensures err { IfErr result (λ e. (e ≡ fault.Memory) ⊎ (e ≡ fault.Input)) }
+{
+    match clients_in(alloc, first)? {
+        Some(clients) => play_with(alloc, clients, rest, output),
+        None => Err(bad_line(output, 1)),
+    }
+}
+
+// Does what the lines say in a world of these clients.
+fn play_with<W: Write>(
+    alloc: Global,
+    clients: BTreeSet<ClientId>,
+    rest: &[&[u8]],
+    output: &mut W,
+) -> Result<(), ServiceFault>
+    ensures good { IfOk result (λ _. AreSteps (map (λ text. text.now) rest.now)) }
+    ensures err { IfErr result (λ e. (e ≡ fault.Memory) ⊎ (e ≡ fault.Input)) }
+{
+    let mut play = Play::new(alloc, clients)?;
+    let ended = play.all(rest, output);
+    drop(play);
+    ended
+}
+
+// Tells of the line that says nothing.
+fn bad_line<W: Write>(output: &mut W, number: u64) -> ServiceFault
+    ensures { result ≡ fault.Input }
+{
+    let _ = write!(output, "bad line {number}\n");
+    ServiceFault::Input
+}
+
+// The clients that the first line names, in byte order, where it names some and none twice.
+fn clients_in(alloc: Global, bytes: &[u8]) -> Result<Option<BTreeSet<ClientId>>, AllocError> {
+    let Ok(text) = std::str::from_utf8(bytes) else {
+        return Ok(None);
+    };
+    let Some(("clients", names)) = text.split_once(' ') else {
+        return Ok(None);
+    };
+    let mut clients = BTreeSet::new(alloc);
+    for name in names.split(' ') {
+        let Some(client) = client_of(alloc, name)? else {
+            return Ok(None);
+        };
+        if !clients.insert(client)? {
+            return Ok(None);
+        }
+    }
+    Ok(Some(clients))
+}
+
+// What the lines say, up to the first that says nothing, and the number of that one.
+fn steps_of(alloc: Global, texts: &[&[u8]]) -> Result<(Vec<Step>, Option<u64>), AllocError>
+    ensures { IfOk result (λ r. r.1 ≡ None → AreSteps (map (λ text. text.now) texts.now)) }
+{
+    let mut steps = Vec::new(alloc);
+    for bytes in texts.iter() {
+        match step_in(alloc, bytes)? {
+            Some(step) => steps.push(step)?,
+            None => {
+                let number = FIRST_STEP + steps.len() as u64;
+                return Ok((steps, Some(number)));
+            }
+        }
+    }
+    Ok((steps, None))
+}
+
+// A world while its script runs: its clients, the paths that were listened to, and how many packets
+// were told of.
+#[derive(Drop)]
+struct Play {
+    alloc: Global,
+    world: World,
+    clients: BTreeSet<ClientId>,
+    paths: BTreeSet<Path>,
+    ups: usize,
+    downs: usize,
+}
+
+impl Play {
+    fn new(alloc: Global, clients: BTreeSet<ClientId>) -> Result<Play, AllocError> {
+        let mut ids = Vec::new(alloc);
+        for client in clients.iter() {
+            ids.push(client.copy(alloc)?)?;
+        }
+        Ok(Play {
+            alloc,
+            world: World::new(alloc, ids)?,
+            clients,
+            paths: BTreeSet::new(alloc),
+            ups: 0,
+            downs: 0,
+        })
+    }
+
+    // Does what each line says, up to the first that says nothing.
+    fn all<W: Write>(&mut self, lines: &[&[u8]], output: &mut W) -> Result<(), ServiceFault>
+        ensures good { IfOk result (λ _. AreSteps (map (λ text. text.now) lines.now)) }
+        ensures err { IfErr result (λ e. (e ≡ fault.Memory) ⊎ (e ≡ fault.Input)) }
+    {
+        let (steps, bad) = steps_of(self.alloc, lines)?;
+        self.finish(steps, bad, output)
+    }
+
+    // Does what each step says, and tells how the world is then, or which line says nothing.
+    fn finish<W: Write>(
+        &mut self,
+        steps: Vec<Step>,
+        bad: Option<u64>,
+        output: &mut W,
+    ) -> Result<(), ServiceFault>
+        ensures good { IfOk result (λ _. bad ≡ None) }
+        ensures err { IfErr result (λ e. (e ≡ fault.Memory) ⊎ (e ≡ fault.Input)) }
+    {
+        self.run(steps, output)?;
+        match bad {
+            Some(number) => Err(bad_line(output, number)),
+            None => self.end(output),
+        }
+    }
+
+    // Does what each step says.
+    fn run<W: Write>(&mut self, steps: Vec<Step>, output: &mut W) -> Result<(), ServiceFault>
+        ensures { IfErr result (λ e. (e ≡ fault.Memory) ⊎ (e ≡ fault.Input)) }
+    {
+        for step in steps {
+            match step {
+                Step::Event(event) => self.step(event, output)?,
+                Step::Refused => tell(output, b"refused 5\n")?,
+            }
+        }
+        Ok(())
+    }
+
+    // Remembers the path of a call that listens.
+    fn remember(&mut self, event: &Event) -> Result<(), AllocError> {
+        if let Event::Call {
+            call: Call::Listen(path),
+            ..
+        } = event
+        {
+            self.paths.insert(path.copy(self.alloc)?)?;
+        }
+        Ok(())
+    }
+
+    // Does the event, and tells what it made, or why it is refused.
+    fn step<W: Write>(&mut self, event: Event, output: &mut W) -> Result<(), ServiceFault>
+        ensures { IfErr result (λ e. (e ≡ fault.Memory) ⊎ (e ≡ fault.Input)) }
+    {
+        if self.remember(&event).is_err() {
+            drop(event);
+            return Err(ServiceFault::Memory);
+        }
+        match self.world.step(event) {
+            Ok(()) => self.tell_news(output),
+            Err(WorldFault::Memory) => Err(ServiceFault::Memory),
+            Err(WorldFault::NoSuch) => tell(output, b"nosuch\n"),
+            Err(WorldFault::Client(fault)) => tell_refusal(self.alloc, output, fault),
+        }
+    }
+
+    // Tells of the packets that are new, and of what clients noted.
+    fn tell_news<W: Write>(&mut self, output: &mut W) -> Result<(), ServiceFault>
+        ensures { IfErr result (λ e. (e ≡ fault.Memory) ⊎ (e ≡ fault.Input)) }
+    {
+        self.tell_ups(output)?;
+        self.tell_downs(output)?;
+        self.tell_notes(output)
+    }
+
+    // Tells of the packets that clients have sent since.
+    fn tell_ups<W: Write>(&mut self, output: &mut W) -> Result<(), ServiceFault>
+        ensures { IfErr result (λ e. (e ≡ fault.Memory) ⊎ (e ≡ fault.Input)) }
+    {
+        let packets = self.world.packets_up();
+        for (number, packet) in (1..).zip(packets).skip(self.ups) {
+            tell_up(self.alloc, output, number, packet)?;
+        }
+        self.ups = packets.len();
+        Ok(())
+    }
+
+    // Tells of the packets that the server has sent since.
+    fn tell_downs<W: Write>(&mut self, output: &mut W) -> Result<(), ServiceFault>
+        ensures { IfErr result (λ e. (e ≡ fault.Memory) ⊎ (e ≡ fault.Input)) }
+    {
+        let packets = self.world.packets_down();
+        for (number, packet) in (1..).zip(packets).skip(self.downs) {
+            tell_down(self.alloc, output, number, packet)?;
+        }
+        self.downs = packets.len();
+        Ok(())
+    }
+
+    // Tells what clients have noted since.
+    fn tell_notes<W: Write>(&mut self, output: &mut W) -> Result<(), ServiceFault>
+        ensures { IfErr result (λ e. (e ≡ fault.Memory) ⊎ (e ≡ fault.Input)) }
+    {
+        for client in self.clients.iter() {
+            if let Some(notices) = self.world.take_notices(client) {
+                tell_notices(self.alloc, output, client, notices)?;
+            }
+        }
+        Ok(())
+    }
+
+    // Tells how the world is at the end.
+    fn end<W: Write>(&self, output: &mut W) -> Result<(), ServiceFault>
+        ensures { IfErr result (λ e. (e ≡ fault.Memory) ⊎ (e ≡ fault.Input)) }
+    {
+        self.tell_server(output)?;
+        for id in self.clients.iter() {
+            if let Some(client) = self.world.client(id) {
+                self.tell_views(output, id, client)?;
+            }
+        }
+        Ok(())
+    }
+
+    // Tells the server's number and its tree.
+    fn tell_server<W: Write>(&self, output: &mut W) -> Result<(), ServiceFault>
+        ensures { IfErr result (λ e. (e ≡ fault.Memory) ⊎ (e ≡ fault.Input)) }
+    {
+        let Some(server) = self.world.server() else {
+            return tell(output, b"stopped\n");
+        };
+        let mut line = format!(in self.alloc; "number {}\ntree ", server.number())?.into_bytes();
+        match server.value_at(&Path::root(self.alloc)) {
+            Some(tree) => tree.print(self.alloc, &mut line)?,
+            None => line.extend_from_slice(b"null")?,
+        }
+        line.push(b'\n')?;
+        tell(output, line.as_slice())
+    }
+
+    // Tells what the client shows of each path that was listened to.
+    fn tell_views<W: Write>(
+        &self,
+        output: &mut W,
+        id: &ClientId,
+        client: &Client,
+    ) -> Result<(), ServiceFault>
+        ensures { IfErr result (λ e. (e ≡ fault.Memory) ⊎ (e ≡ fault.Input)) }
+    {
+        for path in self.paths.iter() {
+            if let Some((number, value)) = client.view(path) {
+                let line = view_line(self.alloc, id, path, number, value)?;
+                tell(output, line.as_slice())?;
+            }
+        }
+        Ok(())
+    }
+}
+
+// Writes the line.
+fn tell<W: Write>(output: &mut W, line: &[u8]) -> Result<(), ServiceFault>
+    ensures { IfErr result (λ e. (e ≡ fault.Memory) ⊎ (e ≡ fault.Input)) }
+{
+    match output.write_all(line) {
+        Ok(()) => Ok(()),
+        Err(_) => Err(ServiceFault::Input),
+    }
+}
+
+fn tell_refusal<W: Write>(
+    alloc: Global,
+    output: &mut W,
+    refusal: ClientFault,
+) -> Result<(), ServiceFault>
+    ensures { IfErr result (λ e. (e ≡ fault.Memory) ⊎ (e ≡ fault.Input)) }
+{
+    tell(
+        output,
+        format!(in alloc; "refused {}\n", refusal.number())?.as_bytes(),
+    )
+}
+
+fn tell_up<W: Write>(
+    alloc: Global,
+    output: &mut W,
+    number: usize,
+    packet: &Up,
+) -> Result<(), ServiceFault>
+    ensures { IfErr result (λ e. (e ≡ fault.Memory) ⊎ (e ≡ fault.Input)) }
+{
+    let text = packet.encode(alloc)?;
+    tell(
+        output,
+        format!(in alloc; "up {number} {text}\n")?.as_bytes(),
+    )
+}
+
+fn tell_down<W: Write>(
+    alloc: Global,
+    output: &mut W,
+    number: usize,
+    packet: &Down,
+) -> Result<(), ServiceFault>
+    ensures { IfErr result (λ e. (e ≡ fault.Memory) ⊎ (e ≡ fault.Input)) }
+{
+    let text = packet.encode(alloc)?;
+    tell(
+        output,
+        format!(in alloc; "down {number} {text}\n")?.as_bytes(),
+    )
+}
+
+// Tells what the client noted.
+fn tell_notices<W: Write>(
+    alloc: Global,
+    output: &mut W,
+    client: &ClientId,
+    notices: Vec<Notice>,
+) -> Result<(), ServiceFault>
+    ensures { IfErr result (λ e. (e ≡ fault.Memory) ⊎ (e ≡ fault.Input)) }
+{
+    for notice in notices {
+        let line = notice_line(alloc, &notice);
+        drop(notice);
+        tell(output, format!(in alloc; "note {client} ")?.as_bytes())?;
+        tell(output, line?.as_slice())?;
+    }
+    Ok(())
+}
+
+// What the client shows of the path.
+fn view_line(
+    alloc: Global,
+    id: &ClientId,
+    path: &Path,
+    number: u64,
+    value: &Tree,
+) -> Result<Vec<u8>, AllocError> {
+    let text = path.text(alloc)?;
+    let mut line = format!(in alloc; "view {id} {text} {number} ")?.into_bytes();
+    value.print(alloc, &mut line)?;
+    line.push(b'\n')?;
+    Ok(line)
+}
