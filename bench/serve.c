@@ -3,7 +3,7 @@
 //   load write KIND PORT CLIENTS SECONDS   clients with one write in flight each; KIND: presence, redis, mqtt,
 //                                          etcd, loop_append, loop_page or loop_place
 //   load sync FILE append|page|place SECONDS
-//                                          the disk alone: 200 bytes or 4 KiB behind the file's end, or 8 KiB over old bytes
+//                                          the disk alone: 200 bytes or 4 KiB behind the file's end, or 2 KiB over old bytes
 //                                          in the three writes of a commit, synced
 //   load loop FILE append|page|place       says its port, and serves one connection after the other: each message is written
 //                                          so, synced, and then answered
@@ -407,11 +407,13 @@ typedef struct {
 } Kept;
 
 // What a commit of one row writes: two pages, each with its header. Eight bytes before them and one behind them are written apart.
-static char kept_bytes[2 * (24 + 4096)];
+#define COMMITTED (2 * (24 + 1024))
+
+static char kept_bytes[4096];
 
 static Kept kept_in(const char *file, const char *way) {
     int is_place = !strcmp(way, "place");
-    size_t len = is_place ? sizeof kept_bytes : strcmp(way, "page") ? 200 : 4096;
+    size_t len = is_place ? COMMITTED : strcmp(way, "page") ? 200 : sizeof kept_bytes;
     Kept kept = {open(file, O_RDWR | O_CREAT | O_TRUNC, 0600), len, 0, 0};
     if (kept.fd < 0) die(file);
     for (int i = 0; is_place && i < 512; i++, kept.length += kept.len)

@@ -10,7 +10,9 @@ use pres_engine::{Premise, Supposed};
 use pres_file::{Opened, keeper_in};
 use pres_hub::{Core, Hub, Keeper, OpenGate};
 use pres_net::{StreamBell, WallClock, serve_connections};
+use pres_saved::SqlKeeper;
 use pres_server::Moment;
+use sqlite::Alter;
 use std::alloc::Global;
 use std::io::Write;
 use std::marker::Brand;
@@ -56,12 +58,12 @@ where
     }
 }
 
-// The number of the last entry. That the keeper is ready, since the tables which were found are those
-// of the statements, is taken for granted.
-fn granted<K: Keeper + Drop + Send, R, W: Write, F: Write>(
+// The number of the last entry. That the tables which were found are those of the statements is
+// taken for granted.
+fn granted<S: Alter + Drop + Send, R, W: Write, F: Write>(
     rt: &R,
     alloc: Global,
-    keeper: K,
+    keeper: SqlKeeper<S>,
     serving: Serving<'_>,
     is_new: bool,
     output: &mut W,
@@ -73,7 +75,7 @@ where
         (listening_line serving.entry.address.now)) }
     ensures silent { IfErr result (λ e. e ≢ fault.Input → output.new ≡ output.old) }
 {
-    supposing::<Brand, K, R, W, F>(rt, alloc, keeper, serving, is_new, output, faults)
+    supposing::<Brand, SqlKeeper<S>, R, W, F>(rt, alloc, keeper, serving, is_new, output, faults)
 }
 
 // The same, where a premise says that the keeper is ready.
