@@ -9,7 +9,7 @@ ghost use Rattle.pres_table.specs.Saved.{shown_rows};
 ghost use Rattle.pres_saved.specs.Saved.{saved_log};
 ghost use Rattle.pres_saved.specs.Keeps.{IsReady, KeepsLog};
 
-use crate::fresh::lay_out;
+use crate::open::connect;
 use pres_saved::{SavedFault, SqlKeeper};
 use sqlite::{Alter, Connection, File, FileStore};
 use sqlite_schema::schema::Schema;
@@ -106,7 +106,6 @@ pub fn keeper_in(host: &HostRuntime, path: &str) -> Result<Opened<FileStore<File
     if path == ":memory:" || path.starts_with("file:") {
         return Err(SavedFault::Database);
     }
-    lay_out(host, path)?;
-    let connection = Connection::open(host, path)?;
+    let connection = connect(host, path)?;
     keeper_over(host.alloc(), connection)
 }

@@ -1,7 +1,7 @@
 //! The file of a server: made where there is none, and the keeper over it.
 #![tactic(auto)]
 
-mod fresh;
 mod keeper;
+mod open;
 
 pub use keeper::{Opened, keeper_in, keeper_over};

@@ -1,0 +1,116 @@
+//! The file of a server, opened: an empty database is made where there is none yet.
+
+ghost use Rattle.std.specs.Prelude.{◌≡◌, false, IsTrue, IfOk};
+
+use pres_saved::SavedFault;
+use sqlite::{Connection, File, FileStore, Files, Options, Unknown};
+use sqlite_disk::Disk;
+use sqlite_pager::Pager;
+use sqlite_pool::probe_blank;
+use sqlite_std_file::OpenError;
+use sqlite_store::Unopened;
+use sqlite_wal::{Error, PageSize};
+use std::alloc::Global;
+use std::hash::{BuildHasher, RandomState};
+use std::io::ErrorKind;
+
+// How many bytes a page of a new file has. A commit writes each page that it changes as a whole, and
+// one more, which counts it; most batches have a few hundred bytes, so small pages make it cheaper.
+const PAGE_SIZE: usize = 1024;
+
+// How many pages the write-ahead log has before they are copied into the database. A copy syncs four
+// times, whatever it copies, so it is to come seldom: a log of small pages has as many bytes so as
+// SQLite's own, of 1,000 pages of 4,096.
+const LOG_PAGES: usize = 4_000;
+
+/// The database in the file at the path, which is made, with small pages, where there is none yet. A
+/// crash leaves none, or the empty one. Files with pages of any size keep them.
+pub(crate) fn connect(
+    host: &HostRuntime,
+    path: &str,
+) -> Result<Connection<FileStore<File>>, SavedFault>
+    ensures { IfOk result (λ c. c.in_transaction ≡ false) }
+{
+    let Ok(state) = RandomState::new(host) else {
+        return Err(SavedFault::Database);
+    };
+    let options = Options {
+        checkpoint_frames: LOG_PAGES,
+        ..Options::new(state.hash_one(&0u8))
+    };
+    match sqlite_std_file::open(host, path, Unknown) {
+        Ok(files) => connect_in(host.alloc(), files, options),
+        Err(OpenError::OutOfMemory) => Err(SavedFault::Memory),
+        Err(OpenError::Io(error)) if error.kind() == ErrorKind::OutOfMemory => {
+            Err(SavedFault::Memory)
+        }
+        Err(_) => Err(SavedFault::Database),
+    }
+}
+
+// The same in the files.
+fn connect_in<D: Disk + Drop>(
+    alloc: Global,
+    mut files: Files<D>,
+    options: Options,
+) -> Result<Connection<FileStore<D>>, SavedFault>
+    requires log { IsTrue (D.Disk.is_usable files.log) }
+    requires db { IsTrue (D.Disk.is_usable files.db) }
+    ensures { IfOk result (λ c. c.in_transaction ≡ false) }
+{
+    let Some(size) = PageSize::new(PAGE_SIZE) else {
+        return Err(SavedFault::Database);
+    };
+    match probe_blank(alloc, &mut files, size, false) {
+        Ok(true) => make(alloc, files, size, options),
+        Ok(false) => find(alloc, files, options),
+        Err(Error::OutOfMemory) => Err(SavedFault::Memory),
+        Err(_) => Err(SavedFault::Database),
+    }
+}
+
+// The database that the files have.
+fn find<D: Disk + Drop>(
+    alloc: Global,
+    files: Files<D>,
+    options: Options,
+) -> Result<Connection<FileStore<D>>, SavedFault>
+    requires log { IsTrue (D.Disk.is_usable files.log) }
+    requires db { IsTrue (D.Disk.is_usable files.db) }
+    ensures { IfOk result (λ c. c.in_transaction ≡ false) }
+{
+    match Connection::open_files(alloc, files, options) {
+        Ok(connection) => Ok(connection),
+        Err((error, left)) => {
+            drop(left);
+            Err(SavedFault::from(error))
+        }
+    }
+}
+
+// An empty database with pages of this size.
+fn make<D: Disk + Drop>(
+    alloc: Global,
+    files: Files<D>,
+    size: PageSize,
+    options: Options,
+) -> Result<Connection<FileStore<D>>, SavedFault>
+    requires log { IsTrue (D.Disk.is_usable files.log) }
+    requires db { IsTrue (D.Disk.is_usable files.db) }
+    ensures { IfOk result (λ c. c.in_transaction ≡ false) }
+{
+    let pager = Pager::new(alloc, files, size, options)?;
+    let unopened = Unopened::new(alloc, pager, &[])?;
+    let store = match unopened.create() {
+        Ok(store) => store,
+        Err((sqlite_store::OpenError::OutOfMemory, _left)) => return Err(SavedFault::Memory),
+        Err((_, _left)) => return Err(SavedFault::Database),
+    };
+    match Connection::over(alloc, store) {
+        Ok(connection) => Ok(connection),
+        Err((error, left)) => {
+            drop(left);
+            Err(SavedFault::from(error))
+        }
+    }
+}
