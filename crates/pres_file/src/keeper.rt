@@ -1,9 +1,11 @@
 //! The keeper over a file.
 
-ghost use Rattle.std.specs.Prelude.{◌≡◌, ◌↔◌, [], Ok, true, false, IsTrue, IfOk};
+ghost use Rattle.std.specs.Prelude.{◌≡◌, ◌≢◌, ◌⊎◌, ◌↔◌, [], Ok, true, false, IsTrue, IfOk, IfErr};
 ghost use Rattle.sqlite.specs.Held.{state};
 ghost use Rattle.sqlite.specs.State.{HasCleanDisk};
-ghost use Rattle.pres_table.specs.Kept.{IsOurs};
+ghost use Rattle.pres_table.specs.Kept.{IsOurs, IsLeft};
+ghost use Rattle.pres_table.specs.Made.{FailsToMake, making_fault};
+ghost use Rattle.pres_table.specs.Opened.{HasFormat, LacksFormat};
 ghost use Rattle.pres_table.specs.Schemas.{no_schema};
 ghost use Rattle.pres_table.specs.Saved.{shown_rows};
 ghost use Rattle.pres_saved.specs.Saved.{saved_log};
@@ -11,7 +13,7 @@ ghost use Rattle.pres_saved.specs.Keeps.{IsReady, KeepsLog};
 
 use crate::open::connect;
 use pres_saved::{SavedFault, SqlKeeper};
-use sqlite::{Alter, Connection, File, FileStore};
+use sqlite::{Alter, Connection, File, FileStore, Unknown};
 use sqlite_schema::schema::Schema;
 use std::alloc::Global;
 
@@ -23,11 +25,12 @@ pub struct Opened<S: Alter> {
 }
 
 /// The keeper over the tables of a database, which are made where it holds nothing at all. Refused
-/// as `SqlKeeper` refuses the database: NotOurs, where it holds other tables.
+/// as `SqlKeeper` refuses the database, which comes back: NotOurs, where it holds other tables;
+/// Version, where its format is another.
 pub fn keeper_over<S: Alter + Drop>(
     alloc: Global,
     connection: Connection<S>,
-) -> Result<Opened<S>, SavedFault>
+) -> Result<Opened<S>, (SavedFault, Connection<S>)>
     requires { connection.in_transaction ≡ false }
     ensures new { IfOk result (λ it. IsTrue it.is_new ↔ (connection.schema ≡ no_schema)) }
     ensures made { IfOk result (λ it. IsTrue it.is_new → IsReady S.Store it.keeper) }
@@ -35,11 +38,28 @@ pub fn keeper_over<S: Alter + Drop>(
         → HasCleanDisk (state S.Store it.keeper.connection) → KeepsLog S.Store it.keeper []) }
     ensures ready { IfOk result (λ it. IsOurs (state S.Store connection)
         → IsReady S.Store it.keeper) }
+    ensures format { IfOk result (λ it. it.is_new ≡ false
+        → HasCleanDisk (state S.Store it.keeper.connection)
+        → (mid : _) × HasFormat (state S.Store connection) (state S.Store mid)) }
     ensures found { IfOk result (λ it. (log : _) → it.is_new ≡ false
         → HasCleanDisk (state S.Store it.keeper.connection)
         → IsOurs (state S.Store connection)
         → saved_log (shown_rows (state S.Store connection)) ≡ Ok log
         → KeepsLog S.Store it.keeper log) }
+    ensures unmade { IfErr result (λ e. connection.schema ≡ no_schema
+        → HasCleanDisk (state S.Store e.1)
+        → (why : _) × FailsToMake S.Store connection why × (e.0 ≡ making_fault why)) }
+    ensures unfound { IfErr result (λ e. connection.schema ≢ no_schema
+        → HasCleanDisk (state S.Store e.1)
+        → ((mid : _) × LacksFormat (state S.Store connection) (state S.Store mid) e.0)
+        ⊎ ((e.0 ≡ SavedFault.Memory) ⊎ (e.0 ≡ SavedFault.Database))) }
+    ensures blank_stays { IfErr result (λ e. connection.schema ≡ no_schema
+        → HasCleanDisk (state S.Store e.1)
+        → IsTrue (state S.Store e.1).is_open
+        → (state S.Store e.1).committed ≡ (state S.Store connection).committed) }
+    ensures left { IfErr result (λ e. HasCleanDisk (state S.Store e.1)
+        → IsOurs (state S.Store connection)
+        → IsLeft (state S.Store connection) (state S.Store e.1)) }
 {
     if is_blank(connection.schema()) {
         made(alloc, connection)
@@ -56,56 +76,74 @@ fn is_blank(schema: &Schema) -> bool
 }
 
 // The keeper over tables that are made in a database without any.
-fn made<S: Alter + Drop>(alloc: Global, connection: Connection<S>) -> Result<Opened<S>, SavedFault>
+fn made<S: Alter + Drop>(
+    alloc: Global,
+    connection: Connection<S>,
+) -> Result<Opened<S>, (SavedFault, Connection<S>)>
     requires mode { connection.in_transaction ≡ false }
     requires blank { connection.schema ≡ no_schema }
     ensures new { IfOk result (λ it. it.is_new ≡ true) }
     ensures ready { IfOk result (λ it. IsReady S.Store it.keeper) }
     ensures empty { IfOk result (λ it. HasCleanDisk (state S.Store it.keeper.connection)
         → KeepsLog S.Store it.keeper []) }
+    ensures unmade { IfErr result (λ e. HasCleanDisk (state S.Store e.1)
+        → (why : _) × FailsToMake S.Store connection why × (e.0 ≡ making_fault why)) }
+    ensures stays { IfErr result (λ e. HasCleanDisk (state S.Store e.1)
+        → IsTrue (state S.Store e.1).is_open
+        → ((state S.Store e.1).now ≡ (state S.Store connection).now)
+        × ((state S.Store e.1).committed ≡ (state S.Store connection).committed)) }
+    ensures mode { IfErr result (λ e. e.1.in_transaction ≡ false) }
 {
     match SqlKeeper::create(alloc, connection) {
         Ok(keeper) => Ok(Opened {
             keeper,
             is_new: true,
         }),
-        Err((fault, connection)) => {
-            drop(connection);
-            Err(fault)
-        }
+        Err(unmade) => Err(unmade),
     }
 }
 
 // The keeper over the tables that are found.
-fn found<S: Alter + Drop>(alloc: Global, connection: Connection<S>) -> Result<Opened<S>, SavedFault>
+fn found<S: Alter + Drop>(
+    alloc: Global,
+    connection: Connection<S>,
+) -> Result<Opened<S>, (SavedFault, Connection<S>)>
     requires mode { connection.in_transaction ≡ false }
     ensures new { IfOk result (λ it. it.is_new ≡ false) }
     ensures ready { IfOk result (λ it. IsOurs (state S.Store connection)
         → IsReady S.Store it.keeper) }
+    ensures format { IfOk result (λ it. HasCleanDisk (state S.Store it.keeper.connection)
+        → (mid : _) × HasFormat (state S.Store connection) (state S.Store mid)) }
     ensures found { IfOk result (λ it. (log : _)
         → HasCleanDisk (state S.Store it.keeper.connection)
         → IsOurs (state S.Store connection)
         → saved_log (shown_rows (state S.Store connection)) ≡ Ok log
         → KeepsLog S.Store it.keeper log) }
+    ensures unfound { IfErr result (λ e. HasCleanDisk (state S.Store e.1)
+        → ((mid : _) × LacksFormat (state S.Store connection) (state S.Store mid) e.0)
+        ⊎ ((e.0 ≡ SavedFault.Memory) ⊎ (e.0 ≡ SavedFault.Database))) }
+    ensures left { IfErr result (λ e. HasCleanDisk (state S.Store e.1)
+        → IsOurs (state S.Store connection)
+        → IsLeft (state S.Store connection) (state S.Store e.1)) }
 {
     match SqlKeeper::open(alloc, connection) {
         Ok(keeper) => Ok(Opened {
             keeper,
             is_new: false,
         }),
-        Err((fault, connection)) => {
-            drop(connection);
-            Err(fault)
-        }
+        Err(unfound) => Err(unfound),
     }
 }
 
 /// The keeper over the file, which is made where it is absent or holds no database yet, with small
 /// pages. Database where it can't be opened, or is no database.
 pub fn keeper_in(host: &HostRuntime, path: &str) -> Result<Opened<FileStore<File>>, SavedFault> {
-    if path == ":memory:" || path.starts_with("file:") {
-        return Err(SavedFault::Database);
+    let connection = connect(host, path, Unknown)?;
+    match keeper_over(host.alloc(), connection) {
+        Ok(opened) => Ok(opened),
+        Err((fault, connection)) => {
+            drop(connection);
+            Err(fault)
+        }
     }
-    let connection = connect(host, path)?;
-    keeper_over(host.alloc(), connection)
 }

@@ -5,3 +5,4 @@ mod keeper;
 mod open;
 
 pub use keeper::{Opened, keeper_in, keeper_over};
+pub use open::connect;

@@ -1,9 +1,15 @@
-//! The file of a server, opened: an empty database is made where there is none yet.
+//! The files of a server, opened: an empty database is made where there is none yet.
 
 ghost use Rattle.std.specs.Prelude.{◌≡◌, false, IsTrue, IfOk};
+ghost use Rattle.sqlite.specs.State.{HasCleanDisk};
+ghost use Rattle.sqlite.specs.Files.{file_state, image_of, HoldsDatabase, IsEmpty};
+ghost use Rattle.sqlite_trees.specs.Tree.{Trees};
+ghost use Rattle.sqlite_wal.specs.Files.{image_at};
+ghost use Rattle.sqlite_wal.specs.Reads.{AreClean};
+ghost use Rattle.pres_file.specs.Found.{Finds};
 
 use pres_saved::SavedFault;
-use sqlite::{Connection, File, FileStore, Files, Options, Unknown};
+use sqlite::{Connection, FileFrom, FileStore, Files, Options, Start};
 use sqlite_disk::Disk;
 use sqlite_pager::Pager;
 use sqlite_pool::probe_blank;
@@ -25,12 +31,20 @@ const LOG_PAGES: usize = 4_000;
 
 /// The database in the file at the path, which is made, with small pages, where there is none yet. A
 /// crash leaves none, or the empty one. Files with pages of any size keep them.
-pub(crate) fn connect(
+///
+/// `S` stands for what the files held. No code can read it, so what is said holds whatever they held.
+pub fn connect<S: Start>(
     host: &HostRuntime,
     path: &str,
-) -> Result<Connection<FileStore<File>>, SavedFault>
-    ensures { IfOk result (λ c. c.in_transaction ≡ false) }
+    start: S,
+) -> Result<Connection<FileStore<FileFrom<S>>>, SavedFault>
+    ensures mode { IfOk result (λ c. c.in_transaction ≡ false) }
+    ensures finds { IfOk result (λ c. HasCleanDisk (file_state c)
+        → Finds (image_at S.Start) (file_state c)) }
 {
+    if path == ":memory:" || path.starts_with("file:") {
+        return Err(SavedFault::Database);
+    }
     let Ok(state) = RandomState::new(host) else {
         return Err(SavedFault::Database);
     };
@@ -38,7 +52,7 @@ pub(crate) fn connect(
         checkpoint_frames: LOG_PAGES,
         ..Options::new(state.hash_one(&0u8))
     };
-    match sqlite_std_file::open(host, path, Unknown) {
+    match sqlite_std_file::open(host, path, start) {
         Ok(files) => connect_in(host.alloc(), files, options),
         Err(OpenError::OutOfMemory) => Err(SavedFault::Memory),
         Err(OpenError::Io(error)) if error.kind() == ErrorKind::OutOfMemory => {
@@ -56,7 +70,9 @@ fn connect_in<D: Disk + Drop>(
 ) -> Result<Connection<FileStore<D>>, SavedFault>
     requires log { IsTrue (D.Disk.is_usable files.log) }
     requires db { IsTrue (D.Disk.is_usable files.db) }
-    ensures { IfOk result (λ c. c.in_transaction ≡ false) }
+    ensures mode { IfOk result (λ c. c.in_transaction ≡ false) }
+    ensures finds { IfOk result (λ c. HasCleanDisk (file_state c)
+        → Finds (image_of D.Disk files) (file_state c)) }
 {
     let Some(size) = PageSize::new(PAGE_SIZE) else {
         return Err(SavedFault::Database);
@@ -77,7 +93,11 @@ fn find<D: Disk + Drop>(
 ) -> Result<Connection<FileStore<D>>, SavedFault>
     requires log { IsTrue (D.Disk.is_usable files.log) }
     requires db { IsTrue (D.Disk.is_usable files.db) }
-    ensures { IfOk result (λ c. c.in_transaction ≡ false) }
+    ensures mode { IfOk result (λ c. c.in_transaction ≡ false) }
+    ensures clean { IfOk result (λ c. HasCleanDisk (file_state c)
+        → AreClean D.Disk files.log files.db) }
+    ensures holds { IfOk result (λ c. HasCleanDisk (file_state c) → (db : Trees)
+        → HoldsDatabase (image_of D.Disk files) db → (file_state c).committed.trees ≡ db) }
 {
     match Connection::open_files(alloc, files, options) {
         Ok(connection) => Ok(connection),
@@ -97,7 +117,11 @@ fn make<D: Disk + Drop>(
 ) -> Result<Connection<FileStore<D>>, SavedFault>
     requires log { IsTrue (D.Disk.is_usable files.log) }
     requires db { IsTrue (D.Disk.is_usable files.db) }
-    ensures { IfOk result (λ c. c.in_transaction ≡ false) }
+    ensures mode { IfOk result (λ c. c.in_transaction ≡ false) }
+    ensures clean { IfOk result (λ c. HasCleanDisk (file_state c)
+        → AreClean D.Disk files.log files.db) }
+    ensures empty { IfOk result (λ c. HasCleanDisk (file_state c)
+        → IsEmpty (file_state c).committed.trees) }
 {
     let pager = Pager::new(alloc, files, size, options)?;
     let unopened = Unopened::new(alloc, pager, &[])?;

@@ -1,0 +1,23 @@
+-- Files that are taken for no database hold none.
+use Rattle.std.proofs.Common.{ℕ, ◌<◌, ◌≤◌, arith, IfOk, Result, Ok, Err}
+use Rattle.sqlite_wal.specs.Recovery.{Image}
+use Rattle.sqlite_pool.specs.Opening.{IsBlankFile}
+use Rattle.sqlite_pool.specs.Stored.{reserved}
+use Rattle.sqlite_pool.proofs.ProbeLemmas.{not_blank}
+use Rattle.sqlite_trees.specs.Tree.{Trees}
+use Rattle.sqlite.specs.Files.{HoldsDatabase}
+
+pub holds_nothing : (size : ℕ) (image : Image) (db : Trees) → 0 < size → HoldsDatabase image db → IsBlankFile size image → ⊥
+holds_nothing size image db some held =
+    let large : 504 ≤ held.0 = (let few : reserved held.0 ≤ 8 = grind arith in omega (arith, held.1.0)) in
+    not_blank held.0 image held.2.pages held.2.found large held.2.ours.file.sound size some
+
+-- what follows from two facts of a success
+pub both : {T E : Type 0} {P Q R : T → Type 0} (r : Result T E) → ((it : T) → P it → Q it → R it) → IfOk r P → IfOk r Q → IfOk r R
+both (Ok it) f p q = f it p q
+both (Err e) f p q = tt
+
+-- and from one
+pub maps : {T E : Type 0} {P Q : T → Type 0} (r : Result T E) → ((it : T) → P it → Q it) → IfOk r P → IfOk r Q
+maps (Ok it) f p = f it p
+maps (Err e) f p = tt
