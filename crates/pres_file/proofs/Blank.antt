@@ -12,12 +12,11 @@ holds_nothing size image db some held =
     let large : 504 ≤ held.0 = (let few : reserved held.0 ≤ 8 = grind arith in omega (arith, held.1.0)) in
     not_blank held.0 image held.2.pages held.2.found large held.2.ours.file.sound size some
 
--- what follows from two facts of a success
-pub both : {T E : Type 0} {P Q R : T → Type 0} (r : Result T E) → ((it : T) → P it → Q it → R it) → IfOk r P → IfOk r Q → IfOk r R
-both (Ok it) f p q = f it p q
-both (Err e) f p q = tt
+-- what follows from facts of a success
+pub from_three : {T E : Type 0} {P Q R S : T → Type 0} (r : Result T E) → ((it : T) → P it → Q it → R it → S it) → IfOk r P → IfOk r Q → IfOk r R → IfOk r S
+from_three (Ok it) f p q r = f it p q r
+from_three (Err e) f p q r = tt
 
--- and from one
-pub maps : {T E : Type 0} {P Q : T → Type 0} (r : Result T E) → ((it : T) → P it → Q it) → IfOk r P → IfOk r Q
-maps (Ok it) f p = f it p
-maps (Err e) f p = tt
+pub from_one : {T E : Type 0} {P Q : T → Type 0} (r : Result T E) → ((it : T) → P it → Q it) → IfOk r P → IfOk r Q
+from_one (Ok it) f p = f it p
+from_one (Err e) f p = tt

@@ -1,8 +1,11 @@
 //! The keeper over a file.
 
-ghost use Rattle.std.specs.Prelude.{◌≡◌, ◌≢◌, ◌⊎◌, ◌↔◌, [], Ok, true, false, IsTrue, IfOk, IfErr};
+ghost use Rattle.std.specs.Prelude.{◌≡◌, ◌≢◌, ◌≤◌, ◌⊎◌, ◌↔◌, [], Ok, true, false, IsTrue, IfOk, IfErr};
 ghost use Rattle.sqlite.specs.Held.{state};
 ghost use Rattle.sqlite.specs.State.{HasCleanDisk};
+ghost use Rattle.sqlite.specs.View.{doubt};
+ghost use Rattle.sqlite.specs.Files.{over_files};
+ghost use Rattle.sqlite_wal.specs.Files.{image_at};
 ghost use Rattle.pres_table.specs.Kept.{IsOurs, IsLeft};
 ghost use Rattle.pres_table.specs.Made.{FailsToMake, making_fault};
 ghost use Rattle.pres_table.specs.Opened.{HasFormat, LacksFormat};
@@ -10,10 +13,11 @@ ghost use Rattle.pres_table.specs.Schemas.{no_schema};
 ghost use Rattle.pres_table.specs.Saved.{shown_rows};
 ghost use Rattle.pres_saved.specs.Saved.{saved_log};
 ghost use Rattle.pres_saved.specs.Keeps.{IsReady, KeepsLog};
+ghost use Rattle.pres_file.specs.Found.{KeepsWhatWasFound};
 
 use crate::open::connect;
 use pres_saved::{SavedFault, SqlKeeper};
-use sqlite::{Alter, Connection, File, FileStore, Unknown};
+use sqlite::{Alter, Connection, File, FileFrom, FileStore, Start, Unknown};
 use sqlite_schema::schema::Schema;
 use std::alloc::Global;
 
@@ -38,6 +42,8 @@ pub fn keeper_over<S: Alter + Drop>(
         → HasCleanDisk (state S.Store it.keeper.connection) → KeepsLog S.Store it.keeper []) }
     ensures ready { IfOk result (λ it. IsOurs (state S.Store connection)
         → IsReady S.Store it.keeper) }
+    ensures clean { IfOk result (λ it. doubt (state S.Store connection).is_clean
+        ≤ doubt (state S.Store it.keeper.connection).is_clean) }
     ensures format { IfOk result (λ it. it.is_new ≡ false
         → HasCleanDisk (state S.Store it.keeper.connection)
         → (mid : _) × HasFormat (state S.Store connection) (state S.Store mid)) }
@@ -84,6 +90,8 @@ fn made<S: Alter + Drop>(
     requires blank { connection.schema ≡ no_schema }
     ensures new { IfOk result (λ it. it.is_new ≡ true) }
     ensures ready { IfOk result (λ it. IsReady S.Store it.keeper) }
+    ensures clean { IfOk result (λ it. doubt (state S.Store connection).is_clean
+        ≤ doubt (state S.Store it.keeper.connection).is_clean) }
     ensures empty { IfOk result (λ it. HasCleanDisk (state S.Store it.keeper.connection)
         → KeepsLog S.Store it.keeper []) }
     ensures unmade { IfErr result (λ e. HasCleanDisk (state S.Store e.1)
@@ -112,6 +120,8 @@ fn found<S: Alter + Drop>(
     ensures new { IfOk result (λ it. it.is_new ≡ false) }
     ensures ready { IfOk result (λ it. IsOurs (state S.Store connection)
         → IsReady S.Store it.keeper) }
+    ensures clean { IfOk result (λ it. doubt (state S.Store connection).is_clean
+        ≤ doubt (state S.Store it.keeper.connection).is_clean) }
     ensures format { IfOk result (λ it. HasCleanDisk (state S.Store it.keeper.connection)
         → (mid : _) × HasFormat (state S.Store connection) (state S.Store mid)) }
     ensures found { IfOk result (λ it. (log : _)
@@ -135,10 +145,19 @@ fn found<S: Alter + Drop>(
     }
 }
 
-/// The keeper over the file, which is made where it is absent or holds no database yet, with small
-/// pages. Database where it can't be opened, or is no database.
-pub fn keeper_in(host: &HostRuntime, path: &str) -> Result<Opened<FileStore<File>>, SavedFault> {
-    let connection = connect(host, path, Unknown)?;
+/// The keeper over the file at the path, which is made where it is absent or holds no database yet,
+/// with small pages. Database where it can't be opened, or is no database.
+///
+/// `S` stands for what the files held. No code can read it, so what is said holds whatever they held.
+pub fn keeper_from<S: Start>(
+    host: &HostRuntime,
+    path: &str,
+    start: S,
+) -> Result<Opened<FileStore<FileFrom<S>>>, SavedFault>
+    ensures { IfOk result (λ it. HasCleanDisk (state over_files it.keeper.connection)
+        → KeepsWhatWasFound over_files (image_at S.Start) it.is_new it.keeper) }
+{
+    let connection = connect(host, path, start)?;
     match keeper_over(host.alloc(), connection) {
         Ok(opened) => Ok(opened),
         Err((fault, connection)) => {
@@ -146,4 +165,9 @@ pub fn keeper_in(host: &HostRuntime, path: &str) -> Result<Opened<FileStore<File
             Err(fault)
         }
     }
+}
+
+/// The same, where nothing is supposed of what the files held.
+pub fn keeper_in(host: &HostRuntime, path: &str) -> Result<Opened<FileStore<File>>, SavedFault> {
+    keeper_from(host, path, Unknown)
 }

@@ -2,7 +2,7 @@
 
 ghost use Rattle.std.specs.Prelude.{◌≡◌, false, IsTrue, IfOk};
 ghost use Rattle.sqlite.specs.State.{HasCleanDisk};
-ghost use Rattle.sqlite.specs.Files.{file_state, image_of, HoldsDatabase, IsEmpty};
+ghost use Rattle.sqlite.specs.Files.{file_state, image_of, HoldsDatabase, IsEmpty, IsOpened};
 ghost use Rattle.sqlite_trees.specs.Tree.{Trees};
 ghost use Rattle.sqlite_wal.specs.Files.{image_at};
 ghost use Rattle.sqlite_wal.specs.Reads.{AreClean};
@@ -96,6 +96,7 @@ fn find<D: Disk + Drop>(
     ensures mode { IfOk result (λ c. c.in_transaction ≡ false) }
     ensures clean { IfOk result (λ c. HasCleanDisk (file_state c)
         → AreClean D.Disk files.log files.db) }
+    ensures opened { IfOk result (λ c. HasCleanDisk (file_state c) → IsOpened c) }
     ensures holds { IfOk result (λ c. HasCleanDisk (file_state c) → (db : Trees)
         → HoldsDatabase (image_of D.Disk files) db → (file_state c).committed.trees ≡ db) }
 {
@@ -120,6 +121,7 @@ fn make<D: Disk + Drop>(
     ensures mode { IfOk result (λ c. c.in_transaction ≡ false) }
     ensures clean { IfOk result (λ c. HasCleanDisk (file_state c)
         → AreClean D.Disk files.log files.db) }
+    ensures opened { IfOk result (λ c. HasCleanDisk (file_state c) → IsOpened c) }
     ensures empty { IfOk result (λ c. HasCleanDisk (file_state c)
         → IsEmpty (file_state c).committed.trees) }
 {

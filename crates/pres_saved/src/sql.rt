@@ -1,8 +1,9 @@
 //! A keeper over a database.
 
-ghost use Rattle.std.specs.Prelude.{◌≡◌, ◌⊎◌, [], false, is_ok, Ok, IfOk, IfErr, MatchResult, IsTrue};
+ghost use Rattle.std.specs.Prelude.{◌≡◌, ◌≤◌, ◌⊎◌, [], false, is_ok, Ok, IfOk, IfErr, MatchResult, IsTrue};
 ghost use Rattle.sqlite.specs.Held.{state};
 ghost use Rattle.sqlite.specs.State.{HasCleanDisk, Survives};
+ghost use Rattle.sqlite.specs.View.{doubt};
 ghost use Rattle.pres_table.specs.Kept.{Serves, IsLeft, IsOurs};
 ghost use Rattle.pres_table.specs.Made.{HoldsFormat, Makes, FailsToMake, making_fault};
 ghost use Rattle.pres_table.specs.Opened.{HasFormat, LacksFormat};
@@ -93,6 +94,8 @@ impl<S: Alter + Drop> SqlKeeper<S> {
             → (mid : _) × HasFormat (state S.Store connection) (state S.Store mid)) }
         ensures ready { IfOk result (λ k. IsOurs (state S.Store connection)
             → IsReady S.Store k) }
+        ensures clean { IfOk result (λ k. doubt (state S.Store connection).is_clean
+            ≤ doubt (state S.Store k.connection).is_clean) }
         ensures found { IfOk result (λ k. (log : _) → HasCleanDisk (state S.Store k.connection)
             → IsOurs (state S.Store connection)
             → saved_log (shown_rows (state S.Store connection)) ≡ Ok log

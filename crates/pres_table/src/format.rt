@@ -128,6 +128,8 @@ pub(crate) fn find<S: Alter>(connection: &mut Connection<S>) -> Result<u64, Save
         → IsOurs (state S.Store connection.old)
         → connection.old.in_transaction ≡ false
         → IsLeft (state S.Store connection.old) (state S.Store connection.new) }
+    ensures clean { doubt (state S.Store connection.old).is_clean
+        ≤ doubt (state S.Store connection.new).is_clean }
 {
     check_format(connection)?;
     last_number(connection)

@@ -3,6 +3,7 @@
 ghost use Rattle.std.specs.Prelude.{◌≡◌, ◌⊎◌, ◌+◌, ◌<◌, ◌≤◌, ◌++◌, ◌∷◌, [], false, length, Ok, Err, if◌then◌else◌, is_ok, map, IsTrue, IfOk, IfErr, MatchResult, OnOk, OnErr};
 ghost use Rattle.sqlite.specs.Held.{state};
 ghost use Rattle.sqlite.specs.State.{HasCleanDisk, IsUnchanged, Survives};
+ghost use Rattle.sqlite.specs.View.{doubt};
 ghost use Rattle.pres_ids.specs.Numbers.{greatest_number};
 ghost use Rattle.pres_table.specs.Kept.{IsOurs, Serves, AddsRow, IsLeft};
 ghost use Rattle.pres_table.specs.Opened.{HasFormat, LacksFormat, IsFound};
@@ -97,6 +98,8 @@ impl<S: Alter + Drop> Table<S> {
             → IsFound (state S.Store connection) (state S.Store t.connection) t.last) }
         ensures serves { IfOk result (λ t. IsOurs (state S.Store connection)
             → Serves S.Store t) }
+        ensures clean { IfOk result (λ t. doubt (state S.Store connection).is_clean
+            ≤ doubt (state S.Store t.connection).is_clean) }
         ensures err { IfErr result (λ e. HasCleanDisk (state S.Store e.1)
             → ((mid : _) × LacksFormat (state S.Store connection) (state S.Store mid) e.0)
             ⊎ ((e.0 ≡ SavedFault.Memory) ⊎ (e.0 ≡ SavedFault.Database))) }
