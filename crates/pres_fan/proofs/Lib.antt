@@ -1,4 +1,5 @@
 pub mod Orders
 pub mod Lists
 pub mod Places
+pub mod Prefixes
 pub mod Rows

@@ -204,11 +204,15 @@ fn is_of(listener: &Listener, session: &SessionId, path: &Path) -> bool
     session == &listener.session && path == &listener.path
 }
 
-// Whether one of the paths is at the other or above it.
+// Whether one of the paths is at the other or above it, which only the shorter one can be.
 fn meet(path: &Path, other: &Path) -> bool
     ensures { result ≡ meet path.now other.now }
 {
-    path.is_prefix_of(other) || other.is_prefix_of(path)
+    if path.len() <= other.len() {
+        path.is_prefix_of(other)
+    } else {
+        other.is_prefix_of(path)
+    }
 }
 
 // Whether the writes touch the place.

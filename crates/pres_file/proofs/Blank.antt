@@ -1,5 +1,5 @@
 -- Files that are taken for no database hold none.
-use Rattle.std.proofs.Common.{ℕ, ◌<◌, ◌≤◌, arith, IfOk, Result, Ok, Err}
+use Rattle.std.proofs.Common.{ℕ, ◌<◌, ◌≤◌, arith}
 use Rattle.sqlite_wal.specs.Recovery.{Image}
 use Rattle.sqlite_pool.specs.Opening.{IsBlankFile}
 use Rattle.sqlite_pool.specs.Stored.{reserved}
@@ -11,12 +11,3 @@ pub holds_nothing : (size : ℕ) (image : Image) (db : Trees) → 0 < size → H
 holds_nothing size image db some held =
     let large : 504 ≤ held.0 = (let few : reserved held.0 ≤ 8 = grind arith in omega (arith, held.1.0)) in
     not_blank held.0 image held.2.pages held.2.found large held.2.ours.file.sound size some
-
--- what follows from facts of a success
-pub from_three : {T E : Type 0} {P Q R S : T → Type 0} (r : Result T E) → ((it : T) → P it → Q it → R it → S it) → IfOk r P → IfOk r Q → IfOk r R → IfOk r S
-from_three (Ok it) f p q r = f it p q r
-from_three (Err e) f p q r = tt
-
-pub from_one : {T E : Type 0} {P Q : T → Type 0} (r : Result T E) → ((it : T) → P it → Q it) → IfOk r P → IfOk r Q
-from_one (Ok it) f p = f it p
-from_one (Err e) f p = tt

@@ -1,1 +1,2 @@
 mod Blank
+mod Successes

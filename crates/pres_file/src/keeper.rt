@@ -154,7 +154,7 @@ pub fn keeper_from<S: Start>(
     path: &str,
     start: S,
 ) -> Result<Opened<FileStore<FileFrom<S>>>, SavedFault>
-    ensures { IfOk result (λ it. HasCleanDisk (state over_files it.keeper.connection)
+    ensures keeps { IfOk result (λ it. HasCleanDisk (state over_files it.keeper.connection)
         → KeepsWhatWasFound over_files (image_at S.Start) it.is_new it.keeper) }
 {
     let connection = connect(host, path, start)?;
@@ -167,7 +167,8 @@ pub fn keeper_from<S: Start>(
     }
 }
 
-/// The same, where nothing is supposed of what the files held.
+/// The same at the type that stands for whatever the files hold. By its meaning in the kit nothing is
+/// promised here of a file that isn't empty: that is what `keeper_from` says, whose code is the same.
 pub fn keeper_in(host: &HostRuntime, path: &str) -> Result<Opened<FileStore<File>>, SavedFault> {
     keeper_from(host, path, Unknown)
 }

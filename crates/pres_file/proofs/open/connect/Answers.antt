@@ -3,7 +3,7 @@ use Rattle.sqlite_disk.specs.Events.{Event, replay}
 use Rattle.sqlite_wal.specs.Recovery.{Image}
 use Rattle.sqlite.specs.Files.{file_state}
 use Rattle.pres_file.specs.Found.{Finds}
-use Rattle.pres_file.proofs.Blank.{from_one}
+use Rattle.pres_file.proofs.Successes.{from_one}
 use Rattle.pres_file.proofs.open.connect.Goals as goal
 
 -- what a file shows, by what it held and what happened to it since
