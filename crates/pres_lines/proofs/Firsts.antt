@@ -2,7 +2,7 @@
 use Rattle.std.proofs.Common.{refl, sym, ◌∙◌, ap, subst, ◌≡◌, ◌<◌, ℕ, suc, Bool, true, false, not, cond, ◌&&◌, true≢false, Option, Some, None, is_some, is_eq, option_map, IfSome, List, [], ◌∷◌, filter, length, arith}
 use Rattle.std.specs.Prelude.{IsSomeAnd, IfNone}
 use Rattle.std.specs.Option.{option_or}
-use Rattle.std.specs.Map.{keys_of, lookup}
+use Rattle.std.specs.Map.{keys_of, lookup, remove_entry, set_value}
 use Rattle.std.specs.Map.Calls.{RetainsPairs}
 use Rattle.std.specs.BTreeMap.{is_at}
 use Rattle.std.specs.Cmp.{eq_by_cmp_equiv}
@@ -91,6 +91,38 @@ none_slow (e ∷ lines) h s = by (is_slow e.1) refl h (λ k. none_slow lines k s
       → IfSome (line_at s (e ∷ lines)) (λ l. is_slow l ≡ false)
   by true k q r = absurd (true≢false q)
   by false k q r = each_behind (λ l. is_slow l ≡ false) s e lines k (r q)
+
+-- where there is none, neither the first line is slow nor one behind it
+none_each : (b : Bool) (s : SessionId) (o : Option SessionId) → cond b (Some s) o ≡ None → (b ≡ false) × (o ≡ None)
+none_each true s o h = absurd (true≢false (ap is_some h))
+none_each false s o h = (refl, h)
+
+none_both : (b : Bool) (s : SessionId) (o : Option SessionId) → b ≡ false → o ≡ None → cond b (Some s) o ≡ None
+none_both b s o k h = ap (λ x. cond x (Some s) o) k ∙ h
+
+pub none_of : {X : Type 0} (o : Option X) → is_some o ≡ false → o ≡ None
+none_of None h = refl
+none_of (Some x) h = absurd (true≢false h)
+
+-- there is none either where a line leaves
+pub none_removed : (test : SessionId → Bool) (es : List (SessionId × Place)) → first_slow (lines_of es) ≡ None → first_slow (lines_of (remove_entry test es)) ≡ None
+none_removed test [] h = h
+none_removed test (e ∷ es) h =
+    let each = none_each (is_slow (line_of e.1)) e.0 (first_slow (lines_of es)) h in
+    elim (test e.0) as (λ b. first_slow (lines_of (cond b es (e ∷ remove_entry test es))) ≡ None) [
+      | true ↦ each.1
+      | false ↦ none_both (is_slow (line_of e.1)) e.0 (first_slow (lines_of (remove_entry test es))) each.0 (none_removed test es each.1)
+    ]
+
+-- nor where one changes into one that isn't slow
+pub none_changed : (test : SessionId → Bool) (es : List (SessionId × Place)) (w : Place) → is_slow (line_of w) ≡ false → first_slow (lines_of es) ≡ None → first_slow (lines_of (set_value test es w)) ≡ None
+none_changed test [] w k h = h
+none_changed test (e ∷ es) w k h =
+    let each = none_each (is_slow (line_of e.1)) e.0 (first_slow (lines_of es)) h in
+    elim (test e.0) as (λ b. first_slow (lines_of (cond b ((e.0, w) ∷ es) (e ∷ set_value test es w))) ≡ None) [
+      | true ↦ none_both (is_slow (line_of w)) e.0 (first_slow (lines_of es)) k each.1
+      | false ↦ none_both (is_slow (line_of e.1)) e.0 (first_slow (lines_of (set_value test es w))) each.0 (none_changed test es w k each.1)
+    ]
 
 some_there : (P : Line → Type 0) (o : Option Line) → IsSomeAnd o P → is_some o ≡ true
 some_there P None q = absurd q

@@ -6,7 +6,7 @@ use Rattle.pres_wire.specs.declared.down.Down.{Down}
 use Rattle.pres_fan.specs.Listeners.{session_cmp}
 use Rattle.pres_ring.specs.Ends.{Fed}
 use Rattle.pres_lines.specs.declared.place.Place.{Place}
-use Rattle.pres_lines.specs.Lines.{Line, Lines}
+use Rattle.pres_lines.specs.Lines.{Line, Lines, first_slow}
 
 -- what the place's feed has put, none without one
 abbrev pub sent_on : Option Fed → Option (List Down)
@@ -27,3 +27,7 @@ IsOwn s p = IfSome p.feed (λ feed. feed.session ≡ s)
 -- each feed is that of the session at whose place it stands
 abbrev pub AreOwn : BTreeMap SessionId Place → Type 0
 AreOwn places = (s : SessionId) → IfSome (get session_cmp places s) (IsOwn s)
+
+-- none of the lines is slow
+abbrev pub AreFast : BTreeMap SessionId Place → Type 0
+AreFast places = first_slow (lines_of places.entries) ≡ None

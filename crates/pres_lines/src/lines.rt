@@ -20,21 +20,26 @@ use std::marker::Model;
 
 /// A line for each session that has a ring, or is to have one: its feed, and why the session is
 /// still to end, where its end was refused. Contracts see the list of the lines, in order of the
-/// sessions.
+/// sessions. A look for a slow session passes over the lines only where one may have become slow since
+/// the last look found none.
 #[derive(Drop)]
 pub struct Lines {
     by_session: BTreeMap<SessionId, Place>,
+    /// Known to be so: where it is false, one may be slow.
+    none_slow: bool,
 }
 
 impl Model for Lines {
+    ghost use Rattle.std.specs.Prelude.{◌≡◌, true};
     ghost use Rattle.pres_lines.specs.Lines.{Lines};
-    ghost use Rattle.pres_lines.specs.Places.{lines_of, AreOwn};
+    ghost use Rattle.pres_lines.specs.Places.{lines_of, AreOwn, AreFast};
 
     ghost Value = { Lines };
 
     ghost view = { λ l. lines_of l.by_session.entries };
 
-    ghost invariant = { λ l. AreOwn l.by_session };
+    ghost invariant = { λ l. AreOwn l.by_session
+        × (l.none_slow ≡ true → AreFast l.by_session) };
 }
 
 impl Lines {
@@ -44,6 +49,7 @@ impl Lines {
     {
         Lines {
             by_session: BTreeMap::new(alloc),
+            none_slow: true,
         }
     }
 
@@ -67,6 +73,7 @@ impl Lines {
         }
         let session = session.copy(alloc)?;
         drop(self.by_session.insert(session, Place::new())?);
+        self.none_slow = false;
         Ok(true)
     }
 
@@ -88,6 +95,7 @@ impl Lines {
             unreachable!()
         };
         place.attach(feed);
+        self.none_slow = false;
     }
 
     // Puts the message, which tells the session that it is gone, on its line, which leaves.
@@ -131,6 +139,7 @@ impl Lines {
             return;
         };
         place.put(message);
+        self.none_slow &= !place.is_slow();
     }
 
     // Puts one message on the line of its session, which leaves where it is told that it is gone.
@@ -180,9 +189,14 @@ impl Lines {
         ensures none_slow { IfNone result
             ((s : SessionId) → IfSome (line_at s self.old) (λ l. is_slow l ≡ false)) }
     {
+        if self.none_slow {
+            return None;
+        }
         let found = self.first_slow(alloc);
         if found.is_some() {
             self.mark_first_slow();
+        } else {
+            self.none_slow = true;
         }
         found
     }
@@ -205,6 +219,7 @@ impl Lines {
         ensures marked { self.new ≡ mark_first_slow self.old }
         ensures ordered { IsStrictlySortedBy session_cmp (keys_of self.old) }
     {
+        self.none_slow = false;
         let mut is_due = true;
         self.by_session.retain(move |_session, place| {
             if is_due && place.is_slow() {

@@ -14,9 +14,11 @@ unreachable-requires c =
 pub invariant_of-self : goal.invariant_of-self
 invariant_of-self c =
     let t = c.session.result.now in
-    let w = c.get_mut.follows.holds c.attach.new.self in
-    own_after t c.self.inside.by_session (c.get_mut.follows.lender c.attach.new.self) (Some c.attach.new.self) (w.3 (subst IsSome c.in-Some.ensures.value refl))
-    (subst (λ feed. IfSome feed (λ f. f.session ≡ t)) (sym c.attach.ensures.feed) (sym c.session.ensures)) c.self.invariant
+    let w = c.get_mut.follows.holds c.attach.new.self in (
+      own_after t c.self.inside.by_session (c.get_mut.follows.lender c.attach.new.self) (Some c.attach.new.self) (w.3 (subst IsSome c.in-Some.ensures.value refl))
+          (subst (λ feed. IfSome feed (λ f. f.session ≡ t)) (sym c.attach.ensures.feed) (sym c.session.ensures)) c.self.invariant.0,
+      λ h. absurd (true≢false (sym h)),
+    )
 
 pub returns : goal.returns
 returns c =

@@ -1,10 +1,11 @@
-use Rattle.std.proofs.Common.{◌≤◌, ◌∷◌, [], ◌∙◌, ap, subst, sym, refl, None, IfSome, option_map}
+use Rattle.std.proofs.Common.{◌≡◌, ◌≤◌, ◌∷◌, [], ◌∙◌, ap, subst, sym, refl, None, IfSome, option_map}
 use Rattle.std.specs.BTreeMap.{is_at}
 use Rattle.pres_fan.specs.Listeners.{session_cmp}
-use Rattle.pres_lines.specs.Lines.{line_at, unmarked, ChangesAt}
+use Rattle.pres_lines.specs.Lines.{line_at, first_slow, unmarked, ChangesAt}
 use Rattle.pres_lines.specs.Steps.{IsToldWith}
 use Rattle.pres_lines.specs.Places.{line_of, lines_of, IsOwn}
 use Rattle.pres_lines.proofs.Changes.{line_at_place, changes, own_after}
+use Rattle.pres_lines.proofs.Firsts.{none_removed}
 use Rattle.pres_lines.proofs.Marks.{removed_fewer}
 use Rattle.pres_lines.proofs.Sends.{parted, parted_fits, put_told}
 use Rattle.pres_lines.proofs.lines.Lines.part.Goals as goal
@@ -30,11 +31,14 @@ put-requires c =
     let at = sym (ap (line_at t) c.self.view_is) ∙ line_at_place t es ∙ ap (option_map line_of) (sym c.in-Some-remove.ensures.value) in
     record {
       told = put_told t c.args.message c.in-Some-remove.place.feed (sym c.in-Some.ensures) (subst (IsToldWith t (c.args.message ∷ [])) at (c.requires.told t))
-          (subst (λ o. IfSome o (IsOwn t)) (sym c.in-Some-remove.ensures.value) (c.self.invariant t));
+          (subst (λ o. IfSome o (IsOwn t)) (sym c.in-Some-remove.ensures.value) (c.self.invariant.0 t));
     }
 
 pub invariant_of-self-2 : goal.invariant_of-self-2
-invariant_of-self-2 c = own_after c.in-Some.session.now c.self.inside.by_session c.remove.new.self None c.remove.ensures.updates tt c.self.invariant
+invariant_of-self-2 c = (
+  own_after c.in-Some.session.now c.self.inside.by_session c.remove.new.self None c.remove.ensures.updates tt c.self.invariant.0,
+  λ fast. subst (λ es. first_slow (lines_of es) ≡ None) (sym c.remove.ensures.entries) (none_removed (is_at (session_cmp c.in-Some.session.now)) c.self.inside.by_session.entries (c.self.invariant.1 fast)),
+)
 
 pub returns-clause-sent : goal.returns-clause-sent
 returns-clause-sent c =

@@ -1,13 +1,15 @@
-use Rattle.std.proofs.Common.{◌≤◌, ◌∷◌, [], ◌∙◌, ap, subst, sym, refl, not, is_some, Some, IfSome, option_map}
+use Rattle.std.proofs.Common.{◌≡◌, ◌≤◌, ◌∷◌, [], ◌∙◌, ap, subst, sym, refl, Bool, true, false, true≢false, not, is_some, Some, None, IfSome, option_map}
 use Rattle.std.specs.Prelude.{IsSome}
 use Rattle.std.specs.BTreeMap.{BTreeMap, is_at}
+use Rattle.std.proofs.lemmas.Bool.{and_parts}
 use Rattle.pres_ids.specs.declared.id.SessionId.{SessionId}
 use Rattle.pres_fan.specs.Listeners.{session_cmp}
 use Rattle.pres_lines.specs.declared.place.Place.{Place}
-use Rattle.pres_lines.specs.Lines.{Lines, line_at, unmarked, ChangesAt}
+use Rattle.pres_lines.specs.Lines.{Lines, line_at, first_slow, unmarked, ChangesAt}
 use Rattle.pres_lines.specs.Steps.{IsToldWith, LineAfter, LineFits}
 use Rattle.pres_lines.specs.Places.{line_of, lines_of, IsOwn}
 use Rattle.pres_lines.proofs.Changes.{line_at_place, changes, own_after}
+use Rattle.pres_lines.proofs.Firsts.{none_changed}
 use Rattle.pres_lines.proofs.Marks.{changed_fewer}
 use Rattle.pres_lines.proofs.Sends.{unsent, unsent_fits, sent_one, sent_fits, put_told, none_at}
 use Rattle.pres_lines.proofs.lines.Lines.put.Goals as goal
@@ -37,15 +39,25 @@ put-requires c =
     let at = sym (ap (line_at t) c.self.view_is) ∙ line_at_place t es ∙ ap (option_map line_of) (sym c.in-Some-get_mut.ensures.value) in
     record {
       told = put_told t c.args.message c.in-Some-get_mut.place.now.feed (sym c.in-Some.ensures) (subst (IsToldWith t (c.args.message ∷ [])) at (c.requires.told t))
-          (subst (λ o. IfSome o (IsOwn t)) (sym c.in-Some-get_mut.ensures.value) (c.self.invariant t));
+          (subst (λ o. IfSome o (IsOwn t)) (sym c.in-Some-get_mut.ensures.value) (c.self.invariant.0 t));
     }
+
+untrue : (b : Bool) → not b ≡ true → b ≡ false
+untrue true h = absurd (true≢false (sym h))
+untrue false h = refl
 
 pub invariant_of-self-2 : goal.invariant_of-self-2
 invariant_of-self-2 c =
     let t = c.in-Some.session.now in
     let w = c.get_mut.follows.holds c.put.new.self in
-    own_after t c.self.inside.by_session (c.get_mut.follows.lender c.put.new.self) (Some c.put.new.self) (w.3 (subst IsSome c.in-Some-get_mut.ensures.value refl))
-    (c.put.ensures.own t (subst (λ o. IfSome o (IsOwn t)) (sym c.in-Some-get_mut.ensures.value) (c.self.invariant t))) c.self.invariant
+    let updates = w.3 (subst IsSome c.in-Some-get_mut.ensures.value refl) in (
+      own_after t c.self.inside.by_session (c.get_mut.follows.lender c.put.new.self) (Some c.put.new.self) updates
+          (c.put.ensures.own t (subst (λ o. IfSome o (IsOwn t)) (sym c.in-Some-get_mut.ensures.value) (c.self.invariant.0 t))) c.self.invariant.0,
+      λ fast.
+          let both = and_parts c.self.inside.none_slow (not c.is_slow.result) fast in
+          subst (λ es. first_slow (lines_of es) ≡ None) (sym w.0)
+          (none_changed (is_at (session_cmp t)) c.self.inside.by_session.entries c.put.new.self (sym c.is_slow.ensures ∙ untrue c.is_slow.result both.1) (c.self.invariant.1 both.0)),
+    )
 
 pub returns-clause-sent : goal.returns-clause-sent
 returns-clause-sent c =

@@ -1,14 +1,18 @@
-use Rattle.std.proofs.Common.{subst, sym, ◌≤◌, refl, None}
+use Rattle.std.proofs.Common.{◌≡◌, subst, sym, ◌≤◌, refl, None}
 use Rattle.std.specs.BTreeMap.{is_at}
 use Rattle.pres_fan.specs.Listeners.{session_cmp}
-use Rattle.pres_lines.specs.Lines.{unmarked, ChangesAt}
+use Rattle.pres_lines.specs.Lines.{first_slow, unmarked, ChangesAt}
 use Rattle.pres_lines.specs.Places.{lines_of}
 use Rattle.pres_lines.proofs.Changes.{changes, own_after}
+use Rattle.pres_lines.proofs.Firsts.{none_removed}
 use Rattle.pres_lines.proofs.Marks.{removed_fewer}
 use Rattle.pres_lines.proofs.lines.Lines.remove.Goals as goal
 
 pub invariant_of-self : goal.invariant_of-self
-invariant_of-self c = own_after c.args.session.now c.self.inside.by_session c.remove.new.self None c.remove.ensures.updates tt c.self.invariant
+invariant_of-self c = (
+  own_after c.args.session.now c.self.inside.by_session c.remove.new.self None c.remove.ensures.updates tt c.self.invariant.0,
+  λ fast. subst (λ es. first_slow (lines_of es) ≡ None) (sym c.remove.ensures.entries) (none_removed (is_at (session_cmp c.args.session.now)) c.self.inside.by_session.entries (c.self.invariant.1 fast)),
+)
 
 pub returns-clause-line : goal.returns-clause-line
 returns-clause-line c =

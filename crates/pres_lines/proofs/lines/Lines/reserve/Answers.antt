@@ -1,4 +1,4 @@
-use Rattle.std.proofs.Common.{◌≡◌, ◌∙◌, ap, subst, sym, not, false, is_some, Some, IfSome}
+use Rattle.std.proofs.Common.{◌≡◌, ◌∙◌, ap, subst, sym, not, false, true≢false, is_some, Some, IfSome}
 use Rattle.pres_lines.specs.Lines.{line_at, has_line, kept_or_blank, ChangesAt}
 use Rattle.pres_lines.specs.Places.{line_of, lines_of}
 use Rattle.pres_lines.proofs.Changes.{some_line, stays, kept_line, new_line, changes, own_after}
@@ -16,9 +16,11 @@ returns-then-contains_key-clause-line c =
     (kept_line (line_at t c.args.self.now) (sym (sym c.if-contains_key.true ∙ c.contains_key.ensures ∙ some_line t c.self.inside.by_session.entries ∙ ap (has_line t) c.self.view_is)))
 
 pub invariant_of-self-2 : goal.invariant_of-self-2
-invariant_of-self-2 c =
-    own_after c.in_ok-session.session c.self.inside.by_session c.insert.new.self (Some c.new.result) c.in_ok-insert.ensures.updates
-    (subst (λ feed. IfSome feed (λ f. f.session ≡ c.in_ok-session.session)) (sym c.new.ensures.feed) tt) c.self.invariant
+invariant_of-self-2 c = (
+  own_after c.in_ok-session.session c.self.inside.by_session c.insert.new.self (Some c.new.result) c.in_ok-insert.ensures.updates
+      (subst (λ feed. IfSome feed (λ f. f.session ≡ c.in_ok-session.session)) (sym c.new.ensures.feed) tt) c.self.invariant.0,
+  λ h. absurd (true≢false (sym h)),
+)
 
 pub returns-clause-new : goal.returns-clause-new
 returns-clause-new c =

@@ -1,10 +1,11 @@
-use Rattle.std.proofs.Common.{refl, ◌≡◌, ◌≤◌, ◌∙◌, ap, subst, sym, not, is_some, Some, IfSome, option_map}
+use Rattle.std.proofs.Common.{refl, ◌≡◌, ◌≤◌, ◌∙◌, ap, subst, sym, not, is_some, Some, None, IfSome, option_map}
 use Rattle.std.specs.Prelude.{IsSome}
 use Rattle.std.specs.BTreeMap.{is_at}
 use Rattle.pres_fan.specs.Listeners.{session_cmp}
-use Rattle.pres_lines.specs.Lines.{Line, struck, unmarked, ChangesAt}
+use Rattle.pres_lines.specs.Lines.{Line, is_slow, first_slow, struck, unmarked, ChangesAt}
 use Rattle.pres_lines.specs.Places.{line_of, lines_of}
 use Rattle.pres_lines.proofs.Changes.{line_at_place, stays, changes, own_after}
+use Rattle.pres_lines.proofs.Firsts.{none_changed}
 use Rattle.pres_lines.proofs.Marks.{changed_fewer}
 use Rattle.pres_lines.proofs.lines.Lines.strike.Goals as goal
 
@@ -21,8 +22,12 @@ pub invariant_of-self-2 : goal.invariant_of-self-2
 invariant_of-self-2 c =
     let t = c.args.session.now in
     let w = c.get_mut.follows.holds c.strike.new.self in
-    own_after t c.self.inside.by_session (c.get_mut.follows.lender c.strike.new.self) (Some c.strike.new.self) (w.3 (subst IsSome c.in-Some.ensures.value refl))
-    (subst (λ feed. IfSome feed (λ f. f.session ≡ t)) (sym c.strike.ensures.feed) tt) c.self.invariant
+    let updates = w.3 (subst IsSome c.in-Some.ensures.value refl) in (
+      own_after t c.self.inside.by_session (c.get_mut.follows.lender c.strike.new.self) (Some c.strike.new.self) updates
+          (subst (λ feed. IfSome feed (λ f. f.session ≡ t)) (sym c.strike.ensures.feed) tt) c.self.invariant.0,
+      λ fast. subst (λ es. first_slow (lines_of es) ≡ None) (sym w.0)
+          (none_changed (is_at (session_cmp t)) c.self.inside.by_session.entries c.strike.new.self (ap is_slow c.strike.ensures.line) (c.self.invariant.1 fast)),
+    )
 
 pub returns-clause-line : goal.returns-clause-line
 returns-clause-line c =
