@@ -1,17 +1,19 @@
 //! The text of a batch's entries.
 
 ghost use Rattle.std.specs.Prelude.{◌≡◌, IsTrue, IfOk, IfSome, Some, map, string_bytes};
+ghost use Rattle.serde_json.specs.Read.{read};
 ghost use Rattle.serde_json.specs.View.{view};
 ghost use Rattle.serde_json.specs.Written.{compact_text};
 ghost use Rattle.pres_log.specs.Batches.{may_hold};
 ghost use Rattle.pres_body.specs.Entries.{entries_json};
-ghost use Rattle.pres_body.specs.Reads.{with_one_null, entries_read, entries_in};
+ghost use Rattle.pres_body.specs.Reads.{with_one_null, list_of, entry_read, entries_read, entries_in};
 
 use crate::entry::value_of;
 use crate::list::{Saved, list_value, read_list};
 use crate::read::read_entry;
+use crate::set::set_text;
 use pres_log::{Batch, Entry};
-use pres_write::Items;
+use pres_write::{Items, Op, Outcome};
 use serde_json::Value;
 use std::alloc::{AllocError, Global};
 
@@ -36,6 +38,33 @@ impl Saved for Entry {
     }
 }
 
+// The text of one set that came to one write; none of other entries.
+fn set_of(alloc: Global, entries: &[Entry]) -> Option<Result<String, AllocError>>
+    ensures text { IfSome result (λ r. IfOk r (λ t.
+        string_bytes t ≡ compact_text (entries_json entries.now))) }
+    ensures reads { IfSome result (λ r. IfOk r (λ _.
+        list_of entry_read (entries_json entries.now) ≡ Some (map with_one_null entries.now))) }
+    ensures reads_back { IfSome result (λ r. IfOk r (λ t.
+        read (string_bytes t) ≡ Some (entries_json entries.now))) }
+{
+    let [
+        Entry::Op {
+            session,
+            q,
+            n,
+            op: Op::Set(placement),
+            outcome: Outcome::Wrote(writes),
+        },
+    ] = entries
+    else {
+        return None;
+    };
+    let [write] = writes.as_slice() else {
+        return None;
+    };
+    Some(set_text(alloc, session, *q, *n, placement, write))
+}
+
 /// The text of the entries. Those of a batch are read again from it, a null that was held as
 /// none: so no text is that of two batches.
 pub fn print_entries(alloc: Global, entries: &[Entry]) -> Result<String, AllocError>
@@ -43,6 +72,9 @@ pub fn print_entries(alloc: Global, entries: &[Entry]) -> Result<String, AllocEr
     ensures reads_back { IfOk result (λ t. IsTrue (may_hold entries.now)
         → entries_in (string_bytes t) ≡ Some (map with_one_null entries.now)) }
 {
+    if let Some(text) = set_of(alloc, entries) {
+        return text;
+    }
     let value = list_value(alloc, entries)?;
     let text = value.to_string(alloc);
     drop(value);

@@ -7,5 +7,6 @@ mod field;
 mod list;
 mod part;
 mod read;
+mod set;
 
 pub use body::{print_entries, read_entries};

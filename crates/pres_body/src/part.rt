@@ -1,15 +1,16 @@
 //! Parts of entries: rows, what operations came to, puts.
 
-ghost use Rattle.std.specs.Prelude.{◌≡◌, ◌≤◌, IfOk, IfSome, Some, None};
+ghost use Rattle.std.specs.Prelude.{◌≡◌, ◌≤◌, ◌++◌, IfOk, OnOk, IfSome, Some, None};
 ghost use Rattle.serde_json.specs.Data.{depth};
 ghost use Rattle.serde_json.specs.View.{view};
 ghost use Rattle.pres_tree.specs.Rows.{Fits, rows_in};
-ghost use Rattle.pres_tree.specs.Printing.{json_of};
+ghost use Rattle.pres_tree.specs.Printing.{json_of, tokens_of, IsPlain};
 ghost use Rattle.pres_wire.specs.Fields.{path_json, path_of};
-ghost use Rattle.pres_body.specs.Entries.{row_json, outcome_json, list_json, put_json, number_or_null};
-ghost use Rattle.pres_body.specs.Reads.{rows_below, row_of, op_in, outcome_by, outcome_in, one_null, puts_in, number_or_none};
+ghost use Rattle.pres_body.specs.Entries.{row_json, write_json, outcome_json, list_json, put_json, number_or_null};
+ghost use Rattle.pres_body.specs.Reads.{rows_below, row_of, write_in, op_in, outcome_by, outcome_in, one_null, puts_in, number_or_none};
 
 use crate::list::{Saved, list_value, read_list};
+use json::Writer;
 use pres_ids::{Number, pair_of};
 use pres_tree::{Leaf, Nested, Path, Tree, TreeFault};
 use pres_wire::part::{held_of, held_value, path_of, tree_of};
@@ -30,6 +31,45 @@ fn row_value<L: Leaf>(alloc: Global, path: &Path, rows: &Nested<L>) -> Result<Va
     pair.push(Value::String(path.text(alloc)?))?;
     pair.push(rows.to_value(alloc)?)?;
     Ok(Value::Array(pair))
+}
+
+// Writes a path and what is there: `[path,value]`. It is read again as both.
+fn write_row<L: Leaf>(
+    alloc: Global,
+    out: &mut Writer,
+    path: &Path,
+    rows: &Nested<L>,
+) -> Result<(), AllocError>
+    requires { Fits path.now rows.now }
+    ensures ok { OnOk result (out.new.tokens ≡ out.old.tokens
+        ++ tokens_of (row_json path.now (json_of L.printing rows.now))) }
+    ensures before { out.new.before ≡ out.old.before }
+    ensures plain { OnOk result (IsPlain (row_json path.now (json_of L.printing rows.now))) }
+    ensures path { OnOk result (path_of (path_json path.now) ≡ Some path.now) }
+    ensures rows { OnOk result
+        (rows_below L.reading path.now (json_of L.printing rows.now) ≡ Some rows.now) }
+{
+    let text = path.text(alloc)?;
+    out.begin_array()?;
+    out.string(text.as_str())?;
+    rows.write(out)?;
+    out.end_array()
+}
+
+// Writes a write: null where it removes. It is read again.
+pub(crate) fn write_write(alloc: Global, out: &mut Writer, write: &Basic) -> Result<(), AllocError>
+    ensures ok { OnOk result
+        (out.new.tokens ≡ out.old.tokens ++ tokens_of (write_json write.now)) }
+    ensures before { out.new.before ≡ out.old.before }
+    ensures plain { OnOk result (IsPlain (write_json write.now)) }
+    ensures reads_back { OnOk result (write_in (write_json write.now) ≡ Some write.now) }
+    ensures low { OnOk result (depth (write_json write.now) ≤ 34) }
+{
+    let null = Tree::empty();
+    let value = write.value().unwrap_or(&null);
+    let made = write_row(alloc, out, write.path(), value);
+    drop(null);
+    made
 }
 
 // The path and the value of a row, none where it isn't a list of both, or the value may not stand

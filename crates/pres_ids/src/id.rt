@@ -1,14 +1,16 @@
 //! Clients, their sessions, and why a session ended.
 
-ghost use Rattle.std.specs.Prelude.{◌≡◌, IsTrue, IfOk, MatchResult, Some, if◌then◌else◌};
+ghost use Rattle.std.specs.Prelude.{◌≡◌, ◌++◌, IsTrue, IfOk, OnOk, MatchResult, Some, if◌then◌else◌};
 ghost use Rattle.std.specs.List.{list_all};
 ghost use Rattle.serde_json.specs.View.{view};
+ghost use Rattle.pres_tree.specs.Printing.{tokens_of, IsPlain};
 ghost use Rattle.pres_ids.specs.Forms.{stamp_json, session_json, session_of, stamp_in, why_word, why_of, why_in};
 ghost use Rattle.pres_ids.specs.Ids.{is_id_byte, is_client_id, is_earlier, stamp_of};
 ghost use Rattle.pres_ids.specs.declared.id.IdFault.TheVariants.{Memory, NotAnId};
 
 use crate::number::Number;
 use crate::pair::pair_of;
+use json::Writer;
 use pres_tree::Text;
 use serde_json::{Value, json};
 use std::alloc::{AllocError, Global};
@@ -206,6 +208,21 @@ impl SessionId {
         ensures reads_back { IfOk result (λ made. session_of (view made) ≡ Some self.now) }
     {
         json!(in alloc; [self.client.text(), self.incarnation.get(), self.attempt.get()])
+    }
+
+    /// Writes its JSON value, which is read again as this session.
+    pub fn write(&self, out: &mut Writer) -> Result<(), AllocError>
+        ensures ok { OnOk result
+            (out.new.tokens ≡ out.old.tokens ++ tokens_of (session_json self.now)) }
+        ensures before { out.new.before ≡ out.old.before }
+        ensures plain { OnOk result (IsPlain (session_json self.now)) }
+        ensures reads_back { OnOk result (session_of (session_json self.now) ≡ Some self.now) }
+    {
+        out.begin_array()?;
+        out.string(self.client.text())?;
+        self.incarnation.write(out)?;
+        self.attempt.write(out)?;
+        out.end_array()
     }
 
     /// The session of a JSON value, none where it isn't the value of one.

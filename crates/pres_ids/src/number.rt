@@ -1,13 +1,16 @@
 //! Numbers that messages carry.
 
-ghost use Rattle.std.specs.Prelude.{◌≡◌, ◌+◌, ◌<◌, ◌≤◌, MatchOption};
+ghost use Rattle.std.specs.Prelude.{◌≡◌, ◌+◌, ◌<◌, ◌≤◌, ◌++◌, Some, OnOk, MatchOption};
 ghost use Rattle.std.specs.Option.{SomeIff};
 ghost use Rattle.serde_json.specs.View.{view};
-ghost use Rattle.pres_ids.specs.Forms.{message_number, message_count};
+ghost use Rattle.pres_tree.specs.Printing.{tokens_of, IsPlain};
+ghost use Rattle.pres_ids.specs.Forms.{whole, message_number, message_count};
 ghost use Rattle.pres_ids.specs.Numbers.{greatest_number, IsNumber};
 
+use json::Writer;
 use pres_write::MAX_SAFE_INTEGER;
 use serde_json::Value;
+use std::alloc::AllocError;
 use std::fmt;
 use std::marker::Model;
 
@@ -54,6 +57,16 @@ impl Number {
         ensures number { IsNumber self }
     {
         self.value
+    }
+
+    /// Writes its JSON value, which is read again as this number.
+    pub fn write(self, out: &mut Writer) -> Result<(), AllocError>
+        ensures ok { OnOk result (out.new.tokens ≡ out.old.tokens ++ tokens_of (whole self)) }
+        ensures before { out.new.before ≡ out.old.before }
+        ensures plain { OnOk result (IsPlain (whole self)) }
+        ensures reads_back { message_number (whole self) ≡ Some self }
+    {
+        out.u64(self.get())
     }
 
     /// The number after it, none after 2^53 - 1.

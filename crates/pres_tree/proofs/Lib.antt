@@ -19,3 +19,4 @@ pub mod PathOrder
 pub mod Standing
 pub mod Places
 pub mod Written
+pub mod Plain

@@ -1,6 +1,7 @@
 -- The JSON value of rows: that of an object's children is the object of theirs, and it is read back.
 use Rattle.std.proofs.Common.{◌≡◌, ◌+◌, ◌-◌, ◌<◌, ◌≤◌, ℕ, List, [], ◌∷◌, ◌++◌, length, map, Bool, true, false, cond, ◌&&◌, Option, Some, None, is_none, IsTrue, ◌==◌, Result, Ok, Err, IfOk, refl, sym, ap, subst, ◌∙◌, arith, T, true≢false, append_assoc}
 use Rattle.std.specs.Prelude.{String, string_bytes}
+use Rattle.std.specs.Result.{OnOk}
 use Rattle.std.specs.declared.alloc.Global.{Global}
 use Rattle.std.specs.declared.cmp.Ordering.TheVariants.{Less, Greater}
 use Rattle.std.specs.Ordering.{is_lt, is_eq, ordering_then, ordering_reverse, match_ordering}
@@ -19,12 +20,13 @@ use Rattle.pres_tree.specs.Keys.{Key, key_cmp, same_key, is_key, key_fault}
 use Rattle.pres_tree.specs.Paths.{Path, path_cmp, sorted_by}
 use Rattle.pres_tree.specs.Rows.{Rows, InOrder, is_null, height, placed}
 use Rattle.pres_tree.specs.Layer.{Children, child_rows}
-use Rattle.pres_tree.specs.Falls.{height-append, height-placed, height-positive}
-use Rattle.pres_tree.specs.Reading.{Reading, leaf, HasKeys, rows_or, fault_or, fault_in, rows_of, fault_of, items_rows, items_fault, members_rows, members_fault}
+use Rattle.pres_tree.specs.Falls.{height-sorted_by, height-append, height-placed, height-positive}
+use Rattle.pres_tree.specs.Reading.{Reading, branch, leaf, HasKeys, rows_or, fault_or, fault_in, rows_of, fault_of, items_rows, items_fault, members_rows, members_fault}
 use Rattle.pres_tree.specs.declared.fault.TreeFault.{TreeFault}
 use Rattle.pres_tree.specs.declared.fault.TreeFault.TheVariants.{TooDeep}
 use Rattle.std.proofs.lemmas.Bool.Decides.{nat_tests}
-use Rattle.pres_tree.specs.Printing.{members_in, with_first, with_row, json_of, members_of, ReadsBack, MembersReadBack}
+use Rattle.pres_tree.specs.Printing.{members_in, with_first, with_row, json_of, members_of, ReadsBack, MembersReadBack, IsPlain}
+use Rattle.pres_tree.proofs.Plain.{ArePlain}
 use Rattle.pres_tree.proofs.Last.{find-sorted_by}
 use Rattle.pres_tree.proofs.Found.{same_rows, in_order}
 
@@ -144,19 +146,20 @@ printed-json g f [] (m ∷ ms) p = absurd p
 printed-json g f (e ∷ es) [] p = absurd p
 printed-json g f (e ∷ es) (m ∷ ms) p = λ i. member (p.0 i) (p.2 i) (printed-json g f es ms p.4 i)
 
-printed-keys : {A : Type 0} (g : A → Data) (f : Data → Reading A) (es : List (Key × Rows A)) (ms : List (String Global × Value)) → Printed g f es ms → HasKeys (members_view ms)
-unfolding Printed
-printed-keys g f [] [] p = tt
-printed-keys g f [] (m ∷ ms) p = absurd p
-printed-keys g f (e ∷ es) [] p = absurd p
-printed-keys g f (e ∷ es) (m ∷ ms) p = (subst (λ k. IsTrue (is_key k)) (sym p.0) p.1, printed-keys g f es ms p.4)
+-- each child has a key, and is read back from its JSON
+AreRead : {A : Type 0} → (A → Data) → (Data → Reading A) → List (Key × Rows A) → Type 0
+AreRead g f [] = Unit {0}
+AreRead g f (e ∷ es) = IsTrue (is_key e.0) × ReadsBack f e.1 (json_of g e.1) × AreRead g f es
 
-printed-rows : {A : Type 0} (g : A → Data) (f : Data → Reading A) (es : List (Key × Rows A)) (ms : List (String Global × Value)) → Printed g f es ms → members_rows f (members_view ms) ≡ child_rows es
-unfolding Printed
-printed-rows g f [] [] p = refl
-printed-rows g f [] (m ∷ ms) p = absurd p
-printed-rows g f (e ∷ es) [] p = absurd p
-printed-rows g f (e ∷ es) (m ∷ ms) p = λ i. placed (p.0 i ∷ []) (p.3.0 i) ++ printed-rows g f es ms p.4 i
+read-keys : {A : Type 0} (g : A → Data) (f : Data → Reading A) (es : List (Key × Rows A)) → AreRead g f es → HasKeys (members_of g es)
+unfolding AreRead
+read-keys g f [] p = tt
+read-keys g f (e ∷ es) p = (p.0, read-keys g f es p.2)
+
+read-rows : {A : Type 0} (g : A → Data) (f : Data → Reading A) (es : List (Key × Rows A)) → AreRead g f es → members_rows f (members_of g es) ≡ child_rows es
+unfolding AreRead
+read-rows g f [] p = refl
+read-rows g f (e ∷ es) p = λ i. placed (e.0 ∷ []) (p.1.0 i) ++ read-rows g f es p.2 i
 
 no_fault : {X : Type 0} (o : Option X) → is_none o ≡ true → o ≡ None
 no_fault None h = refl
@@ -164,22 +167,76 @@ no_fault (Some x) h = absurd (true≢false (sym h))
 
 height-child : {A : Type 0} (n : ℕ) (k : Key) (v : Rows A) → height (placed (k ∷ []) v) ≤ n + 1 → height v ≤ n
 height-child n k [] h = omega arith
-height-child n k (r ∷ v) h = omega (arith, height-placed k (r ∷ v) (height-positive (r ∷ v) refl))
+height-child n k (r ∷ v) h = omega (arith, h, height-placed k (r ∷ v) (height-positive (r ∷ v) refl))
 
-printed-fault : {A : Type 0} (g : A → Data) (f : Data → Reading A) (es : List (Key × Rows A)) (ms : List (String Global × Value)) (n : ℕ) → Printed g f es ms → height (child_rows es) ≤ n + 1 → members_fault f n (members_view ms) ≡ None
-unfolding Printed
-printed-fault g f [] [] n p h = refl
-printed-fault g f [] (m ∷ ms) n p h = absurd p
-printed-fault g f (e ∷ es) [] n p h = absurd p
-printed-fault g f (e ∷ es) (m ∷ ms) n p h =
+read-fault : {A : Type 0} (g : A → Data) (f : Data → Reading A) (es : List (Key × Rows A)) (n : ℕ) → AreRead g f es → height (child_rows es) ≤ n + 1 → members_fault f n (members_of g es) ≡ None
+unfolding AreRead
+read-fault g f [] n p h = refl
+read-fault g f (e ∷ es) n p h =
     let both_heights = height-append (placed (e.0 ∷ []) e.1) (child_rows es) in
-    let here : height (placed (e.0 ∷ []) e.1) ≤ n + 1 = omega (arith, both_heights) in
-    let later : height (child_rows es) ≤ n + 1 = omega (arith, both_heights) in
-    let key : key_fault (string_bytes m.0) ≡ None = ap key_fault p.0 ∙ no_fault (key_fault e.0) p.1 in
-    λ i. option_or (key i) (option_or (p.3.1 n (height-child n e.0 e.1 here) i) (printed-fault g f es ms n p.4 later i))
+    let here : height (placed (e.0 ∷ []) e.1) ≤ n + 1 = omega (arith, h, both_heights) in
+    let later : height (child_rows es) ≤ n + 1 = omega (arith, h, both_heights) in
+    λ i. option_or (no_fault (key_fault e.0) p.0 i) (option_or (p.1.1 n (height-child n e.0 e.1 here) i) (read-fault g f es n p.2 later i))
+
+read-reads_back : {A : Type 0} (g : A → Data) (f : Data → Reading A) (es : List (Key × Rows A)) → AreRead g f es → MembersReadBack f es (members_of g es)
+read-reads_back g f es p = (read-keys g f es p, read-rows g f es p, λ n h. read-fault g f es n p h)
+
+printed-read : {A : Type 0} (g : A → Data) (f : Data → Reading A) (es : List (Key × Rows A)) (ms : List (String Global × Value)) → Printed g f es ms → AreRead g f es
+unfolding Printed AreRead
+printed-read g f [] [] p = tt
+printed-read g f [] (m ∷ ms) p = absurd p
+printed-read g f (e ∷ es) [] p = absurd p
+printed-read g f (e ∷ es) (m ∷ ms) p = (p.1, subst (ReadsBack f e.1) p.2 p.3, printed-read g f es ms p.4)
 
 pub printed-reads_back : {A : Type 0} (g : A → Data) (f : Data → Reading A) (es : List (Key × Rows A)) (ms : List (String Global × Value)) → Printed g f es ms → MembersReadBack f es (members_view ms)
-printed-reads_back g f es ms p = (printed-keys g f es ms p, printed-rows g f es ms p, λ n h. printed-fault g f es ms n p h)
+printed-reads_back g f es ms p = subst (MembersReadBack f es) (sym (printed-json g f es ms p)) (read-reads_back g f es (printed-read g f es ms p))
+
+-- ---- what is read back member by member
+
+-- each child has a key, is read back from its JSON, and that is plain
+pub AreWritten : {A : Type 0} → (A → Data) → (Data → Reading A) → List (Key × Rows A) → Type 0
+AreWritten g f [] = Unit {0}
+AreWritten g f (e ∷ es) = IsTrue (is_key e.0) × ReadsBack f e.1 (json_of g e.1) × IsPlain (json_of g e.1) × AreWritten g f es
+
+pub written-none : {A : Type 0} (g : A → Data) (f : Data → Reading A) → AreWritten g f []
+unfolding AreWritten
+written-none g f = tt
+
+pub written-more : {A : Type 0} (g : A → Data) (f : Data → Reading A) (es : List (Key × Rows A)) (k : Key) (v : Rows A)
+    → AreWritten g f es → IsTrue (is_key k) → ReadsBack f v (json_of g v) → IsPlain (json_of g v) → AreWritten g f (es ++ (k, v) ∷ [])
+unfolding AreWritten
+written-more g f [] k v w key back plain = (key, back, plain, tt)
+written-more g f (e ∷ es) k v w key back plain = (w.0, w.1, w.2, written-more g f es k v w.3 key back plain)
+
+pub written-plain : {A : Type 0} (g : A → Data) (f : Data → Reading A) (es : List (Key × Rows A)) → AreWritten g f es → ArePlain g es
+unfolding AreWritten ArePlain
+written-plain g f [] w = tt
+written-plain g f (e ∷ es) w = (w.2, written-plain g f es w.3)
+
+written-read : {A : Type 0} (g : A → Data) (f : Data → Reading A) (es : List (Key × Rows A)) → AreWritten g f es → AreRead g f es
+unfolding AreWritten AreRead
+written-read g f [] w = tt
+written-read g f (e ∷ es) w = (w.0, w.1, written-read g f es w.3)
+
+pub written-reads_back : {A : Type 0} (g : A → Data) (f : Data → Reading A) (es : List (Key × Rows A)) → AreWritten g f es → MembersReadBack f es (members_of g es)
+written-reads_back g f es w = read-reads_back g f es (written-read g f es w)
+
+-- an object is read as its children are
+pub object_read : {A : Type 0} (f : Data → Reading A) (es : List (Key × Rows A)) (t : Rows A) (ms : Members) → sorted_by path_cmp (child_rows es) ≡ t → f (object ms) ≡ branch → MembersReadBack f es ms → ReadsBack f t (object ms)
+object_read f es t ms is is_branch back = (
+  ap (λ r. rows_or r (sorted_by path_cmp (members_rows f ms))) is_branch ∙ ap (sorted_by path_cmp) back.1 ∙ is,
+  λ n h.
+      let room : height (child_rows es) ≤ (n - 1) + 1 = omega (arith, height-sorted_by (child_rows es), ap height is, h) in
+      ap (λ r. fault_or n r (members_fault f (n - 1) ms)) is_branch ∙ back.2 (n - 1) room,
+)
+
+pub on_ok : {T E P Q : Type 0} (r : Result T E) → (P → Q) → OnOk r P → OnOk r Q
+on_ok (Ok x) f h = f h
+on_ok (Err e) f h = tt
+
+pub on_any : {T E P : Type 0} (r : Result T E) → P → OnOk r P
+on_any (Ok x) h = h
+on_any (Err e) h = tt
 
 -- ---- members in order
 
@@ -235,3 +292,6 @@ leaf_reads_back f d a e = (leaf_rows f d a e, λ n h. leaf_no_fault f d a n e (o
 pub leaf_printed : {A V E : Type 0} (shown : V → Data) (f : Data → Reading A) (r : Result V E) (a : A) (t : Rows A) → ([], a) ∷ [] ≡ t → IfOk r (λ made. f (shown made) ≡ leaf a) → IfOk r (λ made. ReadsBack f t (shown made))
 leaf_printed shown f (Ok v) a t is h = subst (λ u. ReadsBack f u (shown v)) is (leaf_reads_back f (shown v) a h)
 leaf_printed shown f (Err e) a t is h = h
+
+pub leaf_written : {A T E : Type 0} (g : A → Data) (f : Data → Reading A) (r : Result T E) (a : A) (t : Rows A) → ([], a) ∷ [] ≡ t → OnOk r (f (g a) ≡ leaf a) → OnOk r (ReadsBack f t (json_of g t))
+leaf_written g f r a t is h = on_ok r (λ reads. subst (λ u. ReadsBack f u (json_of g u)) is (leaf_reads_back f (g a) a reads)) h

@@ -1,8 +1,9 @@
 -- The JSON value of rows: the object of the children, without nulls, arrays and empty objects.
-use Rattle.std.specs.Prelude.{◌≡◌, ◌+◌, ◌≤◌, ℕ, List, [], ◌∷◌, None, if◌then◌else◌}
+use Rattle.std.specs.Prelude.{◌≡◌, ◌+◌, ◌≤◌, ℕ, List, [], ◌∷◌, Some, None, if◌then◌else◌}
 use Rattle.json.specs.Token.{Token}
 use Rattle.json.specs.Tree.{json_tokens, members_tokens}
 use Rattle.serde_json.specs.Data.{Data, null, boolean, number, string, array, object, Members, no_members, member}
+use Rattle.serde_json.specs.Read.{of_json, of_members}
 use Rattle.serde_json.specs.Written.{outline, members_outline}
 use Rattle.pres_tree.specs.Keys.{Key, same_key}
 use Rattle.pres_tree.specs.Paths.{Path}
@@ -43,6 +44,13 @@ ReadsBack f v d = (rows_of f d ≡ v) × ((n : ℕ) → height v ≤ n → fault
 
 abbrev pub MembersReadBack : {A : Type 0} → (Data → Reading A) → List (Key × Rows A) → Members → Type 0
 MembersReadBack f es ms = HasKeys ms × (members_rows f ms ≡ child_rows es) × ((n : ℕ) → height (child_rows es) ≤ n + 1 → members_fault f n ms ≡ None)
+
+-- what is written for the JSON value is read as it: its numbers are whole, and its names rise
+abbrev pub IsPlain : Data → Type 0
+IsPlain d = of_json (outline d) ≡ Some d
+
+abbrev pub MembersArePlain : Members → Type 0
+MembersArePlain ms = of_members (members_outline ms) no_members ≡ Some ms
 
 -- what is written of a JSON value, a token at a time
 abbrev pub tokens_of : Data → List Token

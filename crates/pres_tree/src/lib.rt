@@ -20,6 +20,7 @@ pub use fault::TreeFault;
 pub use key::Key;
 pub use nested::{Change, Leaf, Nested};
 pub use path::{MAX_DEPTH, Path};
+pub use print::text_of;
 pub use read::Form;
 pub use scalar::Scalar;
 pub use text::Text;

@@ -25,7 +25,7 @@ pub trait Leaf: Form<Self> + Drop {
     ghost use Rattle.std.specs.Prelude.{◌≡◌, ◌↔◌, ◌++◌, IsTrue, IfOk, OnOk};
     ghost use Rattle.serde_json.specs.Data.{Data, Members, null, object};
     ghost use Rattle.serde_json.specs.View.{view};
-    ghost use Rattle.pres_tree.specs.Printing.{tokens_of};
+    ghost use Rattle.pres_tree.specs.Printing.{tokens_of, IsPlain};
     ghost use Rattle.pres_tree.specs.Reading.{HasKeys, branch, leaf};
 
     ghost printing: { Self → Data };
@@ -47,7 +47,9 @@ pub trait Leaf: Form<Self> + Drop {
     fn write(&self, out: &mut Writer) -> Result<(), AllocError>
         ensures ok { OnOk result
             (out.new.tokens ≡ out.old.tokens ++ tokens_of (printing self.now)) }
-        ensures before { out.new.before ≡ out.old.before };
+        ensures before { out.new.before ≡ out.old.before }
+        ensures plain { OnOk result (IsPlain (printing self.now)) }
+        ensures reads_back { OnOk result (Self.reading (printing self.now) ≡ leaf self.now) };
 
     // Null is no leaf, and neither is an object whose names are keys.
     ghost null_is_branch: { Self.reading null ≡ branch };

@@ -1,9 +1,11 @@
 //! JSON from values.
 
-ghost use Rattle.std.specs.Prelude.{◌≡◌, ◌++◌, IfOk, OnOk, OnErr};
+ghost use Rattle.std.specs.Prelude.{◌≡◌, ◌≤◌, ◌++◌, [], Some, string_bytes, IfOk, OnOk, OnErr};
+ghost use Rattle.serde_json.specs.Data.{Data, depth};
+ghost use Rattle.serde_json.specs.Read.{read, max_depth};
 ghost use Rattle.serde_json.specs.View.{view, members_view};
 ghost use Rattle.serde_json.specs.Written.{compact_text};
-ghost use Rattle.pres_tree.specs.Printing.{json_of, members_of, ReadsBack, MembersReadBack, tokens_of, tokens_of_members};
+ghost use Rattle.pres_tree.specs.Printing.{json_of, members_of, ReadsBack, MembersReadBack, IsPlain, MembersArePlain, tokens_of, tokens_of_members};
 
 use crate::children::Children;
 use crate::nested::{Leaf, Nested, Node};
@@ -64,12 +66,16 @@ impl<L: Leaf> Nested<L> {
         written
     }
 
-    // Writes the JSON value: null, the leaf, or the object of the children.
+    /// Writes the JSON value: null, the leaf, or the object of the children. Read again, it is the
+    /// same value. At AllocError some of it may have been written.
     #[cycle(write)]
-    fn write(&self, out: &mut Writer) -> Result<(), AllocError>
+    pub fn write(&self, out: &mut Writer) -> Result<(), AllocError>
         ensures ok { OnOk result
             (out.new.tokens ≡ out.old.tokens ++ tokens_of (json_of L.printing self.now)) }
         ensures before { out.new.before ≡ out.old.before }
+        ensures plain { OnOk result (IsPlain (json_of L.printing self.now)) }
+        ensures reads_back { OnOk result
+            (ReadsBack L.reading self.now (json_of L.printing self.now)) }
     {
         match &self.node {
             Node::Empty => out.null(),
@@ -91,10 +97,28 @@ fn write_members<L: Leaf>(
     ensures ok { OnOk result (out.new.tokens
         ≡ out.old.tokens ++ tokens_of_members (members_of L.printing children.now.entries)) }
     ensures before { out.new.before ≡ out.old.before }
+    ensures plain { OnOk result
+        (MembersArePlain (members_of L.printing children.now.entries)) }
+    ensures reads_back { OnOk result (MembersReadBack L.reading children.now.entries
+        (members_of L.printing children.now.entries)) }
 {
     for (key, child) in children.iter() {
         out.key(key.text())?;
         child.write(out)?;
     }
     out.end_object()
+}
+
+/// The text of what was written to a writer that began with nothing: that of a JSON value, which is
+/// read again from it.
+pub fn text_of(out: Writer) -> String
+    requires { out.before ≡ [] }
+    ensures text { (d : Data) → out.tokens ≡ tokens_of d → string_bytes result ≡ compact_text d }
+    ensures reads_back { (d : Data) → out.tokens ≡ tokens_of d → depth d ≤ max_depth → IsPlain d
+        → read (string_bytes result) ≡ Some d }
+{
+    let Ok(text) = String::from_utf8(out.into_inner()) else {
+        unreachable!()
+    };
+    text
 }

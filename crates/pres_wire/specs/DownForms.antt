@@ -8,8 +8,6 @@ use Rattle.pres_tree.specs.Scalars.{scalar_printing}
 use Rattle.pres_write.specs.declared.outcome.Kept.{Kept}
 use Rattle.pres_write.specs.declared.outcome.Kept.TheVariants.{Wrote, Stale}
 use Rattle.pres_ids.specs.declared.id.SessionId.{SessionId}
-use Rattle.pres_ids.specs.declared.id.Why.{Why}
-use Rattle.pres_ids.specs.declared.id.Why.TheVariants as why
 use Rattle.pres_wire.specs.declared.down.Code.{Code}
 use Rattle.pres_wire.specs.declared.down.Code.TheVariants as code
 use Rattle.pres_wire.specs.declared.down.Limit.{Limit}

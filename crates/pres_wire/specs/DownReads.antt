@@ -13,7 +13,6 @@ use Rattle.pres_write.specs.declared.outcome.Kept.TheVariants.{Wrote, Stale}
 use Rattle.pres_ids.specs.declared.id.SessionId.{SessionId}
 use Rattle.pres_ids.specs.declared.id.Stamp.{Stamp}
 use Rattle.pres_ids.specs.declared.id.Why.{Why}
-use Rattle.pres_ids.specs.declared.id.Why.TheVariants as why
 use Rattle.pres_wire.specs.declared.fault.Field.TheVariants as field
 use Rattle.pres_wire.specs.declared.fault.WireFault.{WireFault}
 use Rattle.pres_wire.specs.declared.fault.WireFault.TheVariants.{NotJson, NoSuchMessage, Field as FieldRefused}

@@ -14,6 +14,7 @@ use crate::down_form::{
     write_form,
 };
 use crate::down_read::read_down;
+use crate::down_text::reply_text;
 use crate::fault::WireFault;
 use crate::values::Values;
 use pres_ids::{Count, Number, SessionId, Stamp, Why};
@@ -324,7 +325,18 @@ impl Down {
         ensures reads_back { IfOk result (λ t.
             decoded (string_bytes t) ≡ Ok (with_one_null self.now)) }
     {
-        self.to_value(alloc)?.to_string(alloc)
+        match self {
+            Down::Reply {
+                session,
+                r,
+                z,
+                q,
+                n,
+                done,
+                out: Kept::Wrote,
+            } => reply_text(alloc, session, *r, *z, *q, *n, *done),
+            _ => self.to_value(alloc)?.to_string(alloc),
+        }
     }
 
     // The JSON value of the message, which is the form of no other, and nests few levels.

@@ -1,12 +1,14 @@
-use Rattle.std.proofs.Common.{◌≡◌, ◌∷◌, ◌++◌, [], sym, ap, ◌∙◌, append_assoc, arith}
+use Rattle.std.proofs.Common.{◌≡◌, ◌∷◌, ◌++◌, [], refl, sym, ap, subst, ◌∙◌, append_assoc, append-nil, arith}
+use Rattle.std.specs.Prelude.{option_map}
 use Rattle.json.specs.Token.{Token}
 use Rattle.serde_json.specs.Data.{object}
 use Rattle.pres_tree.specs.Rows.{height}
-use Rattle.pres_tree.specs.Layer.{child_rows}
+use Rattle.pres_tree.specs.Layer.{child_rows, rows_of_node}
 use Rattle.pres_tree.specs.Falls.{height-sorted_by}
-use Rattle.pres_tree.specs.Printing.{json_of, members_of, tokens_of, tokens_of_members}
+use Rattle.pres_tree.specs.Printing.{json_of, members_of, ReadsBack, MembersReadBack, IsPlain, tokens_of, tokens_of_members}
 use Rattle.pres_tree.proofs.Nodes.{at_object, tallest, tallest-le-height, tallest-middle, tallest-rest}
-use Rattle.pres_tree.proofs.Printing.{json-object}
+use Rattle.pres_tree.proofs.Printing.{json-object, leaf_written, on_ok, on_any, object_read, written-none, written-more, written-plain, written-reads_back}
+use Rattle.pres_tree.proofs.Plain.{ArePlain, plain_members}
 use Rattle.pres_tree.proofs.Written.{object_written}
 use Rattle.pres_tree.proofs.+write.Goals as goal
 
@@ -47,4 +49,60 @@ print::write_members-loop-key-preserved g t c =
           ∙ ap (λ es. out ++ tokens_of_members (members_of f es)) (sym c.in-Some.ensures.steps)
           ∙ c.loop-key.invariant.1,
       c.in_ok-write.ensures.before ∙ c.key.ensures.room.0 ∙ c.loop-key.invariant.2,
+      (
+        c.loop-key.invariant.3.0 ++ (key, child) ∷ [],
+        c.loop-key.invariant.3.1 ∙ ap (λ es. c.loop-key.invariant.3.0 ++ es) c.in-Some.ensures.steps ∙ sym (append_assoc c.loop-key.invariant.3.0 ((key, child) ∷ []) left),
+        written-more f g.L.Form.reading c.loop-key.invariant.3.0 key child c.loop-key.invariant.3.2 c.text.ensures.key c.in_ok-write.ensures.reads_back c.in_ok-write.ensures.plain,
+      ),
+      c.loop-key.invariant.4,
+    )
+
+pub nested::Nested::write-returns-in-Leaf-clause-reads_back :
+    goal.nested::Nested::write-returns-in-Leaf-clause-reads_back
+nested::Nested::write-returns-in-Leaf-clause-reads_back g t c =
+    let is = sym (ap rows_of_node c.in-Leaf.is) ∙ c.self.view_is in
+    leaf_written g.L.Leaf.printing g.L.Form.reading c.write.result c.in-Leaf.leaf c.args.self.now is c.write.ensures.reads_back
+
+pub nested::Nested::write-returns-in_ok-begin_object-in-Object-clause-plain :
+    goal.nested::Nested::write-returns-in_ok-begin_object-in-Object-clause-plain
+nested::Nested::write-returns-in_ok-begin_object-in-Object-clause-plain g t c =
+    let at = at_object {n = c.self.inside.node} c.in-Object.children c.self.invariant c.self.view_is c.in-Object.is in
+    let ms = members_of g.L.Leaf.printing c.in-Object.children.entries in
+    let is : object ms ≡ json_of g.L.Leaf.printing c.args.self.now =
+    sym (json-object g.L.Leaf.printing c.in-Object.children.entries at.some at.children at.ordered) ∙ ap (json_of g.L.Leaf.printing) at.is in
+    on_ok c.write_members.result (λ plain. subst IsPlain is (ap (option_map object) plain)) c.write_members.ensures.plain
+
+pub nested::Nested::write-returns-in_ok-begin_object-in-Object-clause-reads_back :
+    goal.nested::Nested::write-returns-in_ok-begin_object-in-Object-clause-reads_back
+nested::Nested::write-returns-in_ok-begin_object-in-Object-clause-reads_back g t c =
+    let f = g.L.Form.reading in
+    let at = at_object {n = c.self.inside.node} c.in-Object.children c.self.invariant c.self.view_is c.in-Object.is in
+    let ms = members_of g.L.Leaf.printing c.in-Object.children.entries in
+    let is : object ms ≡ json_of g.L.Leaf.printing c.args.self.now =
+    sym (json-object g.L.Leaf.printing c.in-Object.children.entries at.some at.children at.ordered) ∙ ap (json_of g.L.Leaf.printing) at.is in
+    on_ok c.write_members.result (λ back. subst (ReadsBack f c.args.self.now) is
+    (object_read f c.in-Object.children.entries c.args.self.now ms at.is (g.met.L.Leaf.object_is_branch ms back.0) back)) c.write_members.ensures.reads_back
+
+pub print::write_members-returns-clause-plain : goal.print::write_members-returns-clause-plain
+print::write_members-returns-clause-plain g t c =
+    let l = c.loop-key in
+    let all : c.args.children.now.entries ≡ l.invariant.3.0 = l.invariant.3.1 ∙ ap (λ es. l.invariant.3.0 ++ es) c.in-None.ensures.steps.0 ∙ append-nil l.invariant.3.0 in
+    on_any c.end_object.result
+    (plain_members g.L.Leaf.printing c.args.children.now.entries l.invariant.4 (subst (ArePlain g.L.Leaf.printing) (sym all) (written-plain g.L.Leaf.printing g.L.Form.reading l.invariant.3.0 l.invariant.3.2)))
+
+pub print::write_members-returns-clause-reads_back : goal.print::write_members-returns-clause-reads_back
+print::write_members-returns-clause-reads_back g t c =
+    let l = c.loop-key in
+    let all : c.args.children.now.entries ≡ l.invariant.3.0 = l.invariant.3.1 ∙ ap (λ es. l.invariant.3.0 ++ es) c.in-None.ensures.steps.0 ∙ append-nil l.invariant.3.0 in
+    on_any c.end_object.result
+    (subst (λ es. MembersReadBack g.L.Form.reading es (members_of g.L.Leaf.printing es)) (sym all) (written-reads_back g.L.Leaf.printing g.L.Form.reading l.invariant.3.0 l.invariant.3.2))
+
+pub print::write_members-loop-key-init : goal.print::write_members-loop-key-init
+print::write_members-loop-key-init g t c =
+    let same = c.into_iter-key-iterator.ensures.into_iter_gives ∙ c.iter-key-items.ensures.rest in (
+      omega (arith, ap tallest same),
+      ap (λ es. c.args.out.now.tokens ++ tokens_of_members (members_of g.L.Leaf.printing es)) same,
+      refl {a = c.args.out.now.before},
+      ([], sym same, written-none g.L.Leaf.printing g.L.Form.reading),
+      c.iter-key-items.ensures.ordered,
     )

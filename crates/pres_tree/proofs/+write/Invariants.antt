@@ -1,7 +1,11 @@
-use Rattle.std.proofs.Common.{◌≡◌, ◌+◌, ◌*◌, ◌≤◌, ◌++◌}
-use Rattle.pres_tree.specs.Rows.{height}
+use Rattle.std.proofs.Common.{◌≡◌, ◌+◌, ◌*◌, ◌≤◌, List, ◌++◌}
+use Rattle.std.specs.List.Sorted.{IsStrictlySortedBy}
+use Rattle.std.specs.Map.{keys_of}
+use Rattle.pres_tree.specs.Keys.{Key, key_cmp}
+use Rattle.pres_tree.specs.Rows.{Rows, height}
 use Rattle.pres_tree.specs.Printing.{members_of, tokens_of_members}
 use Rattle.pres_tree.proofs.Nodes.{tallest}
+use Rattle.pres_tree.proofs.Printing.{AreWritten}
 use Rattle.pres_tree.proofs.+write.Given as goal
 
 abbrev pub decreases-nested::Nested::write : goal.decreases-nested::Nested::write
@@ -17,3 +21,5 @@ invariant-print::write_members-loop-key g l =
     × (l.out.tokens ++ tokens_of_members (members_of g.L.Leaf.printing l.key-iterator)
     ≡ l.fn.out.tokens ++ tokens_of_members (members_of g.L.Leaf.printing l.children.entries))
     × (l.out.before ≡ l.fn.out.before)
+    × ((done : List (Key × Rows g.row.L.Denot)) × (l.children.entries ≡ done ++ l.key-iterator) × AreWritten g.L.Leaf.printing g.L.Form.reading done)
+    × IsStrictlySortedBy key_cmp (keys_of l.children.entries)
