@@ -47,7 +47,7 @@ impl<T: Drop> Items<T> {
     pub fn one(alloc: Global, item: T) -> Result<Items<T>, AllocError>
         ensures { IfOk result (λ made. made ≡ item ∷ []) }
     {
-        let mut items = Vec::new(alloc);
+        let mut items = Vec::with_capacity(alloc, 1)?;
         items.push(item)?;
         Ok(Items { items })
     }
