@@ -57,3 +57,10 @@ tree_made (Err e) v value is reads = tt
 pub tree_made_low : (r : Result Value AllocError) (v : Rows Scalar) → IsValue v → IfOk r (λ made. view made ≡ json_of scalar_printing v) → IfOk r (λ made. ReadsBack scalar_reading v (view made)) → IfOk r (λ _. depth (json_of scalar_printing v) ≤ 33)
 tree_made_low (Ok made) v value is reads = tree_low v (ap (fault_of scalar_reading 33) (sym is) ∙ tree_fault v (view made) value reads)
 tree_made_low (Err e) v value is reads = tt
+
+-- what is written of a tree is read as the tree
+pub tree_read : (v : Rows Scalar) → IsValue v → ReadsBack scalar_reading v (json_of scalar_printing v) → value_of (json_of scalar_printing v) ≡ Some v
+tree_read v value reads = λ i. cond (is_none (tree_fault v (json_of scalar_printing v) value reads i)) (Some (reads.0 i)) None
+
+pub tree_read_low : (v : Rows Scalar) → IsValue v → ReadsBack scalar_reading v (json_of scalar_printing v) → depth (json_of scalar_printing v) ≤ 33
+tree_read_low v value reads = tree_low v (tree_fault v (json_of scalar_printing v) value reads)

@@ -1,7 +1,8 @@
 //! Messages to a client.
 
-ghost use Rattle.std.specs.Prelude.{◌≡◌, ◌≤◌, ◌⊎◌, IfOk, MatchResult, Ok, Err, Some, option_map, string_bytes};
+ghost use Rattle.std.specs.Prelude.{◌≡◌, ◌≤◌, ◌⊎◌, IfOk, IfSome, MatchResult, Ok, Err, Some, option_map, string_bytes};
 ghost use Rattle.serde_json.specs.Data.{depth};
+ghost use Rattle.serde_json.specs.Read.{read};
 ghost use Rattle.serde_json.specs.View.{view};
 ghost use Rattle.serde_json.specs.Written.{compact_text};
 ghost use Rattle.pres_wire.specs.Messages.{session_for, number_in};
@@ -14,7 +15,7 @@ use crate::down_form::{
     write_form,
 };
 use crate::down_read::read_down;
-use crate::down_text::reply_text;
+use crate::down_text::{push_text, reply_text, snap_text};
 use crate::fault::WireFault;
 use crate::values::Values;
 use pres_ids::{Count, Number, SessionId, Stamp, Why};
@@ -325,6 +326,20 @@ impl Down {
         ensures reads_back { IfOk result (λ t.
             decoded (string_bytes t) ≡ Ok (with_one_null self.now)) }
     {
+        if let Some(text) = self.text_at_once(alloc) {
+            return text;
+        }
+        self.to_value(alloc)?.to_string(alloc)
+    }
+
+    // The text of a message of the kinds that come most; none of others.
+    fn text_at_once(&self, alloc: Global) -> Option<Result<String, AllocError>>
+        ensures text { IfSome result (λ r. IfOk r (λ t.
+            string_bytes t ≡ compact_text (down_json self.now))) }
+        ensures form { IfSome result (λ r. IfOk r (λ _. HasForm self.now)) }
+        ensures reads_back { IfSome result (λ r. IfOk r (λ t.
+            read (string_bytes t) ≡ Some (down_json self.now))) }
+    {
         match self {
             Down::Reply {
                 session,
@@ -334,8 +349,27 @@ impl Down {
                 n,
                 done,
                 out: Kept::Wrote,
-            } => reply_text(alloc, session, *r, *z, *q, *n, *done),
-            _ => self.to_value(alloc)?.to_string(alloc),
+            } => Some(reply_text(alloc, session, *r, *z, *q, *n, *done)),
+            Down::Snap {
+                session,
+                r,
+                z,
+                q,
+                path,
+                value,
+            } => Some(snap_text(alloc, session, *r, *z, *q, path, value)),
+            Down::Push {
+                session,
+                r,
+                z,
+                values,
+            } => {
+                let [value] = values.as_slice() else {
+                    return None;
+                };
+                Some(push_text(alloc, session, *r, *z, value))
+            }
+            _ => None,
         }
     }
 

@@ -1,15 +1,16 @@
 //! Parts of fields, read and printed: for messages, and for other JSON that holds the same.
 
-ghost use Rattle.std.specs.Prelude.{◌≡◌, ◌≤◌, IfOk, Some, None, Ok};
+ghost use Rattle.std.specs.Prelude.{◌≡◌, ◌≤◌, ◌++◌, IfOk, OnOk, Some, None, Ok};
 ghost use Rattle.serde_json.specs.Data.{depth};
 ghost use Rattle.serde_json.specs.View.{view};
 ghost use Rattle.pres_tree.specs.Rows.{option_of, rows_in};
-ghost use Rattle.pres_tree.specs.Printing.{json_of};
+ghost use Rattle.pres_tree.specs.Printing.{json_of, tokens_of, IsPlain};
 ghost use Rattle.pres_tree.specs.Scalars.{scalar_printing};
 ghost use Rattle.pres_write.specs.OpForms.{op_json, op_read};
 ghost use Rattle.pres_wire.specs.Fields.{path_in, path_of};
 ghost use Rattle.pres_wire.specs.DownReads.{value_of};
 
+use json::Writer;
 use pres_tree::{Path, Tree, TreeFault};
 use pres_write::Op;
 use serde_json::Value;
@@ -57,6 +58,22 @@ pub fn tree_value(alloc: Global, tree: &Tree) -> Result<Value, AllocError>
     // it ensures that the tree is a value
     let _ = tree.depth();
     tree.to_value(alloc)
+}
+
+/// Writes the JSON value of a tree, which is read as the tree, and nests few levels. At AllocError
+/// some of it may have been written.
+pub fn write_tree(out: &mut Writer, tree: &Tree) -> Result<(), AllocError>
+    ensures ok { OnOk result (out.new.tokens
+        ≡ out.old.tokens ++ tokens_of (json_of scalar_printing tree.now)) }
+    ensures before { out.new.before ≡ out.old.before }
+    ensures plain { OnOk result (IsPlain (json_of scalar_printing tree.now)) }
+    ensures reads_back { OnOk result
+        (value_of (json_of scalar_printing tree.now) ≡ Some tree.now) }
+    ensures low { OnOk result (depth (json_of scalar_printing tree.now) ≤ 33) }
+{
+    // it ensures that the tree is a value
+    let _ = tree.depth();
+    tree.write(out)
 }
 
 /// A place's value, none where nothing stands there.

@@ -1,16 +1,18 @@
 //! Values at paths, as a listener is told them.
 
-ghost use Rattle.std.specs.Prelude.{◌≡◌, ◌≤◌, IfOk, Some};
+ghost use Rattle.std.specs.Prelude.{◌≡◌, ◌≤◌, ◌++◌, IfOk, OnOk, Some};
 ghost use Rattle.std.specs.Option.{SomeIff, option_map};
 ghost use Rattle.std.specs.Ordering.{is_lt};
 ghost use Rattle.serde_json.specs.Data.{depth};
 ghost use Rattle.serde_json.specs.View.{view, items_view};
 ghost use Rattle.pres_tree.specs.Paths.{path_cmp};
+ghost use Rattle.pres_tree.specs.Printing.{tokens_of, IsPlain};
 ghost use Rattle.pres_wire.specs.Values.{Rising};
 ghost use Rattle.pres_wire.specs.DownForms.{path_value_json, values_json};
 ghost use Rattle.pres_wire.specs.DownReads.{path_value_of, values_of_items, values_of};
 
-use crate::part::{path_of, tree_of, tree_value};
+use crate::part::{path_of, tree_of, tree_value, write_tree};
+use json::Writer;
 use pres_ids::pair_of;
 use pres_tree::{Path, Tree};
 use serde_json::Value;
@@ -45,6 +47,23 @@ impl PathValue {
         pair.push(Value::String(self.path.text(alloc)?))?;
         pair.push(tree_value(alloc, &self.value)?)?;
         Ok(Value::Array(pair))
+    }
+
+    // Writes its JSON value. It is read again as this one.
+    pub(crate) fn write(&self, alloc: Global, out: &mut Writer) -> Result<(), AllocError>
+        ensures ok { OnOk result
+            (out.new.tokens ≡ out.old.tokens ++ tokens_of (path_value_json self.now)) }
+        ensures before { out.new.before ≡ out.old.before }
+        ensures plain { OnOk result (IsPlain (path_value_json self.now)) }
+        ensures reads_back { OnOk result
+            (path_value_of (path_value_json self.now) ≡ Some self.now) }
+        ensures low { OnOk result (depth (path_value_json self.now) ≤ 34) }
+    {
+        let text = self.path.text(alloc)?;
+        out.begin_array()?;
+        out.string(text.as_str())?;
+        write_tree(out, &self.value)?;
+        out.end_array()
     }
 
     // The one that a JSON value is, none where it isn't the value of one.

@@ -1,0 +1,16 @@
+use Rattle.std.proofs.Common.{◌∷◌, ◌++◌, ap, ◌∙◌, append_assoc}
+use Rattle.std.specs.Prelude.{codes}
+use Rattle.json.specs.Token.{key}
+use Rattle.pres_tree.specs.Printing.{json_of, tokens_of}
+use Rattle.pres_tree.specs.Scalars.{scalar_printing}
+use Rattle.pres_tree.proofs.Printing.{on_ok}
+use Rattle.pres_ids.specs.Forms.{whole, session_json}
+use Rattle.pres_wire.proofs.down_text.snap_tail.Goals as goal
+
+pub returns-clause-ok : goal.returns-clause-ok
+returns-clause-ok c =
+    on_ok c.number_field-2.result (λ last. last
+    ∙ ap (λ ts. ts ++ key (codes "z") ∷ tokens_of (whole c.args.z)) (c.in_ok-value_field.ensures.ok
+    ∙ ap (λ ts. ts ++ key (codes "value") ∷ tokens_of (json_of scalar_printing c.args.value.now)) (c.in_ok-session_field.ensures.ok
+    ∙ ap (λ ts. ts ++ key (codes "s") ∷ tokens_of (session_json c.args.session.now)) c.in_ok-number_field.ensures.ok))
+    ∙ simp append_assoc) c.number_field-2.ensures.ok
