@@ -1,6 +1,6 @@
 //! Paths: the keys from the root to a place.
 
-ghost use Rattle.std.specs.Prelude.{◌≡◌, ◌⊎◌, ◌↔◌, ◌+◌, ◌<◌, ◌++◌, [], length, drop, IsTrue, IfOk, IfErr, IsErrOf, OnOk, MatchResult, Some, None, option_map, string_bytes};
+ghost use Rattle.std.specs.Prelude.{◌≡◌, ◌⊎◌, ◌↔◌, ◌+◌, ◌<◌, ◌++◌, [], length, take, drop, IsTrue, IfOk, IfErr, IsErrOf, OnOk, MatchResult, Some, None, option_map, string_bytes};
 ghost use Rattle.pres_tree.specs.Keys.{key_cmp};
 ghost use Rattle.pres_tree.specs.Paths.{max_depth, IsPath, below, is_prefix, segments, path_fault, path_text, keys_text};
 ghost use Rattle.pres_tree.specs.declared.fault.TreeFault.TheVariants.{Memory, TooDeep};
@@ -175,6 +175,17 @@ impl Path {
             })),
             None => Ok(None),
         }
+    }
+
+    /// The path of its first keys, as many as these, or all where it has no more: this path or one
+    /// above it.
+    pub fn prefix(&self, alloc: Global, len: usize) -> Result<Path, AllocError>
+        ensures { IfOk result (λ p. p ≡ take len self.now) }
+    {
+        let (keys, _) = self.keys.split_at(len.min(self.keys.len()));
+        Ok(Path {
+            keys: copies(alloc, keys)?,
+        })
     }
 
     /// An equal path.

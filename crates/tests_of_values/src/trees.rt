@@ -128,6 +128,13 @@ fn pair_answer(rt: &impl Abort, alloc: Global, case: &str) -> String {
     two_paths(rt, alloc, path, other)
 }
 
+// The path of the first keys.
+fn first_keys(rt: &impl Abort, alloc: Global, path: &str, len: usize) -> String {
+    let path = path_of(rt, alloc, path);
+    let first = path.prefix(alloc, len).expect(rt, "memory");
+    first.text(alloc).expect(rt, "memory")
+}
+
 // The text of a case such as `33 /a+/[`: so many times a part, and an end.
 fn repeated_text(rt: &impl Abort, alloc: Global, case: &str) -> String {
     let (count, rest) = case.split_once(' ').expect(rt, "a part");
@@ -455,6 +462,14 @@ fn paths_of_parts(rt: HostRuntime) {
     ];
     let wrong = wrong_in_all(&rt, rt.alloc(), &tables);
     assert_eq!(rt; wrong.as_str(), "");
+}
+
+#[test]
+fn paths_above_a_path(rt: HostRuntime) {
+    for (len, wanted) in [(0, "/"), (2, "/a/b"), (3, "/a/b/c"), (4, "/a/b/c")] {
+        let said = first_keys(&rt, rt.alloc(), "/a/b/c", len);
+        assert_eq!(rt; said.as_str(), wanted);
+    }
 }
 
 #[test]
