@@ -51,7 +51,7 @@ not_above (k ∷ p) (l ∷ x) h =
     ] flip
 
 -- a path between another one and what goes on with that goes on with it too
-between : (p q x : Path) → path_cmp p q ≡ Less → path_cmp q x ≡ Less → is_prefix p x ≡ true → is_prefix p q ≡ true
+pub between : (p q x : Path) → path_cmp p q ≡ Less → path_cmp q x ≡ Less → is_prefix p x ≡ true → is_prefix p q ≡ true
 between [] q x lo hi goes = refl
 between (k ∷ p) [] x lo hi goes = absurd cc
 between (k ∷ p) (l ∷ q) [] lo hi goes = absurd (false≢true goes)
