@@ -76,6 +76,10 @@ module _ {A : Type 0} where
   all_then P Q f [] a = tt
   all_then P Q f (x ∷ xs) a = (f x a.0, all_then P Q f xs a.1)
 
+  pub all_both : (P Q R : A → Type 0) → ((x : A) → P x → Q x → R x) → (xs : List A) → AllByRecursion P xs → AllByRecursion Q xs → AllByRecursion R xs
+  all_both P Q R f [] a b = tt
+  all_both P Q R f (x ∷ xs) a b = (f x a.0 b.0, all_both P Q R f xs a.1 b.1)
+
   -- a filter that all pass, and one that none passes
   pub filter_all : (p : A → Bool) (xs : List A) → AllByRecursion (λ x. p x ≡ true) xs → filter p xs ≡ xs
   filter_all p [] a = refl
@@ -88,6 +92,15 @@ module _ {A : Type 0} where
   pub any_none : (p : A → Bool) (xs : List A) → AllByRecursion (λ x. p x ≡ false) xs → list_any p xs ≡ false
   any_none p [] a = refl
   any_none p (x ∷ xs) a = ap (λ b. b || list_any p xs) a.0 ∙ any_none p xs a.1
+
+  -- what a filter leaves is seen behind it
+  pub any_under : (p q : A → Bool) → ((x : A) → p x ≡ true → q x ≡ true) → (xs : List A) → list_any p (filter q xs) ≡ list_any p xs
+  any_under p q f [] = refl
+  any_under p q f (x ∷ xs) = by (q x) refl (p x) refl (any_under p q f xs) where
+    by : (b : Bool) → q x ≡ b → (c : Bool) → p x ≡ c → list_any p (filter q xs) ≡ list_any p xs → list_any p (cond b (x ∷ filter q xs) (filter q xs)) ≡ (p x || list_any p xs)
+    by true e c k h = ap (λ r. p x || r) h
+    by false e true k h = absurd (true≢false (sym (f x k) ∙ e))
+    by false e false k h = h ∙ sym (ap (λ b. b || list_any p xs) k)
 
   -- ---- keys put in order
 

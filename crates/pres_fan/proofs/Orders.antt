@@ -13,7 +13,7 @@ use Rattle.pres_fan.specs.declared.listeners.Listener.{Listener}
 use Rattle.pres_fan.specs.Listeners.{session_cmp, listener_cmp, same_listener}
 
 -- two orders one after the other tie what both tie
-then_ties : (a b : Ordering) → ordering_then a b ≡ Equal → (a ≡ Equal) × (b ≡ Equal)
+pub then_ties : (a b : Ordering) → ordering_then a b ≡ Equal → (a ≡ Equal) × (b ≡ Equal)
 then_ties Less b e = absurd (true≢false (sym (ap is_eq e)))
 then_ties Equal b e = (refl, e)
 then_ties Greater b e = absurd (true≢false (sym (ap is_eq e)))

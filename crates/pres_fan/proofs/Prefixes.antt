@@ -1,6 +1,5 @@
 -- Of two paths of which one is at or above the other, the one that isn't longer is.
 use Rattle.std.proofs.Common.{◌≡◌, ◌≤◌, ◌||◌, [], ◌∷◌, length, Bool, true, false, true≢false, refl, sym, arith}
-use Rattle.pres_tree.specs.Keys.{Key}
 use Rattle.pres_tree.specs.Paths.{Path, is_prefix, meet}
 use Rattle.pres_tree.proofs.Values.{cons_prefix, under}
 

@@ -17,7 +17,7 @@ use Rattle.pres_fan.specs.declared.listeners.Listener.{Listener}
 use Rattle.pres_fan.specs.Listeners.{session_cmp, listener_cmp, paths_of, IsListeners, without_session, is_touched, touched_of, sessions, by_session, touched}
 use Rattle.pres_fan.specs.Laws.{some_paths}
 use Rattle.pres_fan.proofs.Orders.{session_same, session_itself, same_by_cmp}
-use Rattle.pres_fan.proofs.Lists.{filter_map_later, all_filtered, passes, all_then, filter_all}
+use Rattle.pres_fan.proofs.Lists.{filter_map_later, all_filtered, passes, all_then, filter_all, any_under, all_both}
 use Rattle.pres_fan.proofs.Places.{From, less_apart, flip, all_from, from_apart, all_later, none_later, without_session_step, paths_rise}
 
 abbrev pub Row : Type 0
@@ -212,51 +212,52 @@ one_more_row l rows new is before sorted e =
     ∙ sym (added_later [] before l)
     ∙ rows_of (before ++ l ∷ []) sorted
 
--- ---- the rows of some first listeners of the whole list
+-- ---- the rows of those of some first listeners of a list that a test picks
 
-pub record Made (writes : List BasicWrite) (whole : List Listener) (rows : List Row) (rest : List Listener) : Type 0 where
+pub record Made (test : Listener → Bool) (whole : List Listener) (rows : List Row) (rest : List Listener) : Type 0 where
   pub done : List Listener
   pub whole_is : whole ≡ done ++ rest
-  pub rows_are : rows ≡ touched writes done
+  pub rows_are : rows ≡ by_session (filter test done)
 
--- the listeners that the writes touch, where one listener comes behind
-hits_later : (writes : List BasicWrite) (ls : List Listener) (l : Listener) (b : Bool) → is_touched writes l.path ≡ b →
-    filter (λ m. is_touched writes m.path) (ls ++ l ∷ []) ≡ filter (λ m. is_touched writes m.path) ls ++ cond b (l ∷ []) []
-hits_later writes ls l b e = filter-append (λ m. is_touched writes m.path) ls (l ∷ []) ∙ ap (λ c. filter (λ m. is_touched writes m.path) ls ++ cond c (l ∷ []) []) e
+pub made_none : (test : Listener → Bool) (whole rest : List Listener) → whole ≡ rest → Made test whole [] rest
+made_none test whole rest is = record { done = []; whole_is = is; rows_are = refl }
 
-pub made_past : (writes : List BasicWrite) (whole : List Listener) (rows : List Row) (l : Listener) (rest : List Listener) → is_touched writes l.path ≡ false → Made writes whole rows (l ∷ rest) → Made writes whole rows rest
-made_past writes whole rows l rest e made = record {
+-- those that are picked, where one listener comes behind
+hits_later : (test : Listener → Bool) (ls : List Listener) (l : Listener) (b : Bool) → test l ≡ b → filter test (ls ++ l ∷ []) ≡ filter test ls ++ cond b (l ∷ []) []
+hits_later test ls l b e = filter-append test ls (l ∷ []) ∙ ap (λ c. filter test ls ++ cond c (l ∷ []) []) e
+
+pub made_past : (test : Listener → Bool) (whole : List Listener) (rows : List Row) (l : Listener) (rest : List Listener) → test l ≡ false → Made test whole rows (l ∷ rest) → Made test whole rows rest
+made_past test whole rows l rest e made = record {
   done = made.done ++ l ∷ [];
   whole_is = made.whole_is ∙ sym (append_assoc made.done (l ∷ []) rest);
-  rows_are = made.rows_are ∙ sym (ap by_session (hits_later writes made.done l false e ∙ append-nil (filter (λ m. is_touched writes m.path) made.done)));
+  rows_are = made.rows_are ∙ sym (ap by_session (hits_later test made.done l false e ∙ append-nil (filter test made.done)));
 }
 
-pub made_more : (writes : List BasicWrite) (whole : List Listener) (rows new : List Row) (l : Listener) (rest : List Listener) → IsListeners whole → is_touched writes l.path ≡ true →
+pub made_more : (test : Listener → Bool) (whole : List Listener) (rows new : List Row) (l : Listener) (rest : List Listener) → IsStrictlySortedBy listener_cmp whole → test l ≡ true →
     ((before : List Listener) → IsStrictlySortedBy listener_cmp (before ++ l ∷ []) → rows ≡ by_session before → new ≡ by_session (before ++ l ∷ [])) →
-    Made writes whole rows (l ∷ rest) → Made writes whole new rest
-made_more writes whole rows new l rest held e more made =
+    Made test whole rows (l ∷ rest) → Made test whole new rest
+made_more test whole rows new l rest ordered e more made =
     let whole_is : whole ≡ (made.done ++ l ∷ []) ++ rest = made.whole_is ∙ sym (append_assoc made.done (l ∷ []) rest) in
-    let hits = hits_later writes made.done l true e in
-    let sorted : IsStrictlySortedBy listener_cmp (made.done ++ l ∷ []) = sorted_before (made.done ++ l ∷ []) rest (subst (IsStrictlySortedBy listener_cmp) whole_is held.ordered) in
+    let hits = hits_later test made.done l true e in
+    let sorted : IsStrictlySortedBy listener_cmp (made.done ++ l ∷ []) = sorted_before (made.done ++ l ∷ []) rest (subst (IsStrictlySortedBy listener_cmp) whole_is ordered) in
     record {
       done = made.done ++ l ∷ [];
       whole_is = whole_is;
       rows_are =
-          more (filter (λ m. is_touched writes m.path) made.done)
-          (subst (IsStrictlySortedBy listener_cmp) hits (IsStrictlySortedBy-filter listener_cmp (λ m. is_touched writes m.path) (made.done ++ l ∷ []) sorted))
+          more (filter test made.done)
+          (subst (IsStrictlySortedBy listener_cmp) hits (IsStrictlySortedBy-filter listener_cmp test (made.done ++ l ∷ []) sorted))
           made.rows_are
           ∙ sym (ap by_session hits);
     }
+
+pub made_all : (test : Listener → Bool) (whole : List Listener) (rows : List Row) → Made test whole rows [] → rows ≡ by_session (filter test whole)
+made_all test whole rows made = made.rows_are ∙ ap (λ ls. by_session (filter test ls)) (sym (made.whole_is ∙ append-nil made.done))
 
 -- ---- what the rows tell
 
 all_sessions : (P : SessionId → Type 0) (ls : List Listener) → AllByRecursion (λ l. P l.session) ls → AllByRecursion P (sessions ls)
 all_sessions P [] a = tt
 all_sessions P (l ∷ ls) a = (a.0, all_filtered P (λ t. not (same_session l.session t)) (sessions ls) (all_sessions P ls a.1))
-
-all_both : {A : Type 0} (P Q R : A → Type 0) → ((x : A) → P x → Q x → R x) → (xs : List A) → AllByRecursion P xs → AllByRecursion Q xs → AllByRecursion R xs
-all_both P Q R f [] a b = tt
-all_both P Q R f (x ∷ xs) a b = (f x a.0 b.0, all_both P Q R f xs a.1 b.1)
 
 sessions_rise : (ls : List Listener) → IsStrictlySortedBy listener_cmp ls → IsStrictlySortedBy session_cmp (sessions ls)
 unfolding IsStrictlySortedBy
@@ -298,14 +299,6 @@ find_row s f (t ∷ ts) = ap (λ b. cond b (Some (f t)) (find session_cmp s (map
       cond b (Some (f t)) (find session_cmp s (map (λ u. (u, f u)) ts)) ≡ cond (b || list_any (same_session s) ts) (Some (f s)) None
   by true e h = ap (λ u. Some (f u)) (sym (session_same s t e))
   by false e h = h
-
-any_under : {A : Type 0} (p q : A → Bool) → ((x : A) → p x ≡ true → q x ≡ true) → (xs : List A) → list_any p (filter q xs) ≡ list_any p xs
-any_under p q f [] = refl
-any_under p q f (x ∷ xs) = by (q x) refl (p x) refl (any_under p q f xs) where
-  by : (b : Bool) → q x ≡ b → (c : Bool) → p x ≡ c → list_any p (filter q xs) ≡ list_any p xs → list_any p (cond b (x ∷ filter q xs) (filter q xs)) ≡ (p x || list_any p xs)
-  by true e c k h = ap (λ r. p x || r) h
-  by false e true k h = absurd (true≢false (sym (f x k) ∙ e))
-  by false e false k h = h ∙ sym (ap (λ b. b || list_any p xs) k)
 
 any_sessions : (s : SessionId) (ls : List Listener) → list_any (same_session s) (sessions ls) ≡ list_any (λ l. same_session s l.session) ls
 any_sessions s [] = refl

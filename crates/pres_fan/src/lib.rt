@@ -2,6 +2,7 @@
 #![tactic(auto)]
 
 mod fault;
+mod index;
 pub mod laws;
 mod listeners;
 

@@ -9,6 +9,7 @@ ghost use Rattle.pres_fan.specs.declared.fault.FanFault.TheVariants.{Full, Memor
 ghost use Rattle.pres_fan.specs.declared.listeners.Listener.{Listener};
 
 use crate::fault::FanFault;
+use crate::index::{Place, met};
 use pres_ids::SessionId;
 use pres_tree::Path;
 use pres_write::{Basic, Items};
@@ -89,18 +90,22 @@ impl Touched {
 #[derive(Drop)]
 pub struct Listeners {
     listeners: BTreeSet<Listener>,
+    // Where they listen, by which those that a write touches are found. Where memory was refused, a
+    // place may stand here whose session doesn't listen to it.
+    places: BTreeSet<Place>,
 }
 
 impl Model for Listeners {
     ghost use Rattle.std.specs.Prelude.{List};
     ghost use Rattle.pres_fan.specs.Listeners.{IsListeners};
+    ghost use Rattle.pres_fan.specs.Places.{HavePlaces};
     ghost use Rattle.pres_fan.specs.declared.listeners.Listener.{Listener};
 
     ghost Value = { List Listener };
 
     ghost view = { λ l. l.listeners.keys };
 
-    ghost invariant = { λ l. IsListeners l.listeners.keys };
+    ghost invariant = { λ l. IsListeners l.listeners.keys × HavePlaces l.listeners.keys l.places.keys };
 }
 
 impl Listeners {
@@ -110,6 +115,7 @@ impl Listeners {
     {
         Listeners {
             listeners: BTreeSet::new(alloc),
+            places: BTreeSet::new(alloc),
         }
     }
 
@@ -158,9 +164,9 @@ impl Listeners {
         if !self.may_listen(session, &path) {
             return Err(FanFault::Full);
         }
+        self.places.insert(Place::of(alloc, &path, session)?)?;
         let session = session.copy(alloc)?;
-        let listener = Listener { session, path };
-        self.listeners.insert(listener)?;
+        self.listeners.insert(Listener { session, path })?;
         Ok(())
     }
 
@@ -170,6 +176,7 @@ impl Listeners {
     {
         self.listeners
             .retain(|listener| !is_of(listener, session, path));
+        self.places.retain(|place| !place.is_at(session, path));
     }
 
     /// The session listens to nothing more. It takes no memory.
@@ -178,6 +185,7 @@ impl Listeners {
     {
         self.listeners
             .retain(|listener| session != &listener.session);
+        self.places.retain(|place| !place.is_of(session));
     }
 
     /// The sessions that listen to a place that the writes touch, each once, with those places, in
@@ -188,8 +196,8 @@ impl Listeners {
         ensures listeners { IsListeners self.now }
     {
         let mut rows = Vec::new(alloc);
-        for listener in &self.listeners {
-            if is_touched(writes, &listener.path) {
+        for listener in met(alloc, &self.places, writes)? {
+            if is_touched(writes, &listener.path) && self.listeners.contains(&listener) {
                 add(&mut rows, alloc, listener)?;
             }
         }
@@ -224,20 +232,19 @@ fn is_touched(writes: &[Basic], path: &Path) -> bool
 
 // Adds a listener that comes behind those of the rows: its place to the last row, or to a row of
 // its own where that is of another session.
-fn add(rows: &mut Vec<Touched>, alloc: Global, listener: &Listener) -> Result<(), AllocError>
+fn add(rows: &mut Vec<Touched>, alloc: Global, listener: Listener) -> Result<(), AllocError>
     ensures { (before : List Listener)
-        → IsStrictlySortedBy listener_cmp (before ++ listener.now ∷ [])
+        → IsStrictlySortedBy listener_cmp (before ++ listener ∷ [])
         → rows.old.items ≡ by_session before
-        → OnOk result (rows.new.items ≡ by_session (before ++ listener.now ∷ [])) }
+        → OnOk result (rows.new.items ≡ by_session (before ++ listener ∷ [])) }
 {
-    let path = listener.path.copy(alloc)?;
+    let Listener { session, path } = listener;
     if let Some(last) = rows.last_mut() {
-        if last.session == listener.session {
+        if last.session == session {
             last.push(path)?;
             return Ok(());
         }
     }
-    let session = listener.session.copy(alloc)?;
     rows.push(Touched::one(alloc, session, path)?)?;
     Ok(())
 }

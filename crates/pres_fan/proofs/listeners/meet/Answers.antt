@@ -1,4 +1,4 @@
-use Rattle.std.proofs.Common.{◌≤◌, ◌∙◌, length, arith}
+use Rattle.std.proofs.Common.{◌∙◌, arith}
 use Rattle.pres_fan.proofs.Prefixes.{first_meets, second_meets}
 use Rattle.pres_fan.proofs.listeners.meet.Goals as goal
 

@@ -1,6 +1,7 @@
+use Rattle.pres_fan.proofs.Members.{picks}
 use Rattle.pres_fan.proofs.Rows.{Made}
 use Rattle.pres_fan.proofs.listeners.Listeners.touched.Given as goal
 
--- the rows are those of the listeners so far
+-- the rows are those of the listeners so far that are picked
 abbrev pub invariant-loop-listener : goal.invariant-loop-listener
-invariant-loop-listener l = Made l.writes l.self l.rows.items l.listener-iterator
+invariant-loop-listener l = Made (picks l.writes l.self-inside.listeners.keys) l.initial.listener-iterator l.rows.items l.listener-iterator

@@ -1,0 +1,183 @@
+-- Listeners that are members of lists in order, and their places.
+use Rattle.std.proofs.Common.{refl, sym, ◌∙◌, ap, subst, ◌≡◌, List, [], ◌∷◌, filter, Bool, true, false, not, cond, ◌&&◌, ◌||◌, true≢false, Option, Some, None, Ordering, Less, Equal, Greater, is_eq, is_lt, ◌⊎◌, inl, inr}
+use Rattle.std.specs.List.{list_any, AllByRecursion}
+use Rattle.std.specs.List.Sorted.{IsStrictlySortedBy}
+use Rattle.std.specs.BTreeSet.{insert_key}
+use Rattle.std.specs.Option.{option_cmp}
+use Rattle.std.specs.Ordering.{match_ordering, ordering_reverse}
+use Rattle.std.specs.Cmp.{tied_itself, both_ways}
+use Rattle.std.proofs.lemmas.Bool.{or_cases, or_left, or_right, and_parts, and_from}
+use Rattle.std.proofs.lemmas.List.Kept.{IsStrictlySortedBy-filter}
+use Rattle.std.proofs.lemmas.Map.Keys.{sorted_head, sorted_tail}
+use Rattle.pres_tree.specs.Paths.{Path, path_cmp, same_path}
+use Rattle.pres_tree.specs.Falls.{path_same as path_apart}
+use Rattle.pres_tree.proofs.PathOrder.{path_itself}
+use Rattle.pres_write.specs.Basics.{BasicWrite}
+use Rattle.pres_ids.specs.Ids.{same_session}
+use Rattle.pres_ids.specs.declared.id.SessionId.{SessionId}
+use Rattle.pres_fan.specs.declared.listeners.Listener.{Listener}
+use Rattle.pres_fan.specs.declared.index.Place.{Place}
+use Rattle.pres_fan.specs.Listeners.{session_cmp, listener_cmp, same_listener, listener_of, is_touched, IsListeners}
+use Rattle.pres_fan.specs.Places.{place_cmp, is_this, is_place_of, HavePlaces}
+use Rattle.pres_fan.proofs.Orders.{then_ties, session_apart, session_itself, listener_total, listener_apart, listener_same, listener_itself}
+use Rattle.pres_fan.proofs.Lists.{passes, all_filtered, all_then, all_both, any_under}
+use Rattle.pres_fan.proofs.Searches.{tie, put_keeps, put_has, placed, not_placed, FindsTouched}
+
+-- ---- two lists of listeners in order with the same members are one
+
+all_any : (P : Listener → Type 0) (l : Listener) (ls : List Listener) → AllByRecursion P ls → list_any (same_listener l) ls ≡ true → P l
+all_any P l [] a h = absurd (true≢false (sym h))
+all_any P l (x ∷ xs) a h = by (or_cases (same_listener l x) (list_any (same_listener l) xs) h) (all_any P l xs a.1) where
+  by : (same_listener l x ≡ true) ⊎ (list_any (same_listener l) xs ≡ true) → (list_any (same_listener l) xs ≡ true → P l) → P l
+  by (inl e) f = subst P (sym (listener_same l x e)) a.0
+  by (inr e) f = f e
+
+not_both : (k l : Listener) → listener_cmp k l ≡ Less → listener_cmp l k ≡ Less → true ≡ false
+not_both k l e f = ap is_lt (sym e ∙ listener_total.antisymm k l ∙ ap ordering_reverse f)
+
+not_itself : (l : Listener) → listener_cmp l l ≡ Less → true ≡ false
+not_itself l e = ap is_eq (sym (tied_itself listener_total l) ∙ e)
+
+heads : (x y : Listener) (xs ys : List Listener) → IsStrictlySortedBy listener_cmp (x ∷ xs) → IsStrictlySortedBy listener_cmp (y ∷ ys) →
+    list_any (same_listener x) (y ∷ ys) ≡ true → list_any (same_listener y) (x ∷ xs) ≡ true → x ≡ y
+heads x y xs ys sx sy h g = by (or_cases (same_listener x y) _ h) (or_cases (same_listener y x) _ g) where
+  by : (same_listener x y ≡ true) ⊎ (list_any (same_listener x) ys ≡ true) → (same_listener y x ≡ true) ⊎ (list_any (same_listener y) xs ≡ true) → x ≡ y
+  by (inl e) f = listener_same x y e
+  by (inr e) (inl f) = sym (listener_same y x f)
+  by (inr e) (inr f) =
+      absurd (true≢false (not_both x y (all_any (λ z. listener_cmp x z ≡ Less) y xs (sorted_head listener_cmp x xs sx) f)
+      (all_any (λ z. listener_cmp y z ≡ Less) x ys (sorted_head listener_cmp y ys sy) e)))
+
+-- a member of the first tail is one of the second
+in_tail : (x y : Listener) (xs ys : List Listener) → x ≡ y → IsStrictlySortedBy listener_cmp (x ∷ xs) →
+    ((l : Listener) → list_any (same_listener l) (x ∷ xs) ≡ true → list_any (same_listener l) (y ∷ ys) ≡ true) →
+    (l : Listener) → list_any (same_listener l) xs ≡ true → list_any (same_listener l) ys ≡ true
+in_tail x y xs ys is sx f l h = by (or_cases (same_listener l y) (list_any (same_listener l) ys) (f l (or_right (same_listener l x) _ h))) where
+  by : (same_listener l y ≡ true) ⊎ (list_any (same_listener l) ys ≡ true) → list_any (same_listener l) ys ≡ true
+  by (inl e) = absurd (true≢false (not_itself x (subst (λ z. listener_cmp x z ≡ Less) (listener_same l y e ∙ sym is) (all_any (λ z. listener_cmp x z ≡ Less) l xs (sorted_head listener_cmp x xs sx) h))))
+  by (inr e) = e
+
+same_members : (xs ys : List Listener) → IsStrictlySortedBy listener_cmp xs → IsStrictlySortedBy listener_cmp ys →
+    ((l : Listener) → list_any (same_listener l) xs ≡ true → list_any (same_listener l) ys ≡ true) →
+    ((l : Listener) → list_any (same_listener l) ys ≡ true → list_any (same_listener l) xs ≡ true) → xs ≡ ys
+same_members [] [] sx sy f g = refl
+same_members [] (y ∷ ys) sx sy f g = absurd (true≢false (sym (g y (or_left (same_listener y y) _ (listener_itself y)))))
+same_members (x ∷ xs) [] sx sy f g = absurd (true≢false (sym (f x (or_left (same_listener x x) _ (listener_itself x)))))
+same_members (x ∷ xs) (y ∷ ys) sx sy f g =
+    let is = heads x y xs ys sx sy (f x (or_left (same_listener x x) _ (listener_itself x))) (g y (or_left (same_listener y y) _ (listener_itself y))) in
+    let rest = same_members xs ys (sorted_tail listener_cmp x xs sx) (sorted_tail listener_cmp y ys sy) (in_tail x y xs ys is sx f) (in_tail y x ys xs (sym is) sy g) in
+    λ i. is i ∷ rest i
+
+-- ---- each listener has its place
+
+place_apart : (x y : Place) → place_cmp x y ≡ Equal → x ≡ y
+place_apart x y e =
+    let a = then_ties (path_cmp x.path y.path) _ e in
+    let p = path_apart x.path y.path a.0 in
+    let s = by x.session y.session a.1 in
+    λ i. record { path = p i; session = s i }
+  where
+    by : (a b : Option SessionId) → option_cmp session_cmp a b ≡ Equal → a ≡ b
+    by None None h = refl
+    by None (Some t) h = absurd (true≢false (sym (ap is_eq h)))
+    by (Some s) None h = absurd (true≢false (sym (ap is_eq h)))
+    by (Some s) (Some t) h = ap (λ u. Some u) (session_apart s t h)
+
+-- one place more
+pub have_more : (x : Place) (ls : List Listener) (ps : List Place) → HavePlaces ls ps → HavePlaces ls (insert_key place_cmp ps x)
+have_more x ls ps h = all_then (λ l. list_any (is_place_of l) ps ≡ true) (λ l. list_any (is_place_of l) (insert_key place_cmp ps x) ≡ true) (λ l e. put_keeps place_cmp x (is_place_of l) ps e) ls h
+
+pub has_place : (l : Listener) (x : Place) (ps : List Place) → is_place_of l x ≡ true → list_any (is_place_of l) (insert_key place_cmp ps x) ≡ true
+has_place l x ps e = put_has place_cmp x (is_place_of l) e (λ y k. ap (is_place_of l) (sym (place_apart x y k)) ∙ e) ps
+
+all_put : (P : Listener → Type 0) (k : Listener) → P k → (ls : List Listener) → AllByRecursion P ls → AllByRecursion P (insert_key listener_cmp ls k)
+all_put P k one [] a = (one, tt)
+all_put P k one (x ∷ xs) a = by (listener_cmp k x) (all_put P k one xs a.1) where
+  by : (o : Ordering) → AllByRecursion P (insert_key listener_cmp xs k) → AllByRecursion P (match_ordering o (k ∷ x ∷ xs) (x ∷ xs) (x ∷ insert_key listener_cmp xs k))
+  by Less h = (one, a)
+  by Equal h = a
+  by Greater h = (a.0, h)
+
+-- one listener more, whose place is there
+pub have_with : (k : Listener) (ls : List Listener) (ps : List Place) → list_any (is_place_of k) ps ≡ true → HavePlaces ls ps → HavePlaces (insert_key listener_cmp ls k) ps
+have_with k ls ps one h = all_put (λ l. list_any (is_place_of l) ps ≡ true) k one ls h
+
+-- fewer of both, where no place of one who stays is gone
+pub have_fewer : (p : Listener → Bool) (q : Place → Bool) → ((l : Listener) (x : Place) → p l ≡ true → is_place_of l x ≡ true → q x ≡ true) →
+    (ls : List Listener) (ps : List Place) → HavePlaces ls ps → HavePlaces (filter p ls) (filter q ps)
+have_fewer p q stays ls ps h =
+    all_both (λ l. list_any (is_place_of l) ps ≡ true) (λ l. p l ≡ true) (λ l. list_any (is_place_of l) (filter q ps) ≡ true)
+    (λ l e k. any_under (is_place_of l) q (λ x. stays l x k) ps ∙ e) (filter p ls)
+    (all_filtered (λ l. list_any (is_place_of l) ps ≡ true) p ls h) (passes p ls)
+
+-- a place is of one listener at most
+pub one_of : (k l : Listener) (x : Place) → is_place_of k x ≡ true → is_place_of l x ≡ true → k ≡ l
+one_of k l x e f = by x.session refl where
+  by : (o : Option SessionId) → x.session ≡ o → k ≡ l
+  by None h = absurd (true≢false (not_placed k x h e))
+  by (Some s) h = sym (placed k x s h e) ∙ placed l x s h f
+
+pub placed_at : (s : SessionId) (p : Path) (x : Place) → x.path ≡ p → x.session ≡ Some s → is_place_of (listener_of s p) x ≡ true
+placed_at s p x e f = and_from _ _ (ap (same_path p) e ∙ path_itself p) (ap (is_this s) f ∙ session_itself s)
+
+-- who listens on keeps the place where one listener goes
+pub off_stays : (k l : Listener) (x : Place) → not (same_listener k l) ≡ true → is_place_of l x ≡ true → not (is_place_of k x) ≡ true
+off_stays k l x h e = elim (is_place_of k x) as (λ b. is_place_of k x ≡ b → not b ≡ true) [
+  | true ↦ λ f. absurd (true≢false (sym h ∙ ap (λ m. not (same_listener k m)) (sym (one_of k l x f e)) ∙ ap not (listener_itself k)))
+  | false ↦ λ f. refl
+] refl
+
+-- and where a session goes
+pub drop_stays : (s : SessionId) (l : Listener) (x : Place) → not (same_session s l.session) ≡ true → is_place_of l x ≡ true → not (is_this s x.session) ≡ true
+drop_stays s l x h e = by x.session refl where
+  by : (o : Option SessionId) → x.session ≡ o → not (is_this s o) ≡ true
+  by None f = refl
+  by (Some t) f = ap (λ m. not (same_session s m.session)) (placed l x t f e) ∙ h
+
+-- ---- those found are all that writes touch
+
+abbrev pub picks : List BasicWrite → List Listener → Listener → Bool
+picks writes ls l = is_touched writes l.path && list_any (same_listener l) ls
+
+in_filter : (p : Listener → Bool) (l : Listener) (ls : List Listener) → p l ≡ true → list_any (same_listener l) ls ≡ true → list_any (same_listener l) (filter p ls) ≡ true
+in_filter p l ls e h = any_under (same_listener l) p (λ x k. ap p (sym (listener_same l x k)) ∙ e) ls ∙ h
+
+of_filter : (p : Listener → Bool) (l : Listener) (ls : List Listener) → list_any (same_listener l) (filter p ls) ≡ true → (p l ≡ true) × (list_any (same_listener l) ls ≡ true)
+of_filter p l ls h = (all_any (λ m. p m ≡ true) l (filter p ls) (passes p ls) h, kept ls h) where
+  kept : (ms : List Listener) → list_any (same_listener l) (filter p ms) ≡ true → list_any (same_listener l) ms ≡ true
+  kept [] k = k
+  kept (m ∷ ms) k = by (p m) k (kept ms) where
+    later : (same_listener l m ≡ true) ⊎ (list_any (same_listener l) (filter p ms) ≡ true) → (list_any (same_listener l) (filter p ms) ≡ true → list_any (same_listener l) ms ≡ true) → (same_listener l m || list_any (same_listener l) ms) ≡ true
+    later (inl e) f = or_left (same_listener l m) _ e
+    later (inr e) f = or_right (same_listener l m) _ (f e)
+
+    by : (b : Bool) → list_any (same_listener l) (cond b (m ∷ filter p ms) (filter p ms)) ≡ true → (list_any (same_listener l) (filter p ms) ≡ true → list_any (same_listener l) ms ≡ true) → (same_listener l m || list_any (same_listener l) ms) ≡ true
+    by true e f = later (or_cases (same_listener l m) (list_any (same_listener l) (filter p ms)) e) f
+    by false e f = or_right (same_listener l m) _ (f e)
+
+pub picks_touched : (writes : List BasicWrite) (ls found : List Listener) (ps : List Place) → IsListeners ls → HavePlaces ls ps → IsStrictlySortedBy listener_cmp found → FindsTouched writes ps found →
+    filter (picks writes ls) found ≡ filter (λ l. is_touched writes l.path) ls
+picks_touched writes ls found ps held have sorted finds =
+    same_members (filter (picks writes ls) found) (filter touches ls)
+    (IsStrictlySortedBy-filter listener_cmp (picks writes ls) found sorted) (IsStrictlySortedBy-filter listener_cmp touches ls held.ordered)
+    (λ l h. let both = and_parts (touches l) _ (of_filter (picks writes ls) l found h).0 in in_filter touches l ls both.0 both.1)
+    (λ l h.
+    let is = of_filter touches l ls h in
+    let place = all_any (λ k. list_any (is_place_of k) ps ≡ true) l ls have is.1 in
+    in_filter (picks writes ls) l found (and_from (touches l) _ is.0 is.1) (finds l is.0 place))
+  where
+    touches : Listener → Bool
+    touches l = is_touched writes l.path
+
+pub and_second : (a b : Bool) → b ≡ false → (a && b) ≡ false
+and_second true b h = h
+and_second false b h = refl
+
+-- a set of listeners has one exactly where it is a member
+pub has_by_order : (l : Listener) (ls : List Listener) → list_any (λ k. is_eq (listener_cmp l k)) ls ≡ list_any (same_listener l) ls
+has_by_order l ls = λ i. list_any (λ k. ties k i) ls where
+  ties : (k : Listener) → is_eq (listener_cmp l k) ≡ same_listener l k
+  ties k =
+      both_ways (is_eq (listener_cmp l k)) (same_listener l k)
+      (λ e. ap (same_listener l) (sym (listener_apart l k (tie (listener_cmp l k) e))) ∙ listener_itself l)
+      (λ e. ap is_eq (ap (listener_cmp l) (sym (listener_same l k e)) ∙ tied_itself listener_total l))

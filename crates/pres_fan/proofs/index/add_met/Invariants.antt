@@ -1,0 +1,6 @@
+use Rattle.pres_fan.proofs.Searches.{Above}
+use Rattle.pres_fan.proofs.index.add_met.Given as goal
+
+-- the paths of fewer of its first keys were searched
+abbrev pub invariant-loop-len : goal.invariant-loop-len
+invariant-loop-len l = Above l.path l.places.keys l.len l.fn.found.keys l.found.keys

@@ -1,0 +1,12 @@
+use Rattle.std.proofs.Common.{◌≡◌, true}
+use Rattle.std.specs.List.{list_any}
+use Rattle.pres_fan.specs.Listeners.{same_listener}
+use Rattle.pres_fan.specs.declared.listeners.Listener.{Listener}
+use Rattle.pres_fan.proofs.Searches.{Search}
+use Rattle.pres_fan.proofs.index.add_near.Given as goal
+
+-- the search has come as far as the places that are left, and nobody who was found before is lost
+abbrev pub invariant-loop-place : goal.invariant-loop-place
+invariant-loop-place l =
+    Search l.reach l.fn.path l.places.keys l.place-iterator l.found.keys
+    × ((m : Listener) → list_any (same_listener m) l.fn.found.keys ≡ true → list_any (same_listener m) l.found.keys ≡ true)
