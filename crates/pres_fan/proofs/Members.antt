@@ -1,13 +1,14 @@
 -- Listeners that are members of lists in order, and their places.
-use Rattle.std.proofs.Common.{refl, sym, ◌∙◌, ap, subst, ◌≡◌, List, [], ◌∷◌, filter, Bool, true, false, not, cond, ◌&&◌, ◌||◌, true≢false, Option, Some, None, Ordering, Less, Equal, Greater, is_eq, is_lt, ◌⊎◌, inl, inr}
-use Rattle.std.specs.List.{list_any, AllByRecursion}
-use Rattle.std.specs.List.Sorted.{IsStrictlySortedBy}
+use Rattle.std.proofs.Common.{refl, sym, ◌∙◌, ap, subst, ◌≡◌, arith, length, List, [], ◌∷◌, filter, Bool, true, false, not, cond, ◌&&◌, ◌||◌, true≢false, Option, Some, None, Ordering, Less, Equal, Greater, is_eq, is_lt, ◌⊎◌, inl, inr}
+use Rattle.std.specs.List.{list_any, AllByRecursion, dedup, dedup_from}
+use Rattle.std.specs.List.Sorted.{IsPermutation, IsSorted, IsStrictlySortedBy}
 use Rattle.std.specs.BTreeSet.{insert_key}
 use Rattle.std.specs.Option.{option_cmp}
 use Rattle.std.specs.Ordering.{match_ordering, ordering_reverse}
 use Rattle.std.specs.Cmp.{tied_itself, both_ways}
 use Rattle.std.proofs.lemmas.Bool.{or_cases, or_left, or_right, and_parts, and_from}
-use Rattle.std.proofs.lemmas.List.Kept.{IsStrictlySortedBy-filter}
+use Rattle.std.proofs.lemmas.List.Kept.{IsStrictlySortedBy-filter, IsStrictlySortedBy-dedup}
+use Rattle.std.proofs.lemmas.List.Sorted.{list_any-IsPermutation}
 use Rattle.std.proofs.lemmas.Map.Keys.{sorted_head, sorted_tail}
 use Rattle.pres_tree.specs.Paths.{Path, path_cmp, same_path}
 use Rattle.pres_tree.specs.Falls.{path_same as path_apart}
@@ -169,15 +170,55 @@ picks_touched writes ls found ps held have sorted finds =
     touches : Listener → Bool
     touches l = is_touched writes l.path
 
+pub nothing_left : (ls : List Listener) → length ls ≡ 0 → ls ≡ []
+nothing_left [] h = refl
+nothing_left (l ∷ ls) h = absurd (omega (arith, h))
+
 pub and_second : (a b : Bool) → b ≡ false → (a && b) ≡ false
 and_second true b h = h
 and_second false b h = refl
 
+-- the order ties what is equal
+pub ties : (l k : Listener) → is_eq (listener_cmp l k) ≡ same_listener l k
+ties l k =
+    both_ways (is_eq (listener_cmp l k)) (same_listener l k)
+    (λ e. ap (same_listener l) (sym (listener_apart l k (tie (listener_cmp l k) e))) ∙ listener_itself l)
+    (λ e. ap is_eq (ap (listener_cmp l) (sym (listener_same l k e)) ∙ tied_itself listener_total l))
+
 -- a set of listeners has one exactly where it is a member
 pub has_by_order : (l : Listener) (ls : List Listener) → list_any (λ k. is_eq (listener_cmp l k)) ls ≡ list_any (same_listener l) ls
-has_by_order l ls = λ i. list_any (λ k. ties k i) ls where
-  ties : (k : Listener) → is_eq (listener_cmp l k) ≡ same_listener l k
-  ties k =
-      both_ways (is_eq (listener_cmp l k)) (same_listener l k)
-      (λ e. ap (same_listener l) (sym (listener_apart l k (tie (listener_cmp l k) e))) ∙ listener_itself l)
-      (λ e. ap is_eq (ap (listener_cmp l) (sym (listener_same l k e)) ∙ tied_itself listener_total l))
+has_by_order l ls = λ i. list_any (λ k. ties l k i) ls
+
+-- ---- sorted, and each once
+
+once_from : (l k : Listener) (xs : List Listener) → list_any (same_listener l) (k ∷ xs) ≡ true → list_any (same_listener l) (dedup_from same_listener k xs) ≡ true
+once_from l k [] h = h
+once_from l k (x ∷ xs) h = by (same_listener x k) refl (once_from l k xs) (once_from l x xs) where
+  tail : (same_listener l k ≡ true) ⊎ (list_any (same_listener l) (x ∷ xs) ≡ true) → same_listener x k ≡ true → list_any (same_listener l) (k ∷ xs) ≡ true
+  tail (inl e) f = or_left (same_listener l k) _ e
+  tail (inr e) f = ap (λ y. same_listener l y || list_any (same_listener l) xs) (sym (listener_same x k f)) ∙ e
+
+  later : (same_listener l k ≡ true) ⊎ (list_any (same_listener l) (x ∷ xs) ≡ true) → (list_any (same_listener l) (x ∷ xs) ≡ true → list_any (same_listener l) (dedup_from same_listener x xs) ≡ true) → (same_listener l k || list_any (same_listener l) (dedup_from same_listener x xs)) ≡ true
+  later (inl e) f = or_left (same_listener l k) _ e
+  later (inr e) f = or_right (same_listener l k) _ (f e)
+
+  by : (b : Bool) → same_listener x k ≡ b → (list_any (same_listener l) (k ∷ xs) ≡ true → list_any (same_listener l) (dedup_from same_listener k xs) ≡ true) → (list_any (same_listener l) (x ∷ xs) ≡ true → list_any (same_listener l) (dedup_from same_listener x xs) ≡ true) →
+      list_any (same_listener l) (cond b (dedup_from same_listener k xs) (k ∷ dedup_from same_listener x xs)) ≡ true
+  by true e f g = f (tail (or_cases (same_listener l k) _ h) e)
+  by false e f g = later (or_cases (same_listener l k) _ h) g
+
+once : (l : Listener) (xs : List Listener) → list_any (same_listener l) xs ≡ true → list_any (same_listener l) (dedup same_listener xs) ≡ true
+once l [] h = h
+once l (x ∷ xs) h = once_from l x xs h
+
+pub none_ordered : IsStrictlySortedBy listener_cmp []
+unfolding IsStrictlySortedBy
+none_ordered = tt
+
+pub tidied : (same : Listener → Listener → Bool) → ((k l : Listener) → same k l ≡ same_listener k l) → (xs ys zs : List Listener) → IsPermutation xs ys → IsSorted listener_cmp ys → zs ≡ dedup same ys →
+    IsStrictlySortedBy listener_cmp zs × ((l : Listener) → list_any (same_listener l) xs ≡ true → list_any (same_listener l) zs ≡ true)
+tidied same agree xs ys zs moved sorted is =
+    let each_once : zs ≡ dedup same_listener ys = is ∙ (λ i. dedup (λ k l. agree k l i) ys) in (
+      subst (IsStrictlySortedBy listener_cmp) (sym each_once) (IsStrictlySortedBy-dedup listener_total (λ k l. sym (ties k l)) ys sorted),
+      λ l h. subst (λ ms. list_any (same_listener l) ms ≡ true) (sym each_once) (once l ys (sym (list_any-IsPermutation (same_listener l) xs ys moved) ∙ h)),
+    )

@@ -9,7 +9,7 @@ use Rattle.std.specs.declared.ops.Bound.TheVariants.{Included, Unbounded}
 use Rattle.std.specs.Option.{option_cmp}
 use Rattle.std.specs.Ordering.{match_ordering, ordering_then, is_le}
 use Rattle.std.specs.Cmp.{tied_itself}
-use Rattle.std.proofs.lemmas.Bool.{or_cases, or_right, and_parts, and_from, false_from_ne_true, ltb-true, ltb-false}
+use Rattle.std.proofs.lemmas.Bool.{or_cases, or_left, or_right, and_parts, and_from, false_from_ne_true, ltb-true, ltb-false}
 use Rattle.std.proofs.lemmas.List.{take_all}
 use Rattle.std.proofs.lemmas.List.Folds.{list_any-append}
 use Rattle.std.proofs.lemmas.List.Kept.{IsStrictlySortedBy-filter}
@@ -26,10 +26,10 @@ use Rattle.pres_fan.specs.declared.listeners.Listener.{Listener}
 use Rattle.pres_fan.specs.declared.index.Place.{Place}
 use Rattle.pres_fan.specs.declared.index.Reach.{Reach}
 use Rattle.pres_fan.specs.declared.index.Reach.TheVariants.{At, Below}
-use Rattle.pres_fan.specs.Listeners.{session_cmp, listener_cmp, same_listener, listener_of, is_touched}
+use Rattle.pres_fan.specs.Listeners.{session_cmp, same_listener, listener_of, is_touched}
 use Rattle.pres_fan.specs.Places.{place_cmp, reaches, is_this, is_place_of}
 use Rattle.pres_fan.proofs.Lists.{all_then, passes, any_none, any_under}
-use Rattle.pres_fan.proofs.Orders.{session_same, listener_itself, listener_apart}
+use Rattle.pres_fan.proofs.Orders.{session_same, listener_itself}
 
 -- ---- keys put in order
 
@@ -55,11 +55,12 @@ module _ {A : Type 0} (cmp : A → A → Ordering) (k : A) (p : A → Bool) wher
     by Equal o h = ap (λ b. b || list_any p xs) (ties x o)
     by Greater o h = or_right (p x) _ h
 
-pub keeps_listener : (k l : Listener) (ls : List Listener) → list_any (same_listener l) ls ≡ true → list_any (same_listener l) (insert_key listener_cmp ls k) ≡ true
-keeps_listener k l ls h = put_keeps listener_cmp k (same_listener l) ls h
+-- one listener more at the end
+pub keeps_listener : (k l : Listener) (ls : List Listener) → list_any (same_listener l) ls ≡ true → list_any (same_listener l) (ls ++ k ∷ []) ≡ true
+keeps_listener k l ls h = list_any-append (same_listener l) ls (k ∷ []) ∙ or_left _ _ h
 
-pub has_listener : (k : Listener) (ls : List Listener) → list_any (same_listener k) (insert_key listener_cmp ls k) ≡ true
-has_listener k ls = put_has listener_cmp k (same_listener k) (listener_itself k) (λ x e. ap (same_listener k) (sym (listener_apart k x e)) ∙ listener_itself k) ls
+pub has_listener : (k : Listener) (ls : List Listener) → list_any (same_listener k) (ls ++ k ∷ []) ≡ true
+has_listener k ls = list_any-append (same_listener k) ls (k ∷ []) ∙ or_right (list_any (same_listener k) ls) _ (or_left (same_listener k k) false (listener_itself k))
 
 -- the listener whose place it is
 pub placed : (l : Listener) (x : Place) (s : SessionId) → x.session ≡ Some s → is_place_of l x ≡ true → listener_of s x.path ≡ l

@@ -3,8 +3,9 @@
 
 ghost use Rattle.std.specs.Prelude.{◌≡◌, true, Some, IfOk, OnOk};
 ghost use Rattle.std.specs.List.{list_any};
+ghost use Rattle.std.specs.List.Sorted.{IsStrictlySortedBy};
 ghost use Rattle.pres_tree.specs.Paths.{meet};
-ghost use Rattle.pres_fan.specs.Listeners.{same_listener, listener_of, is_touched};
+ghost use Rattle.pres_fan.specs.Listeners.{listener_cmp, same_listener, listener_of, is_touched};
 ghost use Rattle.pres_fan.specs.Places.{reaches, is_this, is_place_of};
 ghost use Rattle.pres_fan.specs.declared.listeners.Listener.{Listener};
 
@@ -72,33 +73,33 @@ fn reaches(reach: Reach, path: &Path, other: &Path) -> bool
 }
 
 // Adds the listener that stands there, if one does.
-fn add_one(found: &mut BTreeSet<Listener>, alloc: Global, place: &Place) -> Result<(), AllocError>
-    ensures kept { OnOk result ((l : Listener) → list_any (same_listener l) found.old.keys ≡ true
-        → list_any (same_listener l) found.new.keys ≡ true) }
+fn add_one(found: &mut Vec<Listener>, alloc: Global, place: &Place) -> Result<(), AllocError>
+    ensures kept { OnOk result ((l : Listener) → list_any (same_listener l) found.old.items ≡ true
+        → list_any (same_listener l) found.new.items ≡ true) }
     ensures found { OnOk result ((l : Listener) → is_place_of l place.now ≡ true
-        → list_any (same_listener l) found.new.keys ≡ true) }
+        → list_any (same_listener l) found.new.items ≡ true) }
 {
     if let Some(session) = &place.session {
         let session = session.copy(alloc)?;
         let path = place.path.copy(alloc)?;
-        found.insert(Listener { session, path })?;
+        found.push(Listener { session, path })?;
     }
     Ok(())
 }
 
 // Adds the listeners as far as the search goes from the path.
 fn add_near(
-    found: &mut BTreeSet<Listener>,
+    found: &mut Vec<Listener>,
     alloc: Global,
     places: &BTreeSet<Place>,
     path: Path,
     reach: Reach,
 ) -> Result<(), AllocError>
-    ensures kept { OnOk result ((l : Listener) → list_any (same_listener l) found.old.keys ≡ true
-        → list_any (same_listener l) found.new.keys ≡ true) }
+    ensures kept { OnOk result ((l : Listener) → list_any (same_listener l) found.old.items ≡ true
+        → list_any (same_listener l) found.new.items ≡ true) }
     ensures near { OnOk result ((l : Listener) → reaches reach path l.path ≡ true
         → list_any (is_place_of l) places.now.keys ≡ true
-        → list_any (same_listener l) found.new.keys ≡ true) }
+        → list_any (same_listener l) found.new.items ≡ true) }
 {
     let start = Place {
         path,
@@ -115,16 +116,16 @@ fn add_near(
 
 // Adds the listeners at the path, above it and below it.
 fn add_met(
-    found: &mut BTreeSet<Listener>,
+    found: &mut Vec<Listener>,
     alloc: Global,
     places: &BTreeSet<Place>,
     path: &Path,
 ) -> Result<(), AllocError>
-    ensures kept { OnOk result ((l : Listener) → list_any (same_listener l) found.old.keys ≡ true
-        → list_any (same_listener l) found.new.keys ≡ true) }
+    ensures kept { OnOk result ((l : Listener) → list_any (same_listener l) found.old.items ≡ true
+        → list_any (same_listener l) found.new.items ≡ true) }
     ensures met { OnOk result ((l : Listener) → meet path.now l.path ≡ true
         → list_any (is_place_of l) places.now.keys ≡ true
-        → list_any (same_listener l) found.new.keys ≡ true) }
+        → list_any (same_listener l) found.new.items ≡ true) }
 {
     add_near(found, alloc, places, path.copy(alloc)?, Reach::Below)?;
     for len in 0..path.len() {
@@ -134,22 +135,25 @@ fn add_met(
     Ok(())
 }
 
-// The listeners whose places the writes touch, all of them.
+// The listeners whose places the writes touch, all of them, each once and in order.
 pub(crate) fn met(
     alloc: Global,
     places: &BTreeSet<Place>,
     writes: &[Basic],
-) -> Result<BTreeSet<Listener>, AllocError>
-    ensures { IfOk result (λ found. (l : Listener) → is_touched writes.now l.path ≡ true
+) -> Result<Vec<Listener>, AllocError>
+    ensures ordered { IfOk result (λ found. IsStrictlySortedBy listener_cmp found.items) }
+    ensures all { IfOk result (λ found. (l : Listener) → is_touched writes.now l.path ≡ true
         → list_any (is_place_of l) places.now.keys ≡ true
-        → list_any (same_listener l) found.keys ≡ true) }
+        → list_any (same_listener l) found.items ≡ true) }
 {
-    let mut found = BTreeSet::new(alloc);
+    let mut found = Vec::new(alloc);
     if places.is_empty() {
         return Ok(found);
     }
     for write in writes {
         add_met(&mut found, alloc, places, write.path())?;
     }
+    found.sort_unstable();
+    found.dedup();
     Ok(found)
 }

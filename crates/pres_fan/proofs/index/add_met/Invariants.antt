@@ -3,4 +3,4 @@ use Rattle.pres_fan.proofs.index.add_met.Given as goal
 
 -- the paths of fewer of its first keys were searched
 abbrev pub invariant-loop-len : goal.invariant-loop-len
-invariant-loop-len l = Above l.path l.places.keys l.len l.fn.found.keys l.found.keys
+invariant-loop-len l = Above l.path l.places.keys l.len l.fn.found.items l.found.items

@@ -10,8 +10,8 @@ loop-place-init c =
     let places = c.args.places.now.keys in
     let from : c.into_iter-place-iterator.result ≡ filter (range_contains place_cmp (Included (start c.args.path)) Unbounded) places =
     c.into_iter-place-iterator.ensures.into_iter_gives ∙ c.range-place-items.ensures.between tt in (
-      subst (λ rest. Search c.args.reach c.args.path places rest c.args.found.now.keys) (sym from)
-          (search_begun c.args.reach c.args.path places c.args.found.now.keys c.range-place-items.ensures.ordered),
+      subst (λ rest. Search c.args.reach c.args.path places rest c.args.found.now.items) (sym from)
+          (search_begun c.args.reach c.args.path places c.args.found.now.items c.range-place-items.ensures.ordered),
       λ m h. h,
     )
 
@@ -20,13 +20,13 @@ returns-then-not-reaches-clause-kept c = c.loop-place.invariant.1
 
 pub returns-then-not-reaches-clause-near : goal.returns-then-not-reaches-clause-near
 returns-then-not-reaches-clause-near c =
-    search_stops c.args.reach c.args.path c.args.places.now.keys c.in-Some.place.now c.next.new.self c.loop-place.found.keys (sym c.if-not-reaches.ensures)
-    (subst (λ rest. Search c.args.reach c.args.path c.args.places.now.keys rest c.loop-place.found.keys) c.in-Some.ensures.steps c.loop-place.invariant.0)
+    search_stops c.args.reach c.args.path c.args.places.now.keys c.in-Some.place.now c.next.new.self c.loop-place.found.items (sym c.if-not-reaches.ensures)
+    (subst (λ rest. Search c.args.reach c.args.path c.args.places.now.keys rest c.loop-place.found.items) c.in-Some.ensures.steps c.loop-place.invariant.0)
 
 pub loop-place-preserved : goal.loop-place-preserved
 loop-place-preserved c = (
-  search_goes_on c.args.reach c.args.path c.args.places.now.keys c.in-Some.place.now c.next.new.self c.loop-place.found.keys c.add_one.new.found.keys c.in_ok-add_one.ensures.kept c.in_ok-add_one.ensures.found
-      (subst (λ rest. Search c.args.reach c.args.path c.args.places.now.keys rest c.loop-place.found.keys) c.in-Some.ensures.steps c.loop-place.invariant.0),
+  search_goes_on c.args.reach c.args.path c.args.places.now.keys c.in-Some.place.now c.next.new.self c.loop-place.found.items c.add_one.new.found.items c.in_ok-add_one.ensures.kept c.in_ok-add_one.ensures.found
+      (subst (λ rest. Search c.args.reach c.args.path c.args.places.now.keys rest c.loop-place.found.items) c.in-Some.ensures.steps c.loop-place.invariant.0),
   λ m h. c.in_ok-add_one.ensures.kept m (c.loop-place.invariant.1 m h),
 )
 
@@ -35,5 +35,5 @@ returns-clause-kept c = c.loop-place.invariant.1
 
 pub returns-clause-near : goal.returns-clause-near
 returns-clause-near c =
-    search_ends c.args.reach c.args.path c.args.places.now.keys c.loop-place.found.keys
-    (subst (λ rest. Search c.args.reach c.args.path c.args.places.now.keys rest c.loop-place.found.keys) c.in-None.ensures.steps.0 c.loop-place.invariant.0)
+    search_ends c.args.reach c.args.path c.args.places.now.keys c.loop-place.found.items
+    (subst (λ rest. Search c.args.reach c.args.path c.args.places.now.keys rest c.loop-place.found.items) c.in-None.ensures.steps.0 c.loop-place.invariant.0)

@@ -8,5 +8,5 @@ use Rattle.pres_fan.proofs.index.add_near.Given as goal
 -- the search has come as far as the places that are left, and nobody who was found before is lost
 abbrev pub invariant-loop-place : goal.invariant-loop-place
 invariant-loop-place l =
-    Search l.reach l.fn.path l.places.keys l.place-iterator l.found.keys
-    × ((m : Listener) → list_any (same_listener m) l.fn.found.keys ≡ true → list_any (same_listener m) l.found.keys ≡ true)
+    Search l.reach l.fn.path l.places.keys l.place-iterator l.found.items
+    × ((m : Listener) → list_any (same_listener m) l.fn.found.items ≡ true → list_any (same_listener m) l.found.items ≡ true)
