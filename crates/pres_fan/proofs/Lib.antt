@@ -1,7 +1,6 @@
 pub mod Orders
 pub mod Lists
 pub mod Places
-pub mod Prefixes
 pub mod Searches
 pub mod Members
 pub mod Rows

@@ -1,32 +1,31 @@
 -- Listeners that are members of lists in order, and their places.
-use Rattle.std.proofs.Common.{refl, sym, ◌∙◌, ap, subst, ◌≡◌, arith, length, List, [], ◌∷◌, filter, Bool, true, false, not, cond, ◌&&◌, ◌||◌, true≢false, Option, Some, None, Ordering, Less, Equal, Greater, is_eq, is_lt, ◌⊎◌, inl, inr}
+use Rattle.std.proofs.Common.{refl, sym, ◌∙◌, ap, subst, ◌≡◌, arith, length, List, [], ◌∷◌, filter, Bool, true, false, not, cond, ◌||◌, true≢false, Option, Some, None, Ordering, Less, Equal, Greater, is_eq, is_lt, ◌⊎◌, inl, inr}
 use Rattle.std.specs.List.{list_any, AllByRecursion, dedup, dedup_from}
 use Rattle.std.specs.List.Sorted.{IsPermutation, IsSorted, IsStrictlySortedBy}
 use Rattle.std.specs.BTreeSet.{insert_key}
 use Rattle.std.specs.Option.{option_cmp}
 use Rattle.std.specs.Ordering.{match_ordering, ordering_reverse}
 use Rattle.std.specs.Cmp.{tied_itself, both_ways}
-use Rattle.std.proofs.lemmas.Bool.{or_cases, or_left, or_right, and_parts, and_from}
+use Rattle.std.proofs.lemmas.Bool.{or_cases, or_parts, or_left, or_right}
 use Rattle.std.proofs.lemmas.List.Kept.{IsStrictlySortedBy-filter, IsStrictlySortedBy-dedup}
 use Rattle.std.proofs.lemmas.List.Sorted.{list_any-IsPermutation}
 use Rattle.std.proofs.lemmas.Map.Keys.{sorted_head, sorted_tail}
-use Rattle.pres_tree.specs.Paths.{Path, path_cmp, same_path}
+use Rattle.pres_tree.specs.Paths.{path_cmp}
 use Rattle.pres_tree.specs.Falls.{path_same as path_apart}
-use Rattle.pres_tree.proofs.PathOrder.{path_itself}
 use Rattle.pres_write.specs.Basics.{BasicWrite}
 use Rattle.pres_ids.specs.Ids.{same_session}
 use Rattle.pres_ids.specs.declared.id.SessionId.{SessionId}
 use Rattle.pres_fan.specs.declared.listeners.Listener.{Listener}
 use Rattle.pres_fan.specs.declared.index.Place.{Place}
-use Rattle.pres_fan.specs.Listeners.{session_cmp, listener_cmp, same_listener, listener_of, is_touched, IsListeners}
-use Rattle.pres_fan.specs.Places.{place_cmp, is_this, is_place_of, HavePlaces}
-use Rattle.pres_fan.proofs.Orders.{then_ties, session_apart, session_itself, listener_total, listener_apart, listener_same, listener_itself}
-use Rattle.pres_fan.proofs.Lists.{passes, all_filtered, all_then, all_both, any_under}
+use Rattle.pres_fan.specs.Listeners.{session_cmp, listener_cmp, same_listener, is_touched, IsListeners}
+use Rattle.pres_fan.specs.Places.{place_cmp, is_this, is_place_of, HavePlaces, AreListened, ArePlacesOf}
+use Rattle.pres_fan.proofs.Orders.{then_ties, session_apart, listener_total, listener_apart, listener_same, listener_itself}
+use Rattle.pres_fan.proofs.Lists.{passes, all_filtered, all_then, all_both, filter_all, any_under}
 use Rattle.pres_fan.proofs.Searches.{tie, put_keeps, put_has, placed, not_placed, FindsTouched}
 
 -- ---- two lists of listeners in order with the same members are one
 
-all_any : (P : Listener → Type 0) (l : Listener) (ls : List Listener) → AllByRecursion P ls → list_any (same_listener l) ls ≡ true → P l
+pub all_any : (P : Listener → Type 0) (l : Listener) (ls : List Listener) → AllByRecursion P ls → list_any (same_listener l) ls ≡ true → P l
 all_any P l [] a h = absurd (true≢false (sym h))
 all_any P l (x ∷ xs) a h = by (or_cases (same_listener l x) (list_any (same_listener l) xs) h) (all_any P l xs a.1) where
   by : (same_listener l x ≡ true) ⊎ (list_any (same_listener l) xs ≡ true) → (list_any (same_listener l) xs ≡ true → P l) → P l
@@ -91,17 +90,17 @@ have_more x ls ps h = all_then (λ l. list_any (is_place_of l) ps ≡ true) (λ 
 pub has_place : (l : Listener) (x : Place) (ps : List Place) → is_place_of l x ≡ true → list_any (is_place_of l) (insert_key place_cmp ps x) ≡ true
 has_place l x ps e = put_has place_cmp x (is_place_of l) e (λ y k. ap (is_place_of l) (sym (place_apart x y k)) ∙ e) ps
 
-all_put : (P : Listener → Type 0) (k : Listener) → P k → (ls : List Listener) → AllByRecursion P ls → AllByRecursion P (insert_key listener_cmp ls k)
-all_put P k one [] a = (one, tt)
-all_put P k one (x ∷ xs) a = by (listener_cmp k x) (all_put P k one xs a.1) where
-  by : (o : Ordering) → AllByRecursion P (insert_key listener_cmp xs k) → AllByRecursion P (match_ordering o (k ∷ x ∷ xs) (x ∷ xs) (x ∷ insert_key listener_cmp xs k))
+all_put : {A : Type 0} (cmp : A → A → Ordering) (P : A → Type 0) (k : A) → P k → (xs : List A) → AllByRecursion P xs → AllByRecursion P (insert_key cmp xs k)
+all_put cmp P k one [] a = (one, tt)
+all_put {A} cmp P k one (x ∷ xs) a = by (cmp k x) (all_put cmp P k one xs a.1) where
+  by : (o : Ordering) → AllByRecursion P (insert_key cmp xs k) → AllByRecursion P (match_ordering o (k ∷ x ∷ xs) (x ∷ xs) (x ∷ insert_key cmp xs k))
   by Less h = (one, a)
   by Equal h = a
   by Greater h = (a.0, h)
 
 -- one listener more, whose place is there
 pub have_with : (k : Listener) (ls : List Listener) (ps : List Place) → list_any (is_place_of k) ps ≡ true → HavePlaces ls ps → HavePlaces (insert_key listener_cmp ls k) ps
-have_with k ls ps one h = all_put (λ l. list_any (is_place_of l) ps ≡ true) k one ls h
+have_with k ls ps one h = all_put listener_cmp (λ l. list_any (is_place_of l) ps ≡ true) k one ls h
 
 -- fewer of both, where no place of one who stays is gone
 pub have_fewer : (p : Listener → Bool) (q : Place → Bool) → ((l : Listener) (x : Place) → p l ≡ true → is_place_of l x ≡ true → q x ≡ true) →
@@ -118,9 +117,6 @@ one_of k l x e f = by x.session refl where
   by None h = absurd (true≢false (not_placed k x h e))
   by (Some s) h = sym (placed k x s h e) ∙ placed l x s h f
 
-pub placed_at : (s : SessionId) (p : Path) (x : Place) → x.path ≡ p → x.session ≡ Some s → is_place_of (listener_of s p) x ≡ true
-placed_at s p x e f = and_from _ _ (ap (same_path p) e ∙ path_itself p) (ap (is_this s) f ∙ session_itself s)
-
 -- who listens on keeps the place where one listener goes
 pub off_stays : (k l : Listener) (x : Place) → not (same_listener k l) ≡ true → is_place_of l x ≡ true → not (is_place_of k x) ≡ true
 off_stays k l x h e = elim (is_place_of k x) as (λ b. is_place_of k x ≡ b → not b ≡ true) [
@@ -135,10 +131,74 @@ drop_stays s l x h e = by x.session refl where
   by None f = refl
   by (Some t) f = ap (λ m. not (same_session s m.session)) (placed l x t f e) ∙ h
 
--- ---- those found are all that writes touch
+-- ---- each place is a listener's
 
-abbrev pub picks : List BasicWrite → List Listener → Listener → Bool
-picks writes ls l = is_touched writes l.path && list_any (same_listener l) ls
+-- one place more, and its listener
+pub are_with : (k : Listener) (x : Place) (ls : List Listener) (ps : List Place) → is_place_of k x ≡ true → AreListened ps ls → AreListened (insert_key place_cmp ps x) (insert_key listener_cmp ls k)
+are_with k x ls ps e h =
+    all_put place_cmp (λ y. list_any (λ l. is_place_of l y) (insert_key listener_cmp ls k) ≡ true) x
+    (put_has listener_cmp k (λ l. is_place_of l x) e (λ y t. ap (λ m. is_place_of m x) (sym (listener_apart k y t)) ∙ e) ls) ps
+    (all_then (λ y. list_any (λ l. is_place_of l y) ls ≡ true) (λ y. list_any (λ l. is_place_of l y) (insert_key listener_cmp ls k) ≡ true) (λ y f. put_keeps listener_cmp k (λ l. is_place_of l y) ls f) ps h)
+
+-- the place is taken back, since its listener could not be added
+pub are_back : (k : Listener) (x : Place) (ls : List Listener) (ps : List Place) → is_place_of k x ≡ true → AreListened ps ls → AreListened (filter (λ y. not (is_place_of k y)) (insert_key place_cmp ps x)) ls
+are_back k x ls ps e h =
+    all_both Either (λ y. not (is_place_of k y) ≡ true) (λ y. list_any (λ l. is_place_of l y) ls ≡ true) stays (filter (λ y. not (is_place_of k y)) (insert_key place_cmp ps x))
+    (all_filtered Either (λ y. not (is_place_of k y)) (insert_key place_cmp ps x) (all_put place_cmp Either x (inr e) ps (all_then (λ y. list_any (λ l. is_place_of l y) ls ≡ true) Either (λ y f. inl f) ps h)))
+    (passes (λ y. not (is_place_of k y)) (insert_key place_cmp ps x))
+  where
+    Either : Place → Type 0
+    Either y = (list_any (λ l. is_place_of l y) ls ≡ true) ⊎ (is_place_of k y ≡ true)
+
+    stays : (y : Place) → Either y → not (is_place_of k y) ≡ true → list_any (λ l. is_place_of l y) ls ≡ true
+    stays y (inl f) g = f
+    stays y (inr f) g = absurd (true≢false (sym g ∙ ap not f))
+
+none_same : (k : Listener) (ls : List Listener) → list_any (same_listener k) ls ≡ false → AllByRecursion (λ l. not (same_listener k l) ≡ true) ls
+none_same k [] h = tt
+none_same k (l ∷ ls) h = let each = or_parts (same_listener k l) _ h in (ap not each.0, none_same k ls each.1)
+
+pub have_back : (k : Listener) (x : Place) (ls : List Listener) (ps : List Place) → list_any (same_listener k) ls ≡ false → HavePlaces ls ps → HavePlaces ls (filter (λ y. not (is_place_of k y)) (insert_key place_cmp ps x))
+have_back k x ls ps new h =
+    subst (λ ms. HavePlaces ms (filter (λ y. not (is_place_of k y)) (insert_key place_cmp ps x))) (filter_all (λ l. not (same_listener k l)) ls (none_same k ls new))
+    (have_fewer (λ l. not (same_listener k l)) (λ y. not (is_place_of k y)) (off_stays k) ls (insert_key place_cmp ps x) (have_more x ls ps h))
+
+-- fewer of both, where nobody goes whose place stays
+pub are_fewer : (p : Listener → Bool) (q : Place → Bool) → ((l : Listener) (x : Place) → q x ≡ true → is_place_of l x ≡ true → p l ≡ true) →
+    (ls : List Listener) (ps : List Place) → AreListened ps ls → AreListened (filter q ps) (filter p ls)
+are_fewer p q stays ls ps h =
+    all_both (λ x. list_any (λ l. is_place_of l x) ls ≡ true) (λ x. q x ≡ true) (λ x. list_any (λ l. is_place_of l x) (filter p ls) ≡ true)
+    (λ x e k. any_under (λ l. is_place_of l x) p (λ l f. stays l x k f) ls ∙ e) (filter q ps)
+    (all_filtered (λ x. list_any (λ l. is_place_of l x) ls ≡ true) q ps h) (passes q ps)
+
+pub off_goes : (k l : Listener) (x : Place) → not (is_place_of k x) ≡ true → is_place_of l x ≡ true → not (same_listener k l) ≡ true
+off_goes k l x h e = elim (same_listener k l) as (λ b. same_listener k l ≡ b → not b ≡ true) [
+  | true ↦ λ f. absurd (true≢false (sym h ∙ ap (λ m. not (is_place_of m x)) (listener_same k l f) ∙ ap not e))
+  | false ↦ λ f. refl
+] refl
+
+pub drop_goes : (s : SessionId) (l : Listener) (x : Place) → not (is_this s x.session) ≡ true → is_place_of l x ≡ true → not (same_session s l.session) ≡ true
+drop_goes s l x h e = by x.session refl h where
+  by : (o : Option SessionId) → x.session ≡ o → not (is_this s o) ≡ true → not (same_session s l.session) ≡ true
+  by None f g = absurd (true≢false (not_placed l x f e))
+  by (Some t) f g = ap (λ m. not (same_session s m.session)) (sym (placed l x t f e)) ∙ g
+
+any_then : (p q : Listener → Bool) → ((l : Listener) → p l ≡ true → q l ≡ true) → (ls : List Listener) → list_any p ls ≡ true → list_any q ls ≡ true
+any_then p q f [] h = h
+any_then p q f (l ∷ ls) h = by (or_cases (p l) (list_any p ls) h) (any_then p q f ls) where
+  by : (p l ≡ true) ⊎ (list_any p ls ≡ true) → (list_any p ls ≡ true → list_any q ls ≡ true) → (q l || list_any q ls) ≡ true
+  by (inl e) g = or_left (q l) _ (f l e)
+  by (inr e) g = or_right (q l) _ (g e)
+
+-- whose place is there listens
+listens : (l : Listener) (ls : List Listener) (ps : List Place) → AreListened ps ls → list_any (is_place_of l) ps ≡ true → list_any (same_listener l) ls ≡ true
+listens l ls [] a h = absurd (true≢false (sym h))
+listens l ls (x ∷ ps) a h = by (or_cases (is_place_of l x) (list_any (is_place_of l) ps) h) (listens l ls ps a.1) where
+  by : (is_place_of l x ≡ true) ⊎ (list_any (is_place_of l) ps ≡ true) → (list_any (is_place_of l) ps ≡ true → list_any (same_listener l) ls ≡ true) → list_any (same_listener l) ls ≡ true
+  by (inl e) f = any_then (λ m. is_place_of m x) (same_listener l) (λ m g. ap (same_listener l) (sym (one_of l m x e g)) ∙ listener_itself l) ls a.0
+  by (inr e) f = f e
+
+-- ---- those found are all that writes touch
 
 in_filter : (p : Listener → Bool) (l : Listener) (ls : List Listener) → p l ≡ true → list_any (same_listener l) ls ≡ true → list_any (same_listener l) (filter p ls) ≡ true
 in_filter p l ls e h = any_under (same_listener l) p (λ x k. ap p (sym (listener_same l x k)) ∙ e) ls ∙ h
@@ -156,16 +216,13 @@ of_filter p l ls h = (all_any (λ m. p m ≡ true) l (filter p ls) (passes p ls)
     by true e f = later (or_cases (same_listener l m) (list_any (same_listener l) (filter p ms)) e) f
     by false e f = or_right (same_listener l m) _ (f e)
 
-pub picks_touched : (writes : List BasicWrite) (ls found : List Listener) (ps : List Place) → IsListeners ls → HavePlaces ls ps → IsStrictlySortedBy listener_cmp found → FindsTouched writes ps found →
-    filter (picks writes ls) found ≡ filter (λ l. is_touched writes l.path) ls
-picks_touched writes ls found ps held have sorted finds =
-    same_members (filter (picks writes ls) found) (filter touches ls)
-    (IsStrictlySortedBy-filter listener_cmp (picks writes ls) found sorted) (IsStrictlySortedBy-filter listener_cmp touches ls held.ordered)
-    (λ l h. let both = and_parts (touches l) _ (of_filter (picks writes ls) l found h).0 in in_filter touches l ls both.0 both.1)
-    (λ l h.
-    let is = of_filter touches l ls h in
-    let place = all_any (λ k. list_any (is_place_of k) ps ≡ true) l ls have is.1 in
-    in_filter (picks writes ls) l found (and_from (touches l) _ is.0 is.1) (finds l is.0 place))
+pub found_touched : (writes : List BasicWrite) (ls found : List Listener) (ps : List Place) → IsListeners ls → ArePlacesOf ls ps → IsStrictlySortedBy listener_cmp found → FindsTouched writes ps found →
+    ((l : Listener) → list_any (same_listener l) found ≡ true → (is_touched writes l.path ≡ true) × (list_any (is_place_of l) ps ≡ true)) →
+    found ≡ filter (λ l. is_touched writes l.path) ls
+found_touched writes ls found ps held are sorted finds only =
+    same_members found (filter touches ls) sorted (IsStrictlySortedBy-filter listener_cmp touches ls held.ordered)
+    (λ l h. let is = only l h in in_filter touches l ls is.0 (listens l ls ps are.1 is.1))
+    (λ l h. let is = of_filter touches l ls h in finds l is.0 (all_any (λ k. list_any (is_place_of k) ps ≡ true) l ls are.0 is.1))
   where
     touches : Listener → Bool
     touches l = is_touched writes l.path
@@ -173,10 +230,6 @@ picks_touched writes ls found ps held have sorted finds =
 pub nothing_left : (ls : List Listener) → length ls ≡ 0 → ls ≡ []
 nothing_left [] h = refl
 nothing_left (l ∷ ls) h = absurd (omega (arith, h))
-
-pub and_second : (a b : Bool) → b ≡ false → (a && b) ≡ false
-and_second true b h = h
-and_second false b h = refl
 
 -- the order ties what is equal
 pub ties : (l k : Listener) → is_eq (listener_cmp l k) ≡ same_listener l k
@@ -215,10 +268,38 @@ pub none_ordered : IsStrictlySortedBy listener_cmp []
 unfolding IsStrictlySortedBy
 none_ordered = tt
 
-pub tidied : (same : Listener → Listener → Bool) → ((k l : Listener) → same k l ≡ same_listener k l) → (xs ys zs : List Listener) → IsPermutation xs ys → IsSorted listener_cmp ys → zs ≡ dedup same ys →
-    IsStrictlySortedBy listener_cmp zs × ((l : Listener) → list_any (same_listener l) xs ≡ true → list_any (same_listener l) zs ≡ true)
+once_back : (l k : Listener) (xs : List Listener) → list_any (same_listener l) (dedup_from same_listener k xs) ≡ true → list_any (same_listener l) (k ∷ xs) ≡ true
+once_back l k [] h = h
+once_back l k (x ∷ xs) h = by (same_listener x k) h (once_back l k xs) (once_back l x xs) where
+  one : (same_listener l k ≡ true) ⊎ (list_any (same_listener l) xs ≡ true) → list_any (same_listener l) (k ∷ x ∷ xs) ≡ true
+  one (inl e) = or_left (same_listener l k) _ e
+  one (inr e) = or_right (same_listener l k) _ (or_right (same_listener l x) _ e)
+
+  two : (same_listener l k ≡ true) ⊎ (list_any (same_listener l) (dedup_from same_listener x xs) ≡ true) → (list_any (same_listener l) (dedup_from same_listener x xs) ≡ true → list_any (same_listener l) (x ∷ xs) ≡ true) → list_any (same_listener l) (k ∷ x ∷ xs) ≡ true
+  two (inl e) f = or_left (same_listener l k) _ e
+  two (inr e) f = or_right (same_listener l k) _ (f e)
+
+  by : (b : Bool) → list_any (same_listener l) (cond b (dedup_from same_listener k xs) (k ∷ dedup_from same_listener x xs)) ≡ true →
+      (list_any (same_listener l) (dedup_from same_listener k xs) ≡ true → list_any (same_listener l) (k ∷ xs) ≡ true) → (list_any (same_listener l) (dedup_from same_listener x xs) ≡ true → list_any (same_listener l) (x ∷ xs) ≡ true) →
+      list_any (same_listener l) (k ∷ x ∷ xs) ≡ true
+  by true e f g = one (or_cases (same_listener l k) _ (f e))
+  by false e f g = two (or_cases (same_listener l k) _ e) g
+
+was_there : (l : Listener) (xs : List Listener) → list_any (same_listener l) (dedup same_listener xs) ≡ true → list_any (same_listener l) xs ≡ true
+was_there l [] h = h
+was_there l (x ∷ xs) h = once_back l x xs h
+
+-- sorted, and each once: in order, with the same members
+pub record Tidied (xs zs : List Listener) : Type 0 where
+  pub ordered : IsStrictlySortedBy listener_cmp zs
+  pub kept : (l : Listener) → list_any (same_listener l) xs ≡ true → list_any (same_listener l) zs ≡ true
+  pub only : (l : Listener) → list_any (same_listener l) zs ≡ true → list_any (same_listener l) xs ≡ true
+
+pub tidied : (same : Listener → Listener → Bool) → ((k l : Listener) → same k l ≡ same_listener k l) → (xs ys zs : List Listener) → IsPermutation xs ys → IsSorted listener_cmp ys → zs ≡ dedup same ys → Tidied xs zs
 tidied same agree xs ys zs moved sorted is =
-    let each_once : zs ≡ dedup same_listener ys = is ∙ (λ i. dedup (λ k l. agree k l i) ys) in (
-      subst (IsStrictlySortedBy listener_cmp) (sym each_once) (IsStrictlySortedBy-dedup listener_total (λ k l. sym (ties k l)) ys sorted),
-      λ l h. subst (λ ms. list_any (same_listener l) ms ≡ true) (sym each_once) (once l ys (sym (list_any-IsPermutation (same_listener l) xs ys moved) ∙ h)),
-    )
+    let each_once : zs ≡ dedup same_listener ys = is ∙ (λ i. dedup (λ k l. agree k l i) ys) in
+    record {
+      ordered = subst (IsStrictlySortedBy listener_cmp) (sym each_once) (IsStrictlySortedBy-dedup listener_total (λ k l. sym (ties k l)) ys sorted);
+      kept = λ l h. subst (λ ms. list_any (same_listener l) ms ≡ true) (sym each_once) (once l ys (sym (list_any-IsPermutation (same_listener l) xs ys moved) ∙ h));
+      only = λ l h. list_any-IsPermutation (same_listener l) xs ys moved ∙ was_there l ys (subst (λ ms. list_any (same_listener l) ms ≡ true) each_once h);
+    }

@@ -6,7 +6,6 @@ use Rattle.std.specs.List.Sorted.{IsStrictlySortedBy}
 use Rattle.std.specs.FinMap.Entries.{find, is_sorted, below_all}
 use Rattle.std.proofs.lemmas.Bool.{not-true, and_from}
 use Rattle.std.proofs.lemmas.List.{length_push, get_or_push, set_at, set-get_or}
-use Rattle.std.proofs.lemmas.List.Elements.{filter-append}
 use Rattle.std.proofs.lemmas.List.Kept.{IsStrictlySortedBy-filter}
 use Rattle.std.proofs.lemmas.Map.Keys.{sorted_tail}
 use Rattle.pres_tree.specs.Paths.{Path, path_cmp}
@@ -212,46 +211,29 @@ one_more_row l rows new is before sorted e =
     ∙ sym (added_later [] before l)
     ∙ rows_of (before ++ l ∷ []) sorted
 
--- ---- the rows of those of some first listeners of a list that a test picks
+-- ---- the rows of some first listeners of a list
 
-pub record Made (test : Listener → Bool) (whole : List Listener) (rows : List Row) (rest : List Listener) : Type 0 where
+pub record Made (whole : List Listener) (rows : List Row) (rest : List Listener) : Type 0 where
   pub done : List Listener
   pub whole_is : whole ≡ done ++ rest
-  pub rows_are : rows ≡ by_session (filter test done)
+  pub rows_are : rows ≡ by_session done
 
-pub made_none : (test : Listener → Bool) (whole rest : List Listener) → whole ≡ rest → Made test whole [] rest
-made_none test whole rest is = record { done = []; whole_is = is; rows_are = refl }
+pub made_none : (whole : List Listener) → Made whole [] whole
+made_none whole = record { done = []; whole_is = refl; rows_are = refl }
 
--- those that are picked, where one listener comes behind
-hits_later : (test : Listener → Bool) (ls : List Listener) (l : Listener) (b : Bool) → test l ≡ b → filter test (ls ++ l ∷ []) ≡ filter test ls ++ cond b (l ∷ []) []
-hits_later test ls l b e = filter-append test ls (l ∷ []) ∙ ap (λ c. filter test ls ++ cond c (l ∷ []) []) e
-
-pub made_past : (test : Listener → Bool) (whole : List Listener) (rows : List Row) (l : Listener) (rest : List Listener) → test l ≡ false → Made test whole rows (l ∷ rest) → Made test whole rows rest
-made_past test whole rows l rest e made = record {
-  done = made.done ++ l ∷ [];
-  whole_is = made.whole_is ∙ sym (append_assoc made.done (l ∷ []) rest);
-  rows_are = made.rows_are ∙ sym (ap by_session (hits_later test made.done l false e ∙ append-nil (filter test made.done)));
-}
-
-pub made_more : (test : Listener → Bool) (whole : List Listener) (rows new : List Row) (l : Listener) (rest : List Listener) → IsStrictlySortedBy listener_cmp whole → test l ≡ true →
+pub made_more : (whole : List Listener) (rows new : List Row) (l : Listener) (rest : List Listener) → IsStrictlySortedBy listener_cmp whole →
     ((before : List Listener) → IsStrictlySortedBy listener_cmp (before ++ l ∷ []) → rows ≡ by_session before → new ≡ by_session (before ++ l ∷ [])) →
-    Made test whole rows (l ∷ rest) → Made test whole new rest
-made_more test whole rows new l rest ordered e more made =
+    Made whole rows (l ∷ rest) → Made whole new rest
+made_more whole rows new l rest ordered more made =
     let whole_is : whole ≡ (made.done ++ l ∷ []) ++ rest = made.whole_is ∙ sym (append_assoc made.done (l ∷ []) rest) in
-    let hits = hits_later test made.done l true e in
-    let sorted : IsStrictlySortedBy listener_cmp (made.done ++ l ∷ []) = sorted_before (made.done ++ l ∷ []) rest (subst (IsStrictlySortedBy listener_cmp) whole_is ordered) in
     record {
       done = made.done ++ l ∷ [];
       whole_is = whole_is;
-      rows_are =
-          more (filter test made.done)
-          (subst (IsStrictlySortedBy listener_cmp) hits (IsStrictlySortedBy-filter listener_cmp test (made.done ++ l ∷ []) sorted))
-          made.rows_are
-          ∙ sym (ap by_session hits);
+      rows_are = more made.done (sorted_before (made.done ++ l ∷ []) rest (subst (IsStrictlySortedBy listener_cmp) whole_is ordered)) made.rows_are;
     }
 
-pub made_all : (test : Listener → Bool) (whole : List Listener) (rows : List Row) → Made test whole rows [] → rows ≡ by_session (filter test whole)
-made_all test whole rows made = made.rows_are ∙ ap (λ ls. by_session (filter test ls)) (sym (made.whole_is ∙ append-nil made.done))
+pub made_all : (whole : List Listener) (rows : List Row) → Made whole rows [] → rows ≡ by_session whole
+made_all whole rows made = made.rows_are ∙ ap by_session (sym (made.whole_is ∙ append-nil made.done))
 
 -- ---- what the rows tell
 

@@ -1,5 +1,5 @@
 -- The listeners that a search in path order finds.
-use Rattle.std.proofs.Common.{refl, sym, ◌∙◌, ap, ◌≡◌, ℕ, ◌<◌, ◌≤◌, ◌+◌, arith, length, take, List, [], ◌∷◌, ◌++◌, filter, Bool, true, false, cond, ◌||◌, true≢false, Option, Some, None, is_some, Ordering, Less, Equal, Greater, is_eq, is_gt, ◌⊎◌, inl, inr}
+use Rattle.std.proofs.Common.{refl, sym, ◌∙◌, ap, ◌≡◌, ℕ, ◌<◌, ◌≤◌, ◌+◌, zero, suc, arith, length, take, List, [], ◌∷◌, ◌++◌, filter, Bool, true, false, cond, ◌||◌, true≢false, Option, Some, None, is_some, Ordering, Less, Equal, Greater, is_eq, is_gt, ◌⊎◌, inl, inr}
 use Rattle.std.specs.Prelude.{nat_lt}
 use Rattle.std.specs.List.{list_any, AllByRecursion}
 use Rattle.std.specs.List.Sorted.{IsStrictlySortedBy}
@@ -9,6 +9,7 @@ use Rattle.std.specs.declared.ops.Bound.TheVariants.{Included, Unbounded}
 use Rattle.std.specs.Option.{option_cmp}
 use Rattle.std.specs.Ordering.{match_ordering, ordering_then, is_le}
 use Rattle.std.specs.Cmp.{tied_itself}
+use Rattle.std.specs.Cmp.Lexicographic.{nat_list_cmp_total}
 use Rattle.std.proofs.lemmas.Bool.{or_cases, or_left, or_right, and_parts, and_from, false_from_ne_true, ltb-true, ltb-false}
 use Rattle.std.proofs.lemmas.List.{take_all}
 use Rattle.std.proofs.lemmas.List.Folds.{list_any-append}
@@ -28,8 +29,8 @@ use Rattle.pres_fan.specs.declared.index.Reach.{Reach}
 use Rattle.pres_fan.specs.declared.index.Reach.TheVariants.{At, Below}
 use Rattle.pres_fan.specs.Listeners.{session_cmp, same_listener, listener_of, is_touched}
 use Rattle.pres_fan.specs.Places.{place_cmp, reaches, is_this, is_place_of}
-use Rattle.pres_fan.proofs.Lists.{all_then, passes, any_none, any_under}
-use Rattle.pres_fan.proofs.Orders.{session_same, listener_itself}
+use Rattle.pres_fan.proofs.Lists.{all_then, all_filtered, passes, any_none, any_under}
+use Rattle.pres_fan.proofs.Orders.{session_same, session_itself, listener_itself}
 
 -- ---- keys put in order
 
@@ -62,6 +63,10 @@ keeps_listener k l ls h = list_any-append (same_listener l) ls (k ∷ []) ∙ or
 pub has_listener : (k : Listener) (ls : List Listener) → list_any (same_listener k) (ls ++ k ∷ []) ≡ true
 has_listener k ls = list_any-append (same_listener k) ls (k ∷ []) ∙ or_right (list_any (same_listener k) ls) _ (or_left (same_listener k k) false (listener_itself k))
 
+pub all_behind : (P : Listener → Type 0) (k : Listener) (ls : List Listener) → AllByRecursion P ls → P k → AllByRecursion P (ls ++ k ∷ [])
+all_behind P k [] a one = (one, tt)
+all_behind P k (l ∷ ls) a one = (a.0, all_behind P k ls a.1 one)
+
 -- the listener whose place it is
 pub placed : (l : Listener) (x : Place) (s : SessionId) → x.session ≡ Some s → is_place_of l x ≡ true → listener_of s x.path ≡ l
 placed l x s e h =
@@ -69,6 +74,9 @@ placed l x s e h =
     let p = path_same l.path x.path a.0 in
     let t = session_same l.session s (sym (ap (is_this l.session) e) ∙ a.1) in
     λ i. record { session = sym t i; path = sym p i }
+
+pub placed_at : (s : SessionId) (p : Path) (x : Place) → x.path ≡ p → x.session ≡ Some s → is_place_of (listener_of s p) x ≡ true
+placed_at s p x e f = and_from _ _ (ap (same_path p) e ∙ path_itself p) (ap (is_this s) f ∙ session_itself s)
 
 -- a place without a session is nobody's
 pub not_placed : (l : Listener) (x : Place) → x.session ≡ None → is_place_of l x ≡ true → true ≡ false
@@ -158,11 +166,25 @@ none_behind r p x y from e l = by (later_path x y l) where
 
 -- ---- a search
 
+-- the place is one of them
+abbrev Among : List Place → Place → Type 0
+Among places x = (l : Listener) → is_place_of l x ≡ true → list_any (is_place_of l) places ≡ true
+
+all_among : (whole ps : List Place) → ((l : Listener) → list_any (is_place_of l) ps ≡ true → list_any (is_place_of l) whole ≡ true) → AllByRecursion (Among whole) ps
+all_among whole [] f = tt
+all_among whole (x ∷ ps) f = (λ l h. f l (or_left (is_place_of l x) _ h), all_among whole ps (λ l h. f l (or_right (is_place_of l x) _ h)))
+
 -- the places that a search has not come to yet, and whom it has found: of those that it reaches, each is found or left
 pub record Search (r : Reach) (p : Path) (places rest : List Place) (found : List Listener) : Type 0 where
+  pub within : AllByRecursion (Among places) rest
   pub ordered : IsStrictlySortedBy place_cmp rest
   pub from : AllByRecursion (λ x. is_le (place_cmp (start p) x) ≡ true) rest
   pub left : (l : Listener) → reaches r p l.path ≡ true → list_any (is_place_of l) places ≡ true → (list_any (is_place_of l) rest ≡ true) ⊎ (list_any (same_listener l) found ≡ true)
+
+-- a test that those before pass, and all that the search reaches, is passed by those found
+abbrev pub OnlyNear : Reach → Path → List Place → List Listener → List Listener → Type 0
+OnlyNear r p places before found = (t : Listener → Bool) → AllByRecursion (λ l. t l ≡ true) before →
+    ((l : Listener) → reaches r p l.path ≡ true → list_any (is_place_of l) places ≡ true → t l ≡ true) → AllByRecursion (λ l. t l ≡ true) found
 
 reached : (r : Reach) (p : Path) (l : Listener) (x : Place) → reaches r p l.path ≡ true → is_place_of l x ≡ true → reaches r p x.path ≡ true
 reached r p l x h e = ap (reaches r p) (sym (place_path l x e)) ∙ h
@@ -171,6 +193,7 @@ pub search_begun : (r : Reach) (p : Path) (places : List Place) (found : List Li
 search_begun r p places found sorted =
     let q = range_contains place_cmp (Included (start p)) Unbounded in
     record {
+      within = all_filtered (Among places) q places (all_among places places (λ l h. h));
       ordered = IsStrictlySortedBy-filter place_cmp q places sorted;
       from = all_then (λ x. q x ≡ true) (λ x. is_le (place_cmp (start p) x) ≡ true) (λ x h. (and_parts (is_le (place_cmp (start p) x)) _ h).0) (filter q places) (passes q places);
       left = λ l h e. inl (any_under (is_place_of l) q (λ x k. and_from _ _ (from_start p x (reach_le r p x.path (reached r p l x h k))) refl) places ∙ e);
@@ -181,6 +204,7 @@ pub search_goes_on : (r : Reach) (p : Path) (places : List Place) (x : Place) (r
     ((l : Listener) → is_place_of l x ≡ true → list_any (same_listener l) more ≡ true) →
     Search r p places (x ∷ rest) found → Search r p places rest more
 search_goes_on r p places x rest found more kept one s = record {
+  within = s.within.1;
   ordered = sorted_tail place_cmp x rest s.ordered;
   from = s.from.1;
   left = λ l h e. by l (s.left l h e);
@@ -191,6 +215,13 @@ search_goes_on r p places x rest found more kept one s = record {
     which (inl e) = inr (one l e)
     which (inr e) = inl e
   by l (inr h) = inr (kept l h)
+
+-- only what the search reaches is added at its next place
+pub search_only : (r : Reach) (p : Path) (places : List Place) (x : Place) (rest : List Place) (found before more : List Listener) → reaches r p x.path ≡ true → Search r p places (x ∷ rest) found →
+    ((t : Listener → Bool) → AllByRecursion (λ l. t l ≡ true) found → ((l : Listener) → is_place_of l x ≡ true → t l ≡ true) → AllByRecursion (λ l. t l ≡ true) more) →
+    OnlyNear r p places before found → OnlyNear r p places before more
+search_only r p places x rest found before more on s one only t all near =
+    one t (only t all near) (λ l h. near l (ap (reaches r p) (place_path l x h) ∙ on) (s.within.0 l h))
 
 -- all are found at the end of the places
 pub search_ends : (r : Reach) (p : Path) (places : List Place) (found : List Listener) → Search r p places [] found →
@@ -225,6 +256,14 @@ first_keys (k ∷ q) (l ∷ p) h =
     let rest = first_keys q p each.1 in
     (λ i. each.0 i ∷ rest.0 i, omega (arith, rest.1))
 
+take_above : (n : ℕ) (p : Path) → is_prefix (take n p) p ≡ true
+take_above zero p = refl
+take_above (suc n) [] = refl
+take_above (suc n) (k ∷ p) = ap (λ b. is_some (cond b (below (take n p) p) None)) (ap is_eq (tied_itself nat_list_cmp_total k)) ∙ take_above n p
+
+pub above_meets : (p q : Path) (n : ℕ) (x : Path) → q ≡ take n p → same_path q x ≡ true → meet p x ≡ true
+above_meets p q n x is h = or_right (is_prefix p x) _ (ap (λ y. is_prefix y p) (sym (path_same q x h) ∙ is) ∙ take_above n p)
+
 -- found so far: all at the path or below it, and at the paths of fewer of its first keys than n
 pub record Above (p : Path) (places : List Place) (n : ℕ) (before found : List Listener) : Type 0 where
   pub kept : (l : Listener) → list_any (same_listener l) before ≡ true → list_any (same_listener l) found ≡ true
@@ -236,6 +275,11 @@ pub above_begun : (p : Path) (places : List Place) (before found : List Listener
     ((l : Listener) → is_prefix p l.path ≡ true → list_any (is_place_of l) places ≡ true → list_any (same_listener l) found ≡ true) →
     Above p places 0 before found
 above_begun p places before found kept near = record { kept = kept; below = near; above = λ l k less is h. absurd (omega (arith, less)) }
+
+-- a test that those before pass, and all whose places meet the path, is passed by those found
+abbrev pub OnlyMet : Path → List Place → List Listener → List Listener → Type 0
+OnlyMet p places before found = (t : Listener → Bool) → AllByRecursion (λ l. t l ≡ true) before →
+    ((l : Listener) → meet p l.path ≡ true → list_any (is_place_of l) places ≡ true → t l ≡ true) → AllByRecursion (λ l. t l ≡ true) found
 
 pub above_goes_on : (p : Path) (places : List Place) (n : ℕ) (before found more : List Listener) (q : Path) → q ≡ take n p →
     ((l : Listener) → list_any (same_listener l) found ≡ true → list_any (same_listener l) more ≡ true) →
@@ -293,3 +337,16 @@ finds_more writes w places found more kept met f l h e =
         last : (meet w.path l.path ≡ true) ⊎ (false ≡ true) → list_any (same_listener l) more ≡ true
         last (inl g) = met l g e
         last (inr g) = absurd (true≢false (sym g))
+
+-- a test is passed by those found where all pass it whose places these writes touch
+abbrev pub OnlyTouched : List BasicWrite → List Place → List Listener → Type 0
+OnlyTouched writes places found = (t : Listener → Bool) → ((l : Listener) → is_touched writes l.path ≡ true → list_any (is_place_of l) places ≡ true → t l ≡ true) → AllByRecursion (λ l. t l ≡ true) found
+
+pub only_more : (writes : List BasicWrite) (w : BasicWrite) (places : List Place) (found more : List Listener) →
+    ((t : Listener → Bool) → AllByRecursion (λ l. t l ≡ true) found → ((l : Listener) → meet w.path l.path ≡ true → list_any (is_place_of l) places ≡ true → t l ≡ true) → AllByRecursion (λ l. t l ≡ true) more) →
+    OnlyTouched writes places found → OnlyTouched (writes ++ w ∷ []) places more
+only_more writes w places found more met only t f =
+    met t (only t (λ l h e. f l (seen l (or_left _ _ h)) e)) (λ l h e. f l (seen l (or_right (is_touched writes l.path) _ (or_left (meet w.path l.path) false h))) e)
+  where
+    seen : (l : Listener) → (is_touched writes l.path || (meet w.path l.path || false)) ≡ true → is_touched (writes ++ w ∷ []) l.path ≡ true
+    seen l h = list_any-append (λ v. meet v.path l.path) writes (w ∷ []) ∙ h

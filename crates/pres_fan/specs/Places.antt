@@ -31,6 +31,12 @@ is_this session (Some other) = same_session session other
 abbrev pub is_place_of : Listener → Place → Bool
 is_place_of listener place = same_path listener.path place.path && is_this listener.session place.session
 
--- each listener has its place among them; there may be places that nobody listens to any more
+-- the places are those of the listeners: each listener has its place among them, and each of them is a listener's
 abbrev pub HavePlaces : List Listener → List Place → Type 0
 HavePlaces listeners places = AllByRecursion (λ l. list_any (is_place_of l) places ≡ true) listeners
+
+abbrev pub AreListened : List Place → List Listener → Type 0
+AreListened places listeners = AllByRecursion (λ x. list_any (λ l. is_place_of l x) listeners ≡ true) places
+
+abbrev pub ArePlacesOf : List Listener → List Place → Type 0
+ArePlacesOf listeners places = HavePlaces listeners places × AreListened places listeners

@@ -1,8 +1,8 @@
 //! The places that are listened to, in path order: so whom a write touches is found without those
 //! that listen elsewhere.
 
-ghost use Rattle.std.specs.Prelude.{◌≡◌, true, Some, IfOk, OnOk};
-ghost use Rattle.std.specs.List.{list_any};
+ghost use Rattle.std.specs.Prelude.{◌≡◌, Bool, true, Some, IfOk, OnOk};
+ghost use Rattle.std.specs.List.{list_any, AllByRecursion};
 ghost use Rattle.std.specs.List.Sorted.{IsStrictlySortedBy};
 ghost use Rattle.pres_tree.specs.Paths.{meet};
 ghost use Rattle.pres_fan.specs.Listeners.{listener_cmp, same_listener, listener_of, is_touched};
@@ -78,6 +78,10 @@ fn add_one(found: &mut Vec<Listener>, alloc: Global, place: &Place) -> Result<()
         → list_any (same_listener l) found.new.items ≡ true) }
     ensures found { OnOk result ((l : Listener) → is_place_of l place.now ≡ true
         → list_any (same_listener l) found.new.items ≡ true) }
+    ensures only { OnOk result ((p : Listener → Bool)
+        → AllByRecursion (λ l. p l ≡ true) found.old.items
+        → ((l : Listener) → is_place_of l place.now ≡ true → p l ≡ true)
+        → AllByRecursion (λ l. p l ≡ true) found.new.items) }
 {
     if let Some(session) = &place.session {
         let session = session.copy(alloc)?;
@@ -100,6 +104,11 @@ fn add_near(
     ensures near { OnOk result ((l : Listener) → reaches reach path l.path ≡ true
         → list_any (is_place_of l) places.now.keys ≡ true
         → list_any (same_listener l) found.new.items ≡ true) }
+    ensures only { OnOk result ((p : Listener → Bool)
+        → AllByRecursion (λ l. p l ≡ true) found.old.items
+        → ((l : Listener) → reaches reach path l.path ≡ true
+        → list_any (is_place_of l) places.now.keys ≡ true → p l ≡ true)
+        → AllByRecursion (λ l. p l ≡ true) found.new.items) }
 {
     let start = Place {
         path,
@@ -126,6 +135,11 @@ fn add_met(
     ensures met { OnOk result ((l : Listener) → meet path.now l.path ≡ true
         → list_any (is_place_of l) places.now.keys ≡ true
         → list_any (same_listener l) found.new.items ≡ true) }
+    ensures only { OnOk result ((p : Listener → Bool)
+        → AllByRecursion (λ l. p l ≡ true) found.old.items
+        → ((l : Listener) → meet path.now l.path ≡ true
+        → list_any (is_place_of l) places.now.keys ≡ true → p l ≡ true)
+        → AllByRecursion (λ l. p l ≡ true) found.new.items) }
 {
     add_near(found, alloc, places, path.copy(alloc)?, Reach::Below)?;
     for len in 0..path.len() {
@@ -135,7 +149,7 @@ fn add_met(
     Ok(())
 }
 
-// The listeners whose places the writes touch, all of them, each once and in order.
+// The listeners whose places the writes touch, each once and in order.
 pub(crate) fn met(
     alloc: Global,
     places: &BTreeSet<Place>,
@@ -145,6 +159,10 @@ pub(crate) fn met(
     ensures all { IfOk result (λ found. (l : Listener) → is_touched writes.now l.path ≡ true
         → list_any (is_place_of l) places.now.keys ≡ true
         → list_any (same_listener l) found.items ≡ true) }
+    ensures only { IfOk result (λ found. (l : Listener)
+        → list_any (same_listener l) found.items ≡ true
+        → (is_touched writes.now l.path ≡ true)
+        × (list_any (is_place_of l) places.now.keys ≡ true)) }
 {
     let mut found = Vec::new(alloc);
     if places.is_empty() {

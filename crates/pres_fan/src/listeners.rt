@@ -3,8 +3,7 @@
 ghost use Rattle.std.specs.Prelude.{List, ◌≡◌, ◌↔◌, ◌<◌, ◌++◌, ◌∷◌, [], length, nat_le, IfOk, IfErr, IsErrOf, OnOk, OnErr};
 ghost use Rattle.std.specs.List.{list_any};
 ghost use Rattle.std.specs.List.Sorted.{IsStrictlySortedBy};
-ghost use Rattle.pres_tree.specs.Paths.{meet};
-ghost use Rattle.pres_fan.specs.Listeners.{most_paths, IsListeners, paths_of, listener_of, same_listener, with_listener, without, without_session, is_touched, touched, by_session, listener_cmp};
+ghost use Rattle.pres_fan.specs.Listeners.{most_paths, IsListeners, paths_of, listener_of, same_listener, with_listener, without, without_session, touched, by_session, listener_cmp};
 ghost use Rattle.pres_fan.specs.declared.fault.FanFault.TheVariants.{Full, Memory};
 ghost use Rattle.pres_fan.specs.declared.listeners.Listener.{Listener};
 
@@ -90,22 +89,21 @@ impl Touched {
 #[derive(Drop)]
 pub struct Listeners {
     listeners: BTreeSet<Listener>,
-    // Where they listen, by which those that a write touches are found. Where memory was refused, a
-    // place may stand here whose session doesn't listen to it.
+    // Where they listen, by which those that a write touches are found.
     places: BTreeSet<Place>,
 }
 
 impl Model for Listeners {
     ghost use Rattle.std.specs.Prelude.{List};
     ghost use Rattle.pres_fan.specs.Listeners.{IsListeners};
-    ghost use Rattle.pres_fan.specs.Places.{HavePlaces};
+    ghost use Rattle.pres_fan.specs.Places.{ArePlacesOf};
     ghost use Rattle.pres_fan.specs.declared.listeners.Listener.{Listener};
 
     ghost Value = { List Listener };
 
     ghost view = { λ l. l.listeners.keys };
 
-    ghost invariant = { λ l. IsListeners l.listeners.keys × HavePlaces l.listeners.keys l.places.keys };
+    ghost invariant = { λ l. IsListeners l.listeners.keys × ArePlacesOf l.listeners.keys l.places.keys };
 }
 
 impl Listeners {
@@ -164,9 +162,14 @@ impl Listeners {
         if !self.may_listen(session, &path) {
             return Err(FanFault::Full);
         }
-        self.places.insert(Place::of(alloc, &path, session)?)?;
+        let place = Place::of(alloc, &path, session)?;
         let session = session.copy(alloc)?;
-        self.listeners.insert(Listener { session, path })?;
+        self.places.insert(place)?;
+        if let Err(refused) = self.listeners.insert(Listener { session, path }) {
+            let Listener { session, path } = refused.value;
+            self.places.retain(|place| !place.is_at(&session, &path));
+            return Err(FanFault::Memory);
+        }
         Ok(())
     }
 
@@ -197,9 +200,7 @@ impl Listeners {
     {
         let mut rows = Vec::new(alloc);
         for listener in met(alloc, &self.places, writes)? {
-            if is_touched(writes, &listener.path) && self.listeners.contains(&listener) {
-                add(&mut rows, alloc, listener)?;
-            }
+            add(&mut rows, alloc, listener)?;
         }
         Ok(rows)
     }
@@ -210,24 +211,6 @@ fn is_of(listener: &Listener, session: &SessionId, path: &Path) -> bool
     ensures { result ≡ same_listener (listener_of session.now path.now) listener.now }
 {
     session == &listener.session && path == &listener.path
-}
-
-// Whether one of the paths is at the other or above it, which only the shorter one can be.
-fn meet(path: &Path, other: &Path) -> bool
-    ensures { result ≡ meet path.now other.now }
-{
-    if path.len() <= other.len() {
-        path.is_prefix_of(other)
-    } else {
-        other.is_prefix_of(path)
-    }
-}
-
-// Whether the writes touch the place.
-fn is_touched(writes: &[Basic], path: &Path) -> bool
-    ensures { result ≡ is_touched writes.now path.now }
-{
-    writes.iter().any(|write| meet(write.path(), path))
 }
 
 // Adds a listener that comes behind those of the rows: its place to the last row, or to a row of

@@ -2,7 +2,7 @@ use Rattle.std.proofs.Common.{◌≡◌, filter, sym, subst, ◌∙◌}
 use Rattle.std.specs.BTreeMap.Range.{range_contains}
 use Rattle.std.specs.declared.ops.Bound.TheVariants.{Included, Unbounded}
 use Rattle.pres_fan.specs.Places.{place_cmp}
-use Rattle.pres_fan.proofs.Searches.{Search, start, search_begun, search_goes_on, search_ends, search_stops}
+use Rattle.pres_fan.proofs.Searches.{Search, start, search_begun, search_goes_on, search_only, search_ends, search_stops}
 use Rattle.pres_fan.proofs.index.add_near.Goals as goal
 
 pub loop-place-init : goal.loop-place-init
@@ -13,6 +13,7 @@ loop-place-init c =
       subst (λ rest. Search c.args.reach c.args.path places rest c.args.found.now.items) (sym from)
           (search_begun c.args.reach c.args.path places c.args.found.now.items c.range-place-items.ensures.ordered),
       λ m h. h,
+      λ t all near. all,
     )
 
 pub returns-then-not-reaches-clause-kept : goal.returns-then-not-reaches-clause-kept
@@ -24,11 +25,21 @@ returns-then-not-reaches-clause-near c =
     (subst (λ rest. Search c.args.reach c.args.path c.args.places.now.keys rest c.loop-place.found.items) c.in-Some.ensures.steps c.loop-place.invariant.0)
 
 pub loop-place-preserved : goal.loop-place-preserved
-loop-place-preserved c = (
-  search_goes_on c.args.reach c.args.path c.args.places.now.keys c.in-Some.place.now c.next.new.self c.loop-place.found.items c.add_one.new.found.items c.in_ok-add_one.ensures.kept c.in_ok-add_one.ensures.found
-      (subst (λ rest. Search c.args.reach c.args.path c.args.places.now.keys rest c.loop-place.found.items) c.in-Some.ensures.steps c.loop-place.invariant.0),
-  λ m h. c.in_ok-add_one.ensures.kept m (c.loop-place.invariant.1 m h),
-)
+loop-place-preserved c =
+    let places = c.args.places.now.keys in
+    let x = c.in-Some.place.now in
+    let so_far = subst (λ rest. Search c.args.reach c.args.path places rest c.loop-place.found.items) c.in-Some.ensures.steps c.loop-place.invariant.0 in
+    let added = c.in_ok-add_one.ensures in (
+      search_goes_on c.args.reach c.args.path places x c.next.new.self c.loop-place.found.items c.add_one.new.found.items added.kept added.found so_far,
+      λ m h. added.kept m (c.loop-place.invariant.1 m h),
+      search_only c.args.reach c.args.path places x c.next.new.self c.loop-place.found.items c.args.found.now.items c.add_one.new.found.items (sym c.if-not-reaches.ensures) so_far added.only c.loop-place.invariant.2,
+    )
+
+pub returns-then-not-reaches-clause-only : goal.returns-then-not-reaches-clause-only
+returns-then-not-reaches-clause-only c = c.loop-place.invariant.2
+
+pub returns-clause-only : goal.returns-clause-only
+returns-clause-only c = c.loop-place.invariant.2
 
 pub returns-clause-kept : goal.returns-clause-kept
 returns-clause-kept c = c.loop-place.invariant.1
