@@ -2,25 +2,25 @@
 use Rattle.std.proofs.Common.{refl, sym, ◌∙◌, ap, subst, ◌≡◌, arith, length, List, [], ◌∷◌, filter, Bool, true, false, not, cond, ◌||◌, true≢false, Option, Some, None, Ordering, Less, Equal, Greater, is_eq, is_lt, ◌⊎◌, inl, inr}
 use Rattle.std.specs.List.{list_any, AllByRecursion, dedup, dedup_from}
 use Rattle.std.specs.List.Sorted.{IsPermutation, IsSorted, IsStrictlySortedBy}
+use Rattle.std.specs.BTreeMap.{is_at}
 use Rattle.std.specs.BTreeSet.{insert_key}
 use Rattle.std.specs.Option.{option_cmp}
-use Rattle.std.specs.Ordering.{match_ordering, ordering_reverse}
+use Rattle.std.specs.Ordering.{match_ordering, ordering_then, ordering_reverse}
 use Rattle.std.specs.Cmp.{tied_itself, both_ways}
-use Rattle.std.proofs.lemmas.Bool.{or_cases, or_parts, or_left, or_right}
+use Rattle.std.proofs.lemmas.Bool.{or_cases, or_parts, or_left, or_right, false_from_ne_true}
 use Rattle.std.proofs.lemmas.List.Kept.{IsStrictlySortedBy-filter, IsStrictlySortedBy-dedup}
 use Rattle.std.proofs.lemmas.List.Sorted.{list_any-IsPermutation}
 use Rattle.std.proofs.lemmas.Map.Keys.{sorted_head, sorted_tail}
 use Rattle.pres_tree.specs.Paths.{path_cmp}
-use Rattle.pres_tree.specs.Falls.{path_same as path_apart}
+use Rattle.pres_tree.specs.Falls.{path_total, path_same as path_apart}
 use Rattle.pres_write.specs.Basics.{BasicWrite}
-use Rattle.pres_ids.specs.Ids.{same_session}
 use Rattle.pres_ids.specs.declared.id.SessionId.{SessionId}
 use Rattle.pres_fan.specs.declared.listeners.Listener.{Listener}
 use Rattle.pres_fan.specs.declared.index.Place.{Place}
-use Rattle.pres_fan.specs.Listeners.{session_cmp, listener_cmp, same_listener, is_touched, IsListeners}
-use Rattle.pres_fan.specs.Places.{place_cmp, is_this, is_place_of, HavePlaces, AreListened, ArePlacesOf}
-use Rattle.pres_fan.proofs.Orders.{then_ties, session_apart, listener_total, listener_apart, listener_same, listener_itself}
-use Rattle.pres_fan.proofs.Lists.{passes, all_filtered, all_then, all_both, filter_all, any_under}
+use Rattle.pres_fan.specs.Listeners.{session_cmp, listener_cmp, same_listener, listener_of, is_touched, IsListeners}
+use Rattle.pres_fan.specs.Places.{place_cmp, is_place_of, HavePlaces, AreListened, ArePlacesOf}
+use Rattle.pres_fan.proofs.Orders.{then_ties, session_total, session_apart, listener_total, listener_apart, listener_same, listener_itself}
+use Rattle.pres_fan.proofs.Lists.{passes, all_filtered, all_then, all_both, filter_all, filter_put_other, any_under}
 use Rattle.pres_fan.proofs.Searches.{tie, put_keeps, put_has, placed, not_placed, FindsTouched}
 
 -- ---- two lists of listeners in order with the same members are one
@@ -57,7 +57,7 @@ in_tail x y xs ys is sx f l h = by (or_cases (same_listener l y) (list_any (same
   by (inl e) = absurd (true≢false (not_itself x (subst (λ z. listener_cmp x z ≡ Less) (listener_same l y e ∙ sym is) (all_any (λ z. listener_cmp x z ≡ Less) l xs (sorted_head listener_cmp x xs sx) h))))
   by (inr e) = e
 
-same_members : (xs ys : List Listener) → IsStrictlySortedBy listener_cmp xs → IsStrictlySortedBy listener_cmp ys →
+pub same_members : (xs ys : List Listener) → IsStrictlySortedBy listener_cmp xs → IsStrictlySortedBy listener_cmp ys →
     ((l : Listener) → list_any (same_listener l) xs ≡ true → list_any (same_listener l) ys ≡ true) →
     ((l : Listener) → list_any (same_listener l) ys ≡ true → list_any (same_listener l) xs ≡ true) → xs ≡ ys
 same_members [] [] sx sy f g = refl
@@ -70,7 +70,7 @@ same_members (x ∷ xs) (y ∷ ys) sx sy f g =
 
 -- ---- each listener has its place
 
-place_apart : (x y : Place) → place_cmp x y ≡ Equal → x ≡ y
+pub place_apart : (x y : Place) → place_cmp x y ≡ Equal → x ≡ y
 place_apart x y e =
     let a = then_ties (path_cmp x.path y.path) _ e in
     let p = path_apart x.path y.path a.0 in
@@ -83,6 +83,36 @@ place_apart x y e =
     by (Some s) None h = absurd (true≢false (sym (ap is_eq h)))
     by (Some s) (Some t) h = ap (λ u. Some u) (session_apart s t h)
 
+any_then : {A : Type 0} (p q : A → Bool) → ((x : A) → p x ≡ true → q x ≡ true) → (xs : List A) → list_any p xs ≡ true → list_any q xs ≡ true
+any_then p q f [] h = h
+any_then p q f (l ∷ ls) h = by (or_cases (p l) (list_any p ls) h) (any_then p q f ls) where
+  by : (p l ≡ true) ⊎ (list_any p ls ≡ true) → (list_any p ls ≡ true → list_any q ls ≡ true) → (q l || list_any q ls) ≡ true
+  by (inl e) g = or_left (q l) _ (f l e)
+  by (inr e) g = or_right (q l) _ (g e)
+
+-- a listener has one place
+pub same_place : (k : Listener) (x y : Place) → is_place_of k x ≡ true → is_place_of k y ≡ true → x ≡ y
+same_place k x y e f = by x.session y.session refl refl where
+  by : (a b : Option SessionId) → x.session ≡ a → y.session ≡ b → x ≡ y
+  by None b h g = absurd (true≢false (not_placed k x h e))
+  by (Some s) None h g = absurd (true≢false (not_placed k y g f))
+  by (Some s) (Some t) h g =
+      let is : listener_of s x.path ≡ listener_of t y.path = placed k x s h e ∙ sym (placed k y t g f) in
+      let sessions : x.session ≡ y.session = h ∙ ap (λ l. Some l.session) is ∙ sym g in
+      λ i. record { path = (is i).path; session = sessions i }
+
+pub place_tied : (x : Place) → place_cmp x x ≡ Equal
+place_tied x = ap (λ o. ordering_then o (option_cmp session_cmp x.session x.session)) (tied_itself path_total x.path) ∙ by x.session where
+  by : (o : Option SessionId) → option_cmp session_cmp o o ≡ Equal
+  by None = refl
+  by (Some s) = tied_itself session_total s
+
+-- whose place is not there does not listen
+pub new_listener : (k : Listener) (x : Place) (ls : List Listener) (ps : List Place) → is_place_of k x ≡ true → HavePlaces ls ps → list_any (is_at (place_cmp x)) ps ≡ false → list_any (same_listener k) ls ≡ false
+new_listener k x ls ps e h none =
+    false_from_ne_true _ (λ t. true≢false (sym (any_then (is_place_of k) (is_at (place_cmp x)) (λ y f. ap is_eq (ap (place_cmp x) (sym (same_place k x y e f)) ∙ place_tied x)) ps
+    (all_any (λ l. list_any (is_place_of l) ps ≡ true) k ls h t)) ∙ none))
+
 -- one place more
 pub have_more : (x : Place) (ls : List Listener) (ps : List Place) → HavePlaces ls ps → HavePlaces ls (insert_key place_cmp ps x)
 have_more x ls ps h = all_then (λ l. list_any (is_place_of l) ps ≡ true) (λ l. list_any (is_place_of l) (insert_key place_cmp ps x) ≡ true) (λ l e. put_keeps place_cmp x (is_place_of l) ps e) ls h
@@ -90,7 +120,7 @@ have_more x ls ps h = all_then (λ l. list_any (is_place_of l) ps ≡ true) (λ 
 pub has_place : (l : Listener) (x : Place) (ps : List Place) → is_place_of l x ≡ true → list_any (is_place_of l) (insert_key place_cmp ps x) ≡ true
 has_place l x ps e = put_has place_cmp x (is_place_of l) e (λ y k. ap (is_place_of l) (sym (place_apart x y k)) ∙ e) ps
 
-all_put : {A : Type 0} (cmp : A → A → Ordering) (P : A → Type 0) (k : A) → P k → (xs : List A) → AllByRecursion P xs → AllByRecursion P (insert_key cmp xs k)
+pub all_put : {A : Type 0} (cmp : A → A → Ordering) (P : A → Type 0) (k : A) → P k → (xs : List A) → AllByRecursion P xs → AllByRecursion P (insert_key cmp xs k)
 all_put cmp P k one [] a = (one, tt)
 all_put {A} cmp P k one (x ∷ xs) a = by (cmp k x) (all_put cmp P k one xs a.1) where
   by : (o : Ordering) → AllByRecursion P (insert_key cmp xs k) → AllByRecursion P (match_ordering o (k ∷ x ∷ xs) (x ∷ xs) (x ∷ insert_key cmp xs k))
@@ -124,13 +154,6 @@ off_stays k l x h e = elim (is_place_of k x) as (λ b. is_place_of k x ≡ b →
   | false ↦ λ f. refl
 ] refl
 
--- and where a session goes
-pub drop_stays : (s : SessionId) (l : Listener) (x : Place) → not (same_session s l.session) ≡ true → is_place_of l x ≡ true → not (is_this s x.session) ≡ true
-drop_stays s l x h e = by x.session refl where
-  by : (o : Option SessionId) → x.session ≡ o → not (is_this s o) ≡ true
-  by None f = refl
-  by (Some t) f = ap (λ m. not (same_session s m.session)) (placed l x t f e) ∙ h
-
 -- ---- each place is a listener's
 
 -- one place more, and its listener
@@ -140,28 +163,13 @@ are_with k x ls ps e h =
     (put_has listener_cmp k (λ l. is_place_of l x) e (λ y t. ap (λ m. is_place_of m x) (sym (listener_apart k y t)) ∙ e) ls) ps
     (all_then (λ y. list_any (λ l. is_place_of l y) ls ≡ true) (λ y. list_any (λ l. is_place_of l y) (insert_key listener_cmp ls k) ≡ true) (λ y f. put_keeps listener_cmp k (λ l. is_place_of l y) ls f) ps h)
 
--- the place is taken back, since its listener could not be added
-pub are_back : (k : Listener) (x : Place) (ls : List Listener) (ps : List Place) → is_place_of k x ≡ true → AreListened ps ls → AreListened (filter (λ y. not (is_place_of k y)) (insert_key place_cmp ps x)) ls
-are_back k x ls ps e h =
-    all_both Either (λ y. not (is_place_of k y) ≡ true) (λ y. list_any (λ l. is_place_of l y) ls ≡ true) stays (filter (λ y. not (is_place_of k y)) (insert_key place_cmp ps x))
-    (all_filtered Either (λ y. not (is_place_of k y)) (insert_key place_cmp ps x) (all_put place_cmp Either x (inr e) ps (all_then (λ y. list_any (λ l. is_place_of l y) ls ≡ true) Either (λ y f. inl f) ps h)))
-    (passes (λ y. not (is_place_of k y)) (insert_key place_cmp ps x))
-  where
-    Either : Place → Type 0
-    Either y = (list_any (λ l. is_place_of l y) ls ≡ true) ⊎ (is_place_of k y ≡ true)
-
-    stays : (y : Place) → Either y → not (is_place_of k y) ≡ true → list_any (λ l. is_place_of l y) ls ≡ true
-    stays y (inl f) g = f
-    stays y (inr f) g = absurd (true≢false (sym g ∙ ap not f))
-
 none_same : (k : Listener) (ls : List Listener) → list_any (same_listener k) ls ≡ false → AllByRecursion (λ l. not (same_listener k l) ≡ true) ls
 none_same k [] h = tt
 none_same k (l ∷ ls) h = let each = or_parts (same_listener k l) _ h in (ap not each.0, none_same k ls each.1)
 
-pub have_back : (k : Listener) (x : Place) (ls : List Listener) (ps : List Place) → list_any (same_listener k) ls ≡ false → HavePlaces ls ps → HavePlaces ls (filter (λ y. not (is_place_of k y)) (insert_key place_cmp ps x))
-have_back k x ls ps new h =
-    subst (λ ms. HavePlaces ms (filter (λ y. not (is_place_of k y)) (insert_key place_cmp ps x))) (filter_all (λ l. not (same_listener k l)) ls (none_same k ls new))
-    (have_fewer (λ l. not (same_listener k l)) (λ y. not (is_place_of k y)) (off_stays k) ls (insert_key place_cmp ps x) (have_more x ls ps h))
+-- a listener that was not there is taken back
+pub taken_back : (k : Listener) (ls : List Listener) → list_any (same_listener k) ls ≡ false → filter (λ l. not (same_listener k l)) (insert_key listener_cmp ls k) ≡ ls
+taken_back k ls new = filter_put_other listener_cmp k (λ l. not (same_listener k l)) (ap not (listener_itself k)) ls ∙ filter_all (λ l. not (same_listener k l)) ls (none_same k ls new)
 
 -- fewer of both, where nobody goes whose place stays
 pub are_fewer : (p : Listener → Bool) (q : Place → Bool) → ((l : Listener) (x : Place) → q x ≡ true → is_place_of l x ≡ true → p l ≡ true) →
@@ -177,19 +185,6 @@ off_goes k l x h e = elim (same_listener k l) as (λ b. same_listener k l ≡ b 
   | false ↦ λ f. refl
 ] refl
 
-pub drop_goes : (s : SessionId) (l : Listener) (x : Place) → not (is_this s x.session) ≡ true → is_place_of l x ≡ true → not (same_session s l.session) ≡ true
-drop_goes s l x h e = by x.session refl h where
-  by : (o : Option SessionId) → x.session ≡ o → not (is_this s o) ≡ true → not (same_session s l.session) ≡ true
-  by None f g = absurd (true≢false (not_placed l x f e))
-  by (Some t) f g = ap (λ m. not (same_session s m.session)) (sym (placed l x t f e)) ∙ g
-
-any_then : (p q : Listener → Bool) → ((l : Listener) → p l ≡ true → q l ≡ true) → (ls : List Listener) → list_any p ls ≡ true → list_any q ls ≡ true
-any_then p q f [] h = h
-any_then p q f (l ∷ ls) h = by (or_cases (p l) (list_any p ls) h) (any_then p q f ls) where
-  by : (p l ≡ true) ⊎ (list_any p ls ≡ true) → (list_any p ls ≡ true → list_any q ls ≡ true) → (q l || list_any q ls) ≡ true
-  by (inl e) g = or_left (q l) _ (f l e)
-  by (inr e) g = or_right (q l) _ (g e)
-
 -- whose place is there listens
 listens : (l : Listener) (ls : List Listener) (ps : List Place) → AreListened ps ls → list_any (is_place_of l) ps ≡ true → list_any (same_listener l) ls ≡ true
 listens l ls [] a h = absurd (true≢false (sym h))
@@ -200,10 +195,10 @@ listens l ls (x ∷ ps) a h = by (or_cases (is_place_of l x) (list_any (is_place
 
 -- ---- those found are all that writes touch
 
-in_filter : (p : Listener → Bool) (l : Listener) (ls : List Listener) → p l ≡ true → list_any (same_listener l) ls ≡ true → list_any (same_listener l) (filter p ls) ≡ true
+pub in_filter : (p : Listener → Bool) (l : Listener) (ls : List Listener) → p l ≡ true → list_any (same_listener l) ls ≡ true → list_any (same_listener l) (filter p ls) ≡ true
 in_filter p l ls e h = any_under (same_listener l) p (λ x k. ap p (sym (listener_same l x k)) ∙ e) ls ∙ h
 
-of_filter : (p : Listener → Bool) (l : Listener) (ls : List Listener) → list_any (same_listener l) (filter p ls) ≡ true → (p l ≡ true) × (list_any (same_listener l) ls ≡ true)
+pub of_filter : (p : Listener → Bool) (l : Listener) (ls : List Listener) → list_any (same_listener l) (filter p ls) ≡ true → (p l ≡ true) × (list_any (same_listener l) ls ≡ true)
 of_filter p l ls h = (all_any (λ m. p m ≡ true) l (filter p ls) (passes p ls) h, kept ls h) where
   kept : (ms : List Listener) → list_any (same_listener l) (filter p ms) ≡ true → list_any (same_listener l) ms ≡ true
   kept [] k = k
@@ -237,10 +232,6 @@ ties l k =
     both_ways (is_eq (listener_cmp l k)) (same_listener l k)
     (λ e. ap (same_listener l) (sym (listener_apart l k (tie (listener_cmp l k) e))) ∙ listener_itself l)
     (λ e. ap is_eq (ap (listener_cmp l) (sym (listener_same l k e)) ∙ tied_itself listener_total l))
-
--- a set of listeners has one exactly where it is a member
-pub has_by_order : (l : Listener) (ls : List Listener) → list_any (λ k. is_eq (listener_cmp l k)) ls ≡ list_any (same_listener l) ls
-has_by_order l ls = λ i. list_any (λ k. ties l k i) ls
 
 -- ---- sorted, and each once
 
@@ -303,3 +294,6 @@ tidied same agree xs ys zs moved sorted is =
       kept = λ l h. subst (λ ms. list_any (same_listener l) ms ≡ true) (sym each_once) (once l ys (sym (list_any-IsPermutation (same_listener l) xs ys moved) ∙ h));
       only = λ l h. list_any-IsPermutation (same_listener l) xs ys moved ∙ was_there l ys (subst (λ ms. list_any (same_listener l) ms ≡ true) each_once h);
     }
+
+pub nobody_listens : IsListeners []
+nobody_listens = record { ordered = none_ordered; few = λ s. omega arith }

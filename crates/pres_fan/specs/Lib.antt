@@ -2,3 +2,4 @@ pub mod Faults
 pub mod Laws
 pub mod Listeners
 pub mod Places
+pub mod Sets

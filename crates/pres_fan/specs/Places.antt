@@ -11,7 +11,7 @@ use Rattle.pres_fan.specs.declared.listeners.Listener.{Listener}
 use Rattle.pres_fan.specs.declared.index.Place.{Place}
 use Rattle.pres_fan.specs.declared.index.Reach.{Reach}
 use Rattle.pres_fan.specs.declared.index.Reach.TheVariants.{At, Below}
-use Rattle.pres_fan.specs.Listeners.{session_cmp}
+use Rattle.pres_fan.specs.Listeners.{session_cmp, listener_of}
 
 -- places are ordered by path, then by session; without a session a place comes before all of its path
 abbrev pub place_cmp : Place → Place → Ordering
@@ -30,6 +30,10 @@ is_this session (Some other) = same_session session other
 -- the place is the listener's
 abbrev pub is_place_of : Listener → Place → Bool
 is_place_of listener place = same_path listener.path place.path && is_this listener.session place.session
+
+-- the place is the session's at one of the paths
+abbrev pub is_one_of : SessionId → List Path → Place → Bool
+is_one_of session paths place = list_any (λ path. is_place_of (listener_of session path) place) paths
 
 -- the places are those of the listeners: each listener has its place among them, and each of them is a listener's
 abbrev pub HavePlaces : List Listener → List Place → Type 0

@@ -5,6 +5,7 @@ mod fault;
 mod index;
 pub mod laws;
 mod listeners;
+mod paths;
 
 pub use fault::FanFault;
 pub use listeners::{Listener, Listeners, MOST_PATHS, Touched};

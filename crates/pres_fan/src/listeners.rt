@@ -8,7 +8,8 @@ ghost use Rattle.pres_fan.specs.declared.fault.FanFault.TheVariants.{Full, Memor
 ghost use Rattle.pres_fan.specs.declared.listeners.Listener.{Listener};
 
 use crate::fault::FanFault;
-use crate::index::{Place, met};
+use crate::index::{Place, met, remove_place, remove_places};
+use crate::paths::SessionPaths;
 use pres_ids::SessionId;
 use pres_tree::Path;
 use pres_write::{Basic, Items};
@@ -88,7 +89,8 @@ impl Touched {
 /// listeners, in order.
 #[derive(Drop)]
 pub struct Listeners {
-    listeners: BTreeSet<Listener>,
+    alloc: Global,
+    paths: SessionPaths,
     // Where they listen, by which those that a write touches are found.
     places: BTreeSet<Place>,
 }
@@ -101,9 +103,9 @@ impl Model for Listeners {
 
     ghost Value = { List Listener };
 
-    ghost view = { λ l. l.listeners.keys };
+    ghost view = { λ l. l.paths };
 
-    ghost invariant = { λ l. IsListeners l.listeners.keys × ArePlacesOf l.listeners.keys l.places.keys };
+    ghost invariant = { λ l. IsListeners l.paths × ArePlacesOf l.paths l.places.keys };
 }
 
 impl Listeners {
@@ -112,7 +114,8 @@ impl Listeners {
         ensures { result ≡ [] }
     {
         Listeners {
-            listeners: BTreeSet::new(alloc),
+            alloc,
+            paths: SessionPaths::new(alloc),
             places: BTreeSet::new(alloc),
         }
     }
@@ -122,21 +125,7 @@ impl Listeners {
         ensures count { result ≡ length (paths_of session.now self.now) }
         ensures listeners { IsListeners self.now }
     {
-        self.listeners
-            .iter()
-            .filter(|listener| session == &listener.session)
-            .count()
-    }
-
-    // Whether the session listens to the place.
-    fn has(&self, session: &SessionId, path: &Path) -> bool
-        ensures has { result
-            ≡ list_any (same_listener (listener_of session.now path.now)) self.now }
-        ensures listeners { IsListeners self.now }
-    {
-        self.listeners
-            .iter()
-            .any(|listener| is_of(listener, session, path))
+        self.paths.count(session)
     }
 
     /// Whether the session listens to at most `MOST_PATHS` places with this one. It takes no
@@ -147,7 +136,7 @@ impl Listeners {
             most_paths }
         ensures listeners { IsListeners self.now }
     {
-        self.has(session, path) || self.count(session) < MOST_PATHS
+        self.paths.has(session, path) || self.paths.count(session) < MOST_PATHS
     }
 
     /// The session listens to the place; twice is as once. Full where it would listen to more than
@@ -163,32 +152,31 @@ impl Listeners {
             return Err(FanFault::Full);
         }
         let place = Place::of(alloc, &path, session)?;
-        let session = session.copy(alloc)?;
-        self.places.insert(place)?;
-        if let Err(refused) = self.listeners.insert(Listener { session, path }) {
-            let Listener { session, path } = refused.value;
-            self.places.retain(|place| !place.is_at(&session, &path));
+        self.paths.add(alloc, session, path)?;
+        if let Err(refused) = self.places.insert(place) {
+            let place = refused.value;
+            self.paths.remove(session, &place.path);
             return Err(FanFault::Memory);
         }
         Ok(())
     }
 
-    /// The session listens to the place no more. It takes no memory.
+    /// The session listens to the place no more. Nothing is refused: where there is no memory to look its
+    /// place up, all places are looked through.
     pub fn off(&mut self, session: &SessionId, path: &Path)
         ensures { self.new ≡ without session.now path.now self.old }
     {
-        self.listeners
-            .retain(|listener| !is_of(listener, session, path));
-        self.places.retain(|place| !place.is_at(session, path));
+        self.paths.remove(session, path);
+        remove_place(&mut self.places, self.alloc, session, path);
     }
 
-    /// The session listens to nothing more. It takes no memory.
+    /// The session listens to nothing more, and nothing is refused, as in `off`.
     pub fn drop_session(&mut self, session: &SessionId)
         ensures { self.new ≡ without_session session.now self.old }
     {
-        self.listeners
-            .retain(|listener| session != &listener.session);
-        self.places.retain(|place| !place.is_of(session));
+        if let Some(paths) = self.paths.remove_session(session) {
+            remove_places(&mut self.places, self.alloc, session, &paths);
+        }
     }
 
     /// The sessions that listen to a place that the writes touch, each once, with those places, in
@@ -204,13 +192,6 @@ impl Listeners {
         }
         Ok(rows)
     }
-}
-
-// Whether the listener is the session's at the place.
-fn is_of(listener: &Listener, session: &SessionId, path: &Path) -> bool
-    ensures { result ≡ same_listener (listener_of session.now path.now) listener.now }
-{
-    session == &listener.session && path == &listener.path
 }
 
 // Adds a listener that comes behind those of the rows: its place to the last row, or to a row of

@@ -1,47 +1,47 @@
-use Rattle.std.proofs.Common.{rules, ◌≡◌, true, false, not, filter, ap, sym, ◌∙◌, subst, List}
-use Rattle.std.specs.List.{list_any}
-use Rattle.std.specs.BTreeSet.{insert_key}
-use Rattle.std.proofs.lemmas.Fn.{filter_same}
+use Rattle.std.proofs.Common.{rules, ◌≡◌, true, ap, sym, ◌∙◌, subst, List}
+use Rattle.std.specs.List.Sorted.{IsStrictlySortedBy}
 use Rattle.pres_fan.specs.declared.listeners.Listener.{Listener}
-use Rattle.pres_fan.specs.Listeners.{listener_of, same_listener, with_listener, IsListeners}
-use Rattle.pres_fan.specs.Places.{place_cmp, is_place_of, ArePlacesOf}
+use Rattle.pres_fan.specs.Listeners.{listener_cmp, listener_of, with_listener, without, IsListeners}
+use Rattle.pres_fan.specs.Places.{is_place_of, ArePlacesOf}
 use Rattle.pres_fan.proofs.Places.{with_listeners}
 use Rattle.pres_fan.proofs.Searches.{placed_at}
-use Rattle.pres_fan.proofs.Members.{have_more, have_with, have_back, has_place, has_by_order, are_with, are_back}
+use Rattle.pres_fan.proofs.Members.{have_more, have_with, has_place, are_with, new_listener, taken_back}
+use Rattle.pres_fan.proofs.Sets.{put_ordered}
 use Rattle.pres_fan.proofs.listeners.Listeners.on.Goals as goal
 
-left_places : (c : goal.After-drop-session-in-Err) → c.retain.new.self.keys ≡ filter (λ x. not (is_place_of c.in-Err.refused.value x)) (insert_key place_cmp c.self.inside.places.keys c.in_ok-place.place)
-left_places c =
-    filter_same _ (λ x. not (is_place_of c.in-Err.refused.value x)) _ (λ x b f' k. search rules) _ _ c.retain.ensures.filtered
-    ∙ ap (filter (λ x. not (is_place_of c.in-Err.refused.value x))) c.in_ok-insert.ensures.keys
+-- the listeners are as they were where the place could not be added
+as_before : (c : goal.Joined-place-2) → without c.args.session.now c.in-Err.refused.value.path c.add.new.self ≡ c.self.inside.paths
+as_before c =
+    let s = c.args.session.now in
+    let p = c.args.path in
+    let ls = c.self.inside.paths in
+    let x = c.in_ok-place.place in
+    let at : is_place_of (listener_of s p) x ≡ true = placed_at s p x c.in_ok-place.ensures.path c.in_ok-place.ensures.session in
+    let path : c.in-Err.refused.value.path ≡ p = ap (λ y. y.path) c.in-Err.ensures.value_returned ∙ c.in_ok-place.ensures.path in
+    (λ i. without s (path i) (c.in_ok-add.ensures.added i))
+    ∙ taken_back (listener_of s p) ls (new_listener (listener_of s p) x ls c.self.inside.places.keys at c.self.invariant.1.0 c.in-Err.ensures.absent)
 
 pub invariant_of-self-in-Err : goal.invariant_of-self-in-Err
 invariant_of-self-in-Err c =
-    let s = c.args.session.now in
-    let p = c.args.path in
-    let ls = c.self.inside.listeners.keys in
-    let ps = c.self.inside.places.keys in
-    let x = c.in_ok-place.place in
-    let k = listener_of c.in_ok-session.session p in
-    let back : c.in-Err.refused.value ≡ k = c.in-Err.ensures.value_returned in
-    let at : is_place_of c.in-Err.refused.value x ≡ true =
-    ap (λ l. is_place_of l x) (back ∙ (λ i. listener_of (c.in_ok-session.ensures i) p)) ∙ placed_at s p x c.in_ok-place.ensures.path c.in_ok-place.ensures.session in
-    let new : list_any (same_listener c.in-Err.refused.value) ls ≡ false = ap (λ l. list_any (same_listener l) ls) back ∙ sym (has_by_order k ls) ∙ c.in-Err.ensures.absent in
-    subst (λ (ms : List Listener). IsListeners ms × ArePlacesOf ms c.retain.new.self.keys) (sym c.in-Err.ensures.err)
-    (c.self.invariant.0, subst (ArePlacesOf ls) (sym (left_places c)) (have_back c.in-Err.refused.value x ls ps new c.self.invariant.1.0, are_back c.in-Err.refused.value x ls ps at c.self.invariant.1.1))
+    let back : c.remove.new.self ≡ c.self.inside.paths = c.remove.ensures ∙ as_before c in
+    subst (λ (ms : List Listener). IsListeners ms × ArePlacesOf ms c.insert.new.self.keys) (sym back)
+    (c.self.invariant.0, subst (ArePlacesOf c.self.inside.paths) (sym c.in-Err.ensures.err) c.self.invariant.1)
 
 pub invariant_of-self-in_default : goal.invariant_of-self-in_default
 invariant_of-self-in_default c =
     let s = c.args.session.now in
     let p = c.args.path in
-    let ls = c.self.inside.listeners.keys in
+    let ls = c.self.inside.paths in
     let ps = c.self.inside.places.keys in
     let x = c.in_ok-place.place in
     let k = listener_of s p in
     let at : is_place_of k x ≡ true = placed_at s p x c.in_ok-place.ensures.path c.in_ok-place.ensures.session in
-    let new : c.insert-2.new.self.keys ≡ with_listener s p ls = search rules in (
-      with_listeners s p ls c.insert-2.new.self.keys c.self.invariant.0 (search rules) new c.in_default.ensures.ordered,
+    let new : c.add.new.self ≡ with_listener s p ls = c.in_ok-add.ensures.added in (
+      with_listeners s p ls c.add.new.self c.self.invariant.0 (search rules) new (subst (IsStrictlySortedBy listener_cmp) (sym new) (put_ordered k ls c.self.invariant.0.ordered)),
       subst (λ ms. ArePlacesOf ms c.insert.new.self.keys) (sym new)
-          (subst (ArePlacesOf (with_listener s p ls)) (sym c.in_ok-insert.ensures.keys)
+          (subst (ArePlacesOf (with_listener s p ls)) (sym c.in_default.ensures.keys)
           (have_with k ls _ (has_place k x ps at) (have_more x ls ps c.self.invariant.1.0), are_with k x ls ps at c.self.invariant.1.1)),
     )
+
+pub returns-in-Err-clause-unchanged : goal.returns-in-Err-clause-unchanged
+returns-in-Err-clause-unchanged c = c.remove.ensures ∙ as_before c ∙ c.self.view_is

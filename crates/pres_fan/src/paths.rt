@@ -1,0 +1,100 @@
+//! What each session listens to.
+
+ghost use Rattle.std.specs.Prelude.{List, ◌≡◌, [], length, OnOk, OnErr};
+ghost use Rattle.std.specs.List.{list_any};
+ghost use Rattle.pres_fan.specs.Listeners.{paths_of, listener_of, same_listener, with_listener, without, without_session};
+ghost use Rattle.pres_fan.specs.Sets.{keys_in};
+
+use pres_ids::SessionId;
+use pres_tree::Path;
+use std::alloc::{AllocError, Global};
+use std::collections::{BTreeMap, BTreeSet};
+use std::marker::Model;
+
+/// The paths that each session listens to. Contracts see the list of the listeners, in order.
+#[derive(Drop)]
+pub(crate) struct SessionPaths {
+    // A session that listens to nothing more may keep an empty set until it ends.
+    sets: BTreeMap<SessionId, BTreeSet<Path>>,
+}
+
+impl Model for SessionPaths {
+    ghost use Rattle.std.specs.Prelude.{List};
+    ghost use Rattle.pres_fan.specs.Sets.{listeners_in, AreInOrder};
+    ghost use Rattle.pres_fan.specs.declared.listeners.Listener.{Listener};
+
+    ghost Value = { List Listener };
+
+    ghost view = { λ p. listeners_in p.sets.entries };
+
+    ghost invariant = { λ p. AreInOrder p.sets.entries };
+}
+
+impl SessionPaths {
+    // None of nobody. It takes no memory.
+    pub(crate) fn new(alloc: Global) -> SessionPaths
+        ensures { result ≡ [] }
+    {
+        SessionPaths {
+            sets: BTreeMap::new(alloc),
+        }
+    }
+
+    // How many paths the session listens to.
+    pub(crate) fn count(&self, session: &SessionId) -> usize
+        ensures { result ≡ length (paths_of session.now self.now) }
+    {
+        match self.sets.get(session) {
+            Some(paths) => paths.len(),
+            None => 0,
+        }
+    }
+
+    // Whether the session listens to the path.
+    pub(crate) fn has(&self, session: &SessionId, path: &Path) -> bool
+        ensures { result ≡ list_any (same_listener (listener_of session.now path.now)) self.now }
+    {
+        match self.sets.get(session) {
+            Some(paths) => paths.contains(path),
+            None => false,
+        }
+    }
+
+    // The session listens to the path too. At a refusal nothing has changed.
+    pub(crate) fn add(
+        &mut self,
+        alloc: Global,
+        session: &SessionId,
+        path: Path,
+    ) -> Result<(), AllocError>
+        ensures added { OnOk result (self.new ≡ with_listener session.now path self.old) }
+        ensures unchanged { OnErr result (self.new ≡ self.old) }
+    {
+        if let Some(paths) = self.sets.get_mut(session) {
+            paths.insert(path)?;
+            return Ok(());
+        }
+        let session = session.copy(alloc)?;
+        let mut paths = BTreeSet::new(alloc);
+        paths.insert(path)?;
+        drop(self.sets.insert(session, paths)?);
+        Ok(())
+    }
+
+    // The session listens to the path no more. It takes no memory.
+    pub(crate) fn remove(&mut self, session: &SessionId, path: &Path)
+        ensures { self.new ≡ without session.now path.now self.old }
+    {
+        if let Some(paths) = self.sets.get_mut(session) {
+            paths.remove(path);
+        }
+    }
+
+    // The session listens to nothing more: what it listened to, if it has a set. It takes no memory.
+    pub(crate) fn remove_session(&mut self, session: &SessionId) -> Option<BTreeSet<Path>>
+        ensures left { self.new ≡ without_session session.now self.old }
+        ensures paths { keys_in result ≡ paths_of session.now self.old }
+    {
+        self.sets.remove(session)
+    }
+}
