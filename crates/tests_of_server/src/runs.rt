@@ -1,6 +1,6 @@
 //! Runs of two clients against a server.
 
-use crate::world::wrong_in;
+use crate::world::wrong_in_all;
 
 // Writes that are made before a session is open go out at its Welcome, and a goodbye carries out
 // what was left for the end.
@@ -294,79 +294,25 @@ carry
 value /a => {"b":3,"d":4}"#;
 
 #[test]
-fn a_queue_goes_out_at_the_welcome(rt: HostRuntime) {
-    let wrong = wrong_in(&rt, rt.alloc(), BEFORE_ONLINE);
+fn clients_and_a_server_get_on(rt: HostRuntime) {
+    let runs = [
+        BEFORE_ONLINE,
+        RESTART,
+        LOST_ANSWER,
+        LATE,
+        OLD,
+        AGAIN,
+        VIEW,
+        RACE,
+        UPDATES,
+    ];
+    let wrong = wrong_in_all(&rt, rt.alloc(), &runs);
     assert_eq!(rt; wrong.as_str(), "");
 }
 
 #[test]
-fn a_client_starts_again(rt: HostRuntime) {
-    let wrong = wrong_in(&rt, rt.alloc(), RESTART);
-    assert_eq!(rt; wrong.as_str(), "");
-}
-
-#[test]
-fn a_write_is_carried_out_once(rt: HostRuntime) {
-    let wrong = wrong_in(&rt, rt.alloc(), LOST_ANSWER);
-    assert_eq!(rt; wrong.as_str(), "");
-}
-
-#[test]
-fn a_late_message_does_no_harm(rt: HostRuntime) {
-    let wrong = wrong_in(&rt, rt.alloc(), LATE);
-    assert_eq!(rt; wrong.as_str(), "");
-}
-
-#[test]
-fn an_old_stamp_is_refused(rt: HostRuntime) {
-    let wrong = wrong_in(&rt, rt.alloc(), OLD);
-    assert_eq!(rt; wrong.as_str(), "");
-}
-
-#[test]
-fn a_path_is_listened_to_again(rt: HostRuntime) {
-    let wrong = wrong_in(&rt, rt.alloc(), AGAIN);
-    assert_eq!(rt; wrong.as_str(), "");
-}
-
-#[test]
-fn a_view_stays_over_a_loss(rt: HostRuntime) {
-    let wrong = wrong_in(&rt, rt.alloc(), VIEW);
-    assert_eq!(rt; wrong.as_str(), "");
-}
-
-#[test]
-fn transactions_race(rt: HostRuntime) {
-    let wrong = wrong_in(&rt, rt.alloc(), RACE);
-    assert_eq!(rt; wrong.as_str(), "");
-}
-
-#[test]
-fn messages_go_out_again(rt: HostRuntime) {
-    let wrong = wrong_in(&rt, rt.alloc(), RESEND);
-    assert_eq!(rt; wrong.as_str(), "");
-}
-
-#[test]
-fn messages_are_taken_in_order(rt: HostRuntime) {
-    let wrong = wrong_in(&rt, rt.alloc(), IN_ORDER);
-    assert_eq!(rt; wrong.as_str(), "");
-}
-
-#[test]
-fn refusals_are_noted(rt: HostRuntime) {
-    let wrong = wrong_in(&rt, rt.alloc(), REFUSED);
-    assert_eq!(rt; wrong.as_str(), "");
-}
-
-#[test]
-fn tries_have_an_end(rt: HostRuntime) {
-    let wrong = wrong_in(&rt, rt.alloc(), TRIES);
-    assert_eq!(rt; wrong.as_str(), "");
-}
-
-#[test]
-fn updates_are_whole(rt: HostRuntime) {
-    let wrong = wrong_in(&rt, rt.alloc(), UPDATES);
+fn a_client_takes_what_comes(rt: HostRuntime) {
+    let runs = [RESEND, IN_ORDER, REFUSED, TRIES];
+    let wrong = wrong_in_all(&rt, rt.alloc(), &runs);
     assert_eq!(rt; wrong.as_str(), "");
 }

@@ -462,7 +462,7 @@ fn line(
 }
 
 // The steps of the run that say something else than they must, each with that.
-pub(crate) fn wrong_in(rt: &impl Abort, alloc: Global, run: &str) -> String {
+fn wrong_in(rt: &impl Abort, alloc: Global, run: &str) -> String {
     let mut pair = Pair {
         alice: client(rt, alloc, "alice", 1),
         bob: client(rt, alloc, "bob", 1),
@@ -473,5 +473,16 @@ pub(crate) fn wrong_in(rt: &impl Abort, alloc: Global, run: &str) -> String {
         server = line(rt, alloc, server, &mut pair, &mut wrong, text);
     }
     drop(server);
+    wrong
+}
+
+/// The same of all of the runs, each of new clients and a new server.
+pub(crate) fn wrong_in_all(rt: &impl Abort, alloc: Global, runs: &[&str]) -> String {
+    let mut wrong = String::new(alloc);
+    for run in runs {
+        wrong
+            .push_str(wrong_in(rt, alloc, run).as_str())
+            .expect(rt, "memory");
+    }
     wrong
 }

@@ -1,0 +1,26 @@
+//! Tests of saved rows, of keepers, of engines and hubs over them, and of hubs with many callers, over
+//! public calls. They stand in a crate of their own, since a crate with tests is proved twice.
+#![tactic(auto)]
+
+#[cfg(test)]
+mod engines;
+#[cfg(test)]
+mod gates;
+#[cfg(test)]
+mod keepers;
+#[cfg(test)]
+mod refusing;
+#[cfg(test)]
+mod rows;
+#[cfg(test)]
+mod runs;
+#[cfg(test)]
+mod scene;
+#[cfg(test)]
+mod stops;
+#[cfg(test)]
+mod threads;
+#[cfg(test)]
+mod turns;
+#[cfg(test)]
+mod words;

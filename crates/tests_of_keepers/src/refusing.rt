@@ -1,0 +1,85 @@
+//! A keeper that refuses chosen commits, and what a keeper holds.
+
+use crate::turns::root_text;
+use pres_body::print_entries;
+use pres_hub::{Keeper, MemKeeper};
+use pres_keeper::SavedFault;
+use pres_server::{Batch, Server};
+use std::alloc::Global;
+use std::process::Abort;
+
+/// Keeps in memory, but for the commits at chosen places, counted from 0, which it refuses.
+#[derive(Drop)]
+pub(crate) struct Refusing {
+    kept: MemKeeper,
+    commits: u64,
+    refused: &'static [u64],
+}
+
+impl Refusing {
+    /// Nothing is kept yet. The commits at these places are refused.
+    pub(crate) fn at(alloc: Global, refused: &'static [u64]) -> Refusing {
+        Refusing {
+            kept: MemKeeper::new(alloc),
+            commits: 0,
+            refused,
+        }
+    }
+}
+
+impl Keeper for Refusing {
+    ghost use Rattle.std.specs.Prelude.{◌≡◌, ⊤};
+
+    ghost ready = { λ _. ⊤ };
+
+    ghost works = { λ _. ⊤ };
+
+    ghost keeps = { λ k log. k.kept ≡ log };
+
+    ghost shut = { λ _ _. ⊥ };
+
+    ghost leaves = { λ _ _ _ _. ⊤ };
+
+    fn commit(&mut self, batch: &Batch) -> Result<(), SavedFault> {
+        let place = self.commits;
+        self.commits = place.saturating_add(1);
+        if self.refused.contains(&place) {
+            return Err(SavedFault::Database);
+        }
+        self.kept.commit(batch)
+    }
+
+    fn batches(&mut self) -> Result<Vec<Batch>, SavedFault> {
+        self.kept.batches()
+    }
+
+    fn server(&mut self) -> Result<Server, SavedFault> {
+        self.kept.server()
+    }
+}
+
+// Adds the bodies of the batches, each on a line of its own.
+fn add_bodies(rt: &impl Abort, alloc: Global, text: &mut String, batches: &[Batch]) {
+    for batch in batches {
+        let body = print_entries(alloc, batch.entries()).expect(rt, "memory");
+        text.push_str(body.as_str()).expect(rt, "memory");
+        text.push('\n').expect(rt, "memory");
+    }
+}
+
+/// The bodies of the keeper's batches, each on a line of its own.
+pub(crate) fn log_text<K: Keeper>(rt: &impl Abort, alloc: Global, keeper: &mut K) -> String {
+    let batches = keeper.batches().expect(rt, "rows");
+    let mut text = String::new(alloc);
+    add_bodies(rt, alloc, &mut text, &batches);
+    drop(batches);
+    text
+}
+
+/// The value of the tree that the keeper's batches make.
+pub(crate) fn tree_text<K: Keeper>(rt: &impl Abort, alloc: Global, keeper: &mut K) -> String {
+    let server = keeper.server().expect(rt, "rows");
+    let text = root_text(rt, alloc, &server);
+    drop(server);
+    text
+}
