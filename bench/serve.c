@@ -11,7 +11,9 @@
 //   load flood PORT LISTENERS SECONDS      one writer, one write in flight: how many pushes came, and in order
 //   load killed PORT ROUNDS process|reset  how long until a watcher knows that a client was killed
 //   load fill PORT BATCHES                 makes so many batches, several writes in flight
-//   load hold PORT CONNECTIONS             opens sessions that listen, says so, and waits for the end of its input
+//   load hold PORT CONNECTIONS PATHS       opens sessions that listen to so many paths each, says so, and waits for the end of
+//                                          its input
+//   load listen PORT PATHS ROUNDS          a session listens to so many paths, then to none of them, and ends: how long each takes
 #define _GNU_SOURCE
 #include <arpa/inet.h>
 #include <errno.h>
@@ -217,6 +219,11 @@ static void open_session(Conn *c) {
 static void listen_to(Conn *c, const char *path) {
     say(c, "{\"m\":\"on\",\"path\":\"%s\",\"q\":%ld," SESSION "}", path, ++c->q, OF(c));
     hear(c, "snap");
+}
+
+static void leave_path(Conn *c, const char *path) {
+    say(c, "{\"m\":\"off\",\"path\":\"%s\",\"q\":%ld," SESSION "}", path, ++c->q, OF(c));
+    hear(c, "offdone");
 }
 
 static void set(Conn *c, const char *path, const char *value) {
@@ -649,6 +656,34 @@ static void time_killed(int rounds, int is_process) {
     puts("");
 }
 
+// ---- listens
+
+static void time_listens(int paths, int rounds) {
+    Times ons = {0}, offs = {0}, ends = {0};
+    Conn *c = conns_of(1, "l");
+    char path[32];
+    for (int round = 0; round < rounds; round++) {
+        open_session(c);
+        for (int k = 0; k < 2 * paths; k++) {
+            double asked = now();
+            snprintf(path, sizeof path, "/heard/%d", k % paths);
+            if (k < paths) listen_to(c, path);
+            else leave_path(c, path);
+            note(k < paths ? &ons : &offs, now() - asked);
+        }
+        for (int k = 0; k < paths; k++) snprintf(path, sizeof path, "/heard/%d", k), listen_to(c, path);
+        double asked = now();
+        say(c, "{\"m\":\"bye\",\"q\":%ld," SESSION "}", ++c->q, OF(c));
+        hear(c, "gone");
+        note(&ends, now() - asked);
+        close(c->fd);
+    }
+    print_times("on_", &ons);
+    print_times("off_", &offs);
+    print_times("end_", &ends);
+    puts("");
+}
+
 // ---- a file of many batches, and connections that wait
 
 // Makes its share of the batches by writes, apart from its opening and its end.
@@ -673,13 +708,15 @@ static void fill(long batches) {
     printf("seconds=%.3f\n", now() - start);
 }
 
-static void hold(int count) {
+static void hold(int count, int paths) {
     Conn *conns = conns_of(count, "h");
     char path[32], said;
     for (int i = 0; i < count; i++) {
         open_session(&conns[i]);
-        snprintf(path, sizeof path, "/idle/%d", i);
-        listen_to(&conns[i], path);
+        for (int k = 0; k < paths; k++) {
+            snprintf(path, sizeof path, "/idle/%d/%d", i, k);
+            listen_to(&conns[i], path);
+        }
     }
     puts("held=1");
     fflush(stdout);
@@ -706,7 +743,8 @@ int main(int count, char **words) {
     else if (!strcmp(use, "flood") && count == 5) time_flood(atoi(words[3]), atof(words[4]));
     else if (!strcmp(use, "killed") && count == 5) time_killed(atoi(words[3]), !strcmp(words[4], "process"));
     else if (!strcmp(use, "fill") && count == 4) fill(atol(words[3]));
-    else if (!strcmp(use, "hold") && count == 4) hold(atoi(words[3]));
+    else if (!strcmp(use, "hold") && count == 5) hold(atoi(words[3]), atoi(words[4]));
+    else if (!strcmp(use, "listen") && count == 5) time_listens(atoi(words[3]), atoi(words[4]));
     else return 2;
     return 0;
 }
