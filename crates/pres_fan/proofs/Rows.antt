@@ -1,5 +1,5 @@
 -- The rows of those whom writes touch: how they are made, and what they tell.
-use Rattle.std.proofs.Common.{refl, sym, ◌∙◌, ap, subst, ◌≡◌, ℕ, ◌<◌, ◌-◌, arith, List, [], ◌∷◌, ◌++◌, append_assoc, append-nil, length, map, filter, Bool, true, false, not, cond, ◌||◌, true≢false, Some, None, Less, is_gt, is_lt}
+use Rattle.std.proofs.Common.{refl, sym, ◌∙◌, ap, subst, ◌≡◌, ℕ, ◌<◌, ◌-◌, arith, List, [], ◌∷◌, ◌++◌, append_assoc, append-nil, length, map, filter, Bool, true, false, not, cond, ◌||◌, true≢false, T, Some, None, Less, is_gt, is_lt}
 use Rattle.std.specs.Prelude.{slice_index_or, slice_set}
 use Rattle.std.specs.List.{list_any, AllByRecursion}
 use Rattle.std.specs.List.Sorted.{IsStrictlySortedBy}
@@ -270,6 +270,9 @@ touched_rise writes ls held =
 
 pub touched_paths_rise : (writes : List BasicWrite) (s : SessionId) (ls : List Listener) → IsListeners ls → IsStrictlySortedBy path_cmp (touched_of writes s ls)
 touched_paths_rise writes s ls held = IsStrictlySortedBy-filter path_cmp (is_touched writes) (paths_of s ls) (paths_rise s ls held)
+
+pub touched_sorted : (writes : List BasicWrite) (ls : List Listener) → IsListeners ls → T (is_sorted session_cmp (touched writes ls))
+touched_sorted writes ls held = subst T (sym (touched_rise writes ls held)) tt
 
 find_row : (s : SessionId) (f : SessionId → List Path) (ts : List SessionId) → find session_cmp s (map (λ t. (t, f t)) ts) ≡ cond (list_any (same_session s) ts) (Some (f s)) None
 find_row s f [] = refl
