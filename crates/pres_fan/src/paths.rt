@@ -31,7 +31,7 @@ impl Model for SessionPaths {
 }
 
 impl SessionPaths {
-    // None of nobody. It takes no memory.
+    // Nobody listens to anything. It takes no memory.
     pub(crate) fn new(alloc: Global) -> SessionPaths
         ensures { result ≡ [] }
     {
