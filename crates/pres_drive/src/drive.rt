@@ -6,12 +6,11 @@ ghost use Rattle.pres_client.specs.declared.call.Call.TheVariants.{GoOnline, GoO
 ghost use Rattle.pres_client.specs.Steps.{IsMessage};
 ghost use Rattle.pres_drive.specs.Driven.{Drives, IsSettled, asked_in};
 ghost use Rattle.pres_drive.specs.Printed.{notice_lines, refusal_text, line_of};
-ghost use Rattle.pres_sock.specs.Ends.{is_handshake};
+ghost use Rattle.pres_websocket.specs.Ends.{is_handshake};
 
 use crate::notices::notice_line;
 use pres_client::{Call, Client, ClientFault, Notice};
-use pres_sock::socket::{Came, Socket, close, connect, flush};
-use pres_sock::{SockFault, socket};
+use pres_websocket::{Came, SockFault, Socket, close, connect, flush, read, write};
 use pres_wire::{Down, Up, WireFault};
 use std::alloc::Global;
 use std::io::{Read, Write};
@@ -188,7 +187,7 @@ fn next_message<S: Read + Write + Drop, M: MaskKeys + Drop>(
     ensures err { IfErr result (λ e. is_handshake e ≡ false) }
 {
     for _ in 0..u64::MAX {
-        match message_in(alloc, socket::read(socket)?) {
+        match message_in(alloc, read(socket)?) {
             Ok(Some(message)) => return Ok(message),
             Ok(None) => {}
             Err(fault) => return Err(fault),
@@ -254,7 +253,7 @@ fn put<S: Read + Write + Drop, M: MaskKeys + Drop>(
     ensures { IfErr result (λ e. is_handshake e ≡ false) }
 {
     let text = message.encode(alloc)?;
-    socket::write(alloc, socket, text.as_str())
+    write(alloc, socket, text.as_str())
 }
 
 // Tells the notices, each as a line.

@@ -123,9 +123,8 @@ fn connection<
     let wait = Duration::from_millis(READ_MILLIS);
     let mut clock = WallClock::new(rt);
     match Wakeable::new(rt, alloc, stream, wait, crowd) {
-        Ok(stream) => {
-            let bell = stream.bell().ok();
-            drop(serve_stream(rt, alloc, hub, stream, bell, &mut clock));
+        Ok((stream, bell)) => {
+            drop(serve_stream(rt, alloc, hub, stream, Some(bell), &mut clock));
         }
         Err(stream) => {
             if stream.set_read_timeout(Some(wait)).is_ok() {

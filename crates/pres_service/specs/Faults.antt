@@ -4,8 +4,8 @@ use Rattle.pres_table.specs.declared.fault.SavedFault.{SavedFault}
 use Rattle.pres_table.specs.declared.fault.SavedFault.TheVariants as saved
 use Rattle.pres_seats.specs.declared.fault.HubFault.{HubFault}
 use Rattle.pres_seats.specs.declared.fault.HubFault.TheVariants as hub
-use Rattle.pres_sock.specs.declared.fault.SockFault.{SockFault}
-use Rattle.pres_sock.specs.declared.fault.SockFault.TheVariants as sock
+use Rattle.pres_websocket.specs.declared.fault.SockFault.{SockFault}
+use Rattle.pres_websocket.specs.declared.fault.SockFault.TheVariants as sock
 use Rattle.pres_service.specs.declared.fault.ServiceFault.{ServiceFault}
 use Rattle.pres_service.specs.declared.fault.ServiceFault.TheVariants as fault
 

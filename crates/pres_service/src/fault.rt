@@ -5,7 +5,7 @@ ghost use Rattle.pres_service.specs.Faults.{status_of};
 
 use pres_hub::HubFault;
 use pres_keeper::SavedFault;
-use pres_sock::SockFault;
+use pres_websocket::SockFault;
 use std::alloc::{AllocError, AllocFailed};
 use thiserror::Error;
 

@@ -10,10 +10,10 @@ use Rattle.std.specs.contracts.result.Result as result
 use Rattle.tungstenite.proofs.protocol.WebSocket.TheSendSync.{the_send as socket_is}
 use Rattle.pres_seats.proofs.seat.Seat.TheSendSync.{the_send as seat_is}
 use Rattle.pres_hub.proofs.Crossing.{outbox_send, hub_sync}
-use Rattle.pres_sock.proofs.fault.SockFault.TheSendSync.{the_send as fault_is}
-use Rattle.pres_sock.proofs.meter.Metered.TheSendSync.{the_send as metered_is}
-use Rattle.pres_sock.proofs.socket.Came.TheSendSync.{the_send as came_is}
-use Rattle.pres_sock.specs.contracts.fault.SockFault as fault
+use Rattle.pres_websocket.proofs.fault.SockFault.TheSendSync.{the_send as fault_is}
+use Rattle.pres_websocket.proofs.meter.Metered.TheSendSync.{the_send as metered_is}
+use Rattle.pres_websocket.proofs.socket.Came.TheSendSync.{the_send as came_is}
+use Rattle.pres_websocket.specs.contracts.fault.SockFault as fault
 use Rattle.pres_sock.specs.contracts.place.Place as place
 use Rattle.pres_sock.specs.contracts.place.Visit as visit
 use Rattle.pres_sock.specs.contracts.serve.Served as served

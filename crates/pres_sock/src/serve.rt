@@ -3,14 +3,12 @@
 ghost use Rattle.std.specs.Prelude.{◌≡◌, ◌≤◌, true, false, None, Ok, IfOk, IfErr, IfSome};
 ghost use Rattle.pres_wire.specs.UpForms.{decoded};
 ghost use Rattle.pres_wire.specs.declared.up.Up.TheVariants.{Hello};
-ghost use Rattle.pres_sock.specs.Ends.{is_handshake, fails_to_shake};
+ghost use Rattle.pres_websocket.specs.Ends.{is_handshake, fails_to_shake};
 
-use crate::fault::SockFault;
 use crate::place::{Place, Visit, code_of, join, ring};
-use crate::socket;
-use crate::socket::{Came, Socket, close, flush, read, shake};
 use pres_hub::{Bell, Gate, Hub, Keeper, Parting};
 use pres_server::{Moment, SessionId, Up};
+use pres_websocket::{Came, SockFault, Socket, accept, close, flush, read, write};
 use pres_wire::{Code, Down, WireFault};
 use std::alloc::Global;
 use std::io::{Read, Write};
@@ -196,7 +194,7 @@ fn open<
     bell: Option<B>,
     clock: &mut C,
 ) -> Result<Option<Served<L, B, S>>, SockFault> {
-    let mut socket = shake(visit.alloc, stream)?;
+    let mut socket = accept(visit.alloc, stream)?;
     let mut due = Vec::new(visit.alloc);
     let Some(place) = greet(visit, &mut socket, bell, &mut due, &mut *clock)? else {
         return Ok(None);
@@ -272,7 +270,7 @@ fn put<S: Read + Write + Drop>(
     ensures { IfErr result (λ e. is_handshake e ≡ false) }
 {
     let text = message.encode(alloc)?;
-    socket::write(alloc, socket, text.as_str())
+    write(alloc, socket, text.as_str())
 }
 
 // Whether the connection ends behind it: before a session is open, what is no Hello ends it.

@@ -4,7 +4,7 @@ use crate::script::{Fails, NONE, Script, said, script_of, server_frame};
 use pres_client::{Call, Client};
 use pres_drive::{Line, drive_client};
 use pres_ids::{ClientId, Number};
-use pres_sock::SockFault;
+use pres_websocket::SockFault;
 use pres_tree::Path;
 use pres_write::Draft;
 use rtrb::{Consumer, Producer, RingBuffer};

@@ -1,6 +1,6 @@
 //! Tests of connections over streams of known bytes and over TCP, of a server that is kept in a file,
 //! of its clients, of scripts of worlds, and of the command line, over the public calls of the crates
-//! from `pres_sock` to `pres_command`. They stand in a crate of their own, since a crate with tests is
+//! from `pres_websocket` to `pres_command`. They stand in a crate of their own, since a crate with tests is
 //! proved twice.
 #![tactic(auto)]
 

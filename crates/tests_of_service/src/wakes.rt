@@ -1,7 +1,7 @@
 //! What ends a read of a stream that waits for bytes or for its bell.
 
 use pres_hub::Bell;
-use pres_net::{Crowd, Wakeable};
+use pres_net::{Crowd, StreamBell, Wakeable};
 use std::alloc::Global;
 use std::io::{ErrorKind, Read, Write};
 use std::net::{Net, TcpListener, TcpStream};
@@ -22,16 +22,16 @@ fn pair<R: Net<Listener = TcpListener, Stream = TcpStream>>(
     Ok((near, far))
 }
 
-// A stream whose reads wait no longer than this, and its peer.
+// A stream whose reads wait no longer than this, its bell, and its peer.
 fn waking<'a, R: Net<Listener = TcpListener, Stream = TcpStream> + Abort>(
     rt: &R,
     alloc: Global,
     millis: u64,
     crowd: &'a Crowd,
-) -> (Wakeable<'a>, TcpStream) {
+) -> (Wakeable<'a>, StreamBell, TcpStream) {
     let (near, far) = pair(rt).expect(rt, "a connection");
     match Wakeable::new(rt, alloc, near, Duration::from_millis(millis), crowd) {
-        Ok(stream) => (stream, far),
+        Ok((stream, bell)) => (stream, bell, far),
         Err(_) => panic!(rt; "no descriptors"),
     }
 }
@@ -44,7 +44,7 @@ fn read(stream: &mut Wakeable<'_>) -> Result<usize, ErrorKind> {
 #[test]
 fn time_ends_a_read(rt: HostRuntime) {
     let crowd = Crowd::new();
-    let (mut stream, _far) = waking(&rt, rt.alloc(), 30, &crowd);
+    let (mut stream, _bell, _far) = waking(&rt, rt.alloc(), 30, &crowd);
     let start = Instant::now(&rt).expect(&rt, "a clock");
     assert_eq!(rt; read(&mut stream), Err(ErrorKind::WouldBlock));
     assert!(rt; start.elapsed(&rt).expect(&rt, "a clock") >= Duration::from_millis(30));
@@ -53,8 +53,7 @@ fn time_ends_a_read(rt: HostRuntime) {
 #[test]
 fn a_ring_ends_a_read(rt: HostRuntime) {
     let crowd = Crowd::new();
-    let (mut stream, _far) = waking(&rt, rt.alloc(), LONG_MILLIS, &crowd);
-    let bell = stream.bell().expect(&rt, "a bell");
+    let (mut stream, bell, _far) = waking(&rt, rt.alloc(), LONG_MILLIS, &crowd);
     let start = Instant::now(&rt).expect(&rt, "a clock");
     let child = thread::spawn(&rt, move || {
         for _ in 0..3u8 {
@@ -74,8 +73,7 @@ fn a_ring_ends_a_read(rt: HostRuntime) {
 #[test]
 fn a_ring_is_heard_once(rt: HostRuntime) {
     let crowd = Crowd::new();
-    let (mut stream, mut far) = waking(&rt, rt.alloc(), LONG_MILLIS, &crowd);
-    let bell = stream.bell().expect(&rt, "a bell");
+    let (mut stream, bell, mut far) = waking(&rt, rt.alloc(), LONG_MILLIS, &crowd);
     let start = Instant::now(&rt).expect(&rt, "a clock");
     for _ in 0..5u8 {
         bell.ring();
@@ -106,7 +104,7 @@ fn until_the_end(stream: &mut Wakeable<'_>) -> Result<usize, ErrorKind> {
 fn all_bytes_come_and_then_the_end(rt: HostRuntime) {
     for sent in [3, 64, 1_000, 640] {
         let crowd = Crowd::new();
-        let (mut stream, mut far) = waking(&rt, rt.alloc(), LONG_MILLIS, &crowd);
+        let (mut stream, _bell, mut far) = waking(&rt, rt.alloc(), LONG_MILLIS, &crowd);
         let start = Instant::now(&rt).expect(&rt, "a clock");
         far.write_all([7u8; 1_000].get(..sent).unwrap_or(&[]))
             .expect(&rt, "a connection");

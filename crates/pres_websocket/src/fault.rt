@@ -1,9 +1,9 @@
 //! Why a connection ended.
 
 ghost use Rattle.std.specs.Prelude.{◌≡◌, false};
-ghost use Rattle.pres_sock.specs.Ends.{is_handshake, number_of, of_stream};
+ghost use Rattle.pres_websocket.specs.Ends.{is_handshake, number_of, of_stream};
 
-use pres_hub::HubFault;
+use pres_seats::HubFault;
 use std::alloc::AllocError;
 use thiserror::Error;
 use tungstenite::Error;
@@ -56,7 +56,7 @@ pub(crate) fn stream_fault(error: Error) -> SockFault
 
 impl From<AllocError> for SockFault {
     ghost use Rattle.std.specs.Prelude.{◌≡◌};
-    ghost use Rattle.pres_sock.specs.declared.fault.SockFault.TheVariants.{Memory};
+    ghost use Rattle.pres_websocket.specs.declared.fault.SockFault.TheVariants.{Memory};
 
     ghost from_gives = { λ _ e. e ≡ Memory };
 

@@ -1,7 +1,7 @@
 //! A WebSocket over any stream.
 
 ghost use Rattle.std.specs.Prelude.{◌≡◌, false, IfErr};
-ghost use Rattle.pres_sock.specs.Ends.{is_handshake, of_shake};
+ghost use Rattle.pres_websocket.specs.Ends.{is_handshake, of_shake};
 
 use crate::fault::{SockFault, stream_fault};
 use crate::meter::Metered;
@@ -30,7 +30,7 @@ fn config() -> WebSocketConfig {
 /// A server's handshake of RFC 6455, tried again after each read that gives nothing. Its room on the
 /// stack is given back before a connection is idle.
 #[inline(never)]
-pub(crate) fn shake<S: Read + Write + Drop>(
+pub fn accept<S: Read + Write + Drop>(
     alloc: Global,
     stream: S,
 ) -> Result<Socket<S, NoMask>, SockFault> {

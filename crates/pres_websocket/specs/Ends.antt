@@ -2,8 +2,8 @@
 use Rattle.std.specs.Prelude.{ℕ, Bool, true, false, Result, Ok, Err}
 use Rattle.tungstenite.specs.declared.error.Error.{Error}
 use Rattle.tungstenite.specs.declared.error.Error.TheVariants as error
-use Rattle.pres_sock.specs.declared.fault.SockFault.{SockFault}
-use Rattle.pres_sock.specs.declared.fault.SockFault.TheVariants as fault
+use Rattle.pres_websocket.specs.declared.fault.SockFault.{SockFault}
+use Rattle.pres_websocket.specs.declared.fault.SockFault.TheVariants as fault
 
 -- it ended before there was a WebSocket, so no session was opened
 abbrev pub is_handshake : SockFault → Bool
