@@ -4,7 +4,7 @@ ghost use Rattle.pres_saved.specs.Keeps.{IsReady};
 
 use crate::refusing::Refusing;
 use crate::turns::{given, texts};
-use crate::words::{note, said};
+use crate::words::{expect_said, said};
 use pres_engine::{Engine, EngineFault, Keeper, Premise, Supposed};
 use pres_saved::SqlKeeper;
 use sqlite::{Alter, Connection};
@@ -35,37 +35,32 @@ fn turned<K: Keeper + Drop>(
     }
 }
 
-// The lines that say something else, and the engine's number behind them.
-fn wrong_in<K: Keeper + Drop>(
+// Each line has to say what it must: the engine's number behind them.
+fn number_behind<K: Keeper + Drop>(
     rt: &impl Abort,
     alloc: Global,
     engine: &mut Engine<K>,
     lines: &str,
-) -> String {
-    let mut wrong = String::new(alloc);
+) -> u64 {
     for line in lines.lines() {
         let (case, wanted) = line.split_once(" => ").expect(rt, "an answer");
-        let text = turned(rt, alloc, engine, case);
-        note(rt, alloc, case, text.as_str(), wanted, &mut wrong);
+        expect_said(rt, case, turned(rt, alloc, engine, case), wanted);
     }
-    let number = engine.number();
-    let part = format!(in alloc; "number {number}").expect(rt, "memory");
-    wrong.push_str(part.as_str()).expect(rt, "memory");
-    wrong
+    engine.number()
 }
 
-// The lines are run by the server that the keeper makes. The keeper, and what was wrong.
+// The lines are run by the server that the keeper makes: its number behind them, and the keeper.
 fn run<K: Keeper + Drop>(
     rt: &impl Abort,
     alloc: Global,
     engine: Result<Engine<K>, (EngineFault, K)>,
     lines: &str,
-) -> (String, K) {
+) -> (u64, K) {
     match engine {
         Ok(engine) => {
             let mut engine = engine;
-            let wrong = wrong_in(rt, alloc, &mut engine, lines);
-            (wrong, engine.into_keeper())
+            let number = number_behind(rt, alloc, &mut engine, lines);
+            (number, engine.into_keeper())
         }
         Err(_) => panic!(rt; "no server is made"),
     }
@@ -77,12 +72,12 @@ fn run_over<P: Premise, S: Alter + Drop, R: Abort>(
     alloc: Global,
     keeper: SqlKeeper<S>,
     lines: &String,
-) -> (String, Connection<S>)
+) -> (u64, Connection<S>)
     requires { P.holds → IsReady S.Store keeper }
 {
     let keeper = Supposed::<SqlKeeper<S>, P>::new(keeper);
-    let (wrong, keeper) = run(rt, alloc, Engine::open(keeper), lines.as_str());
-    (wrong, keeper.into_inner().into_connection())
+    let (number, keeper) = run(rt, alloc, Engine::open(keeper), lines.as_str());
+    (number, keeper.into_inner().into_connection())
 }
 
 // The same over a database without tables, and over one that has them.
@@ -92,7 +87,7 @@ fn run_in<S: Alter + Drop, R: Abort>(
     connection: Connection<S>,
     makes: bool,
     lines: String,
-) -> (String, Connection<S>) {
+) -> (u64, Connection<S>) {
     if !connection.is_autocommit() {
         panic!(rt; "a transaction is open");
     }
@@ -111,7 +106,7 @@ fn run_in<S: Alter + Drop, R: Abort>(
 #[test]
 fn refused_commits_leave_the_engine(rt: HostRuntime) {
     let keeper = Refusing::at(rt.alloc(), &[1]);
-    let (wrong, keeper) = run(
+    let (number, keeper) = run(
         &rt,
         rt.alloc(),
         Engine::open(keeper),
@@ -120,8 +115,8 @@ fn refused_commits_leave_the_engine(rt: HostRuntime) {
 1002 {"m":"beat","s":["bob",1,1]} => refused
 1003 {"m":"op","n":1,"op":{"op":"set","path":"/a","value":1},"q":1,"s":["alice",1,1]} => {"done":2,"m":"reply","n":1,"out":"wrote","q":1,"r":1,"s":["alice",1,1],"z":2}"#,
     );
-    assert_eq!(rt; wrong.as_str(), "number 2");
-    let (wrong, keeper) = run(
+    assert_eq!(rt; number, 2);
+    let (number, keeper) = run(
         &rt,
         rt.alloc(),
         Engine::open(keeper),
@@ -130,14 +125,14 @@ fn refused_commits_leave_the_engine(rt: HostRuntime) {
 2002 restart alice => {"m":"gone","r":3,"s":["alice",1,1],"why":"restart","z":4}"#,
     );
     drop(keeper);
-    assert_eq!(rt; wrong.as_str(), "number 4");
+    assert_eq!(rt; number, 4);
 }
 
 // A server in a database is made again of what was found there.
 #[test]
 fn engines_go_on_from_a_database(rt: HostRuntime) {
     let connection = Connection::open_in_memory(rt.alloc()).expect(&rt, "a database");
-    let (wrong, connection) = run_in(
+    let (number, connection) = run_in(
         &rt,
         rt.alloc(),
         connection,
@@ -149,8 +144,8 @@ fn engines_go_on_from_a_database(rt: HostRuntime) {
 1001 {"m":"op","n":1,"op":{"op":"set","path":"/a","value":1},"q":1,"s":["alice",1,1]} => {"done":2,"m":"reply","n":1,"out":"wrote","q":1,"r":1,"s":["alice",1,1],"z":2}"#,
         ),
     );
-    assert_eq!(rt; wrong.as_str(), "number 2");
-    let (wrong, connection) = run_in(
+    assert_eq!(rt; number, 2);
+    let (number, connection) = run_in(
         &rt,
         rt.alloc(),
         connection,
@@ -162,5 +157,5 @@ fn engines_go_on_from_a_database(rt: HostRuntime) {
         ),
     );
     drop(connection);
-    assert_eq!(rt; wrong.as_str(), "number 3");
+    assert_eq!(rt; number, 3);
 }

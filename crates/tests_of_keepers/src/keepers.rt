@@ -1,7 +1,7 @@
 //! Runs of keepers, over a database in memory and in memory alone.
 
 use crate::turns::step;
-use crate::words::{note, refused, run_sql, said};
+use crate::words::{expect_said, refused, run_sql, said};
 use pres_keeper::{Keeper, MemKeeper};
 use pres_saved::SqlKeeper;
 use sqlite::{Alter, Connection, Row, params};
@@ -85,41 +85,35 @@ fn after<S: Alter + Drop>(
     }
 }
 
-// The connection after the line's step, which is noted where it says something else.
+// The connection after the line's step, which has to say what it must.
 fn tried<S: Alter + Drop>(
     rt: &impl Abort,
     alloc: Global,
     connection: Connection<S>,
     line: &str,
-    wrong: &mut String,
 ) -> Connection<S> {
     let (call, wanted) = line.split_once(" => ").expect(rt, "an answer");
     let (connection, text) = after(rt, alloc, connection, call);
-    note(rt, alloc, call, text.as_str(), wanted, wrong);
+    expect_said(rt, call, text, wanted);
     connection
 }
 
-// The steps over a new database that say something else, each with that.
-fn wrong_in_database(rt: &impl Abort, alloc: Global, lines: &str) -> String {
+// Each step over a new database has to say what it must.
+fn check_database(rt: &impl Abort, alloc: Global, lines: &str) {
     let mut connection = Connection::open_in_memory(alloc).expect(rt, "a database");
-    let mut wrong = String::new(alloc);
     for line in lines.lines() {
-        connection = tried(rt, alloc, connection, line, &mut wrong);
+        connection = tried(rt, alloc, connection, line);
     }
     drop(connection);
-    wrong
 }
 
 // The same over a keeper in memory.
-fn wrong_in_memory(rt: &impl Abort, alloc: Global, lines: &str) -> String {
+fn check_memory(rt: &impl Abort, alloc: Global, lines: &str) {
     let mut keeper = MemKeeper::new(alloc);
-    let mut wrong = String::new(alloc);
     for line in lines.lines() {
         let (call, wanted) = line.split_once(" => ").expect(rt, "an answer");
-        let text = step(rt, alloc, &mut keeper, call);
-        note(rt, alloc, call, text.as_str(), wanted, &mut wrong);
+        expect_said(rt, call, step(rt, alloc, &mut keeper, call), wanted);
     }
-    wrong
 }
 
 const FAULTS: &str = r#"server => NotOurs
@@ -180,19 +174,18 @@ fn with_tables(rt: &impl Abort, alloc: Global, lines: &str) -> String {
 
 #[test]
 fn batches_are_kept_in_a_database(rt: HostRuntime) {
-    for lines in [FAULTS, SUPERSEDED] {
-        let wrong = wrong_in_database(&rt, rt.alloc(), lines);
-        assert_eq!(rt; wrong.as_str(), "");
-    }
+    check_database(&rt, rt.alloc(), FAULTS);
+    check_database(&rt, rt.alloc(), SUPERSEDED);
+}
+
+// The lines have to say the same over a keeper in memory and over one in a database.
+fn check_both(rt: &impl Abort, alloc: Global, lines: &str) {
+    check_memory(rt, alloc, lines);
+    check_database(rt, alloc, with_tables(rt, alloc, lines).as_str());
 }
 
 #[test]
 fn servers_are_made_anew(rt: HostRuntime) {
-    for lines in [TWICE, RESTARTED] {
-        let wrong = wrong_in_memory(&rt, rt.alloc(), lines);
-        assert_eq!(rt; wrong.as_str(), "");
-        let lines = with_tables(&rt, rt.alloc(), lines);
-        let wrong = wrong_in_database(&rt, rt.alloc(), lines.as_str());
-        assert_eq!(rt; wrong.as_str(), "");
-    }
+    check_both(&rt, rt.alloc(), TWICE);
+    check_both(&rt, rt.alloc(), RESTARTED);
 }

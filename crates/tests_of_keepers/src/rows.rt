@@ -1,7 +1,7 @@
 //! Runs of the table of saved rows, in memory. A run is a text of lines, each a call and what it
 //! must answer; a line `sql STATEMENT` is another program's, which has the database for itself.
 
-use crate::words::{note, refused, run_sql, said};
+use crate::words::{expect_said, expect_text, refused, run_sql, said};
 use pres_ids::Number;
 use pres_table::{SavedFault, SavedRow, Table, Take};
 use pres_write::{MAX_SAFE_INTEGER, Moment};
@@ -149,39 +149,26 @@ fn step<S: Alter + Drop>(
     }
 }
 
-// The connection after the line's call.
+// The connection after the line's call, which has to answer what it must.
 fn tried<S: Alter + Drop>(
     rt: &impl Abort,
     alloc: Global,
     connection: Connection<S>,
     line: &str,
-    wrong: &mut String,
 ) -> Connection<S> {
     let (call, wanted) = line.split_once(" => ").expect(rt, "an answer");
     let (connection, text) = step(rt, alloc, connection, call);
-    note(rt, alloc, call, text.as_str(), wanted, wrong);
+    expect_said(rt, call, text, wanted);
     connection
 }
 
-// The calls that answer something else, each with that.
-fn wrong_in<S: Alter + Drop>(
-    rt: &impl Abort,
-    alloc: Global,
-    mut connection: Connection<S>,
-    lines: &str,
-) -> String {
-    let mut wrong = String::new(alloc);
+// Each call in a new database has to answer what it must.
+fn check(rt: &impl Abort, alloc: Global, lines: &str) {
+    let mut connection = Connection::open_in_memory(alloc).expect(rt, "a database");
     for line in lines.lines() {
-        connection = tried(rt, alloc, connection, line, &mut wrong);
+        connection = tried(rt, alloc, connection, line);
     }
     drop(connection);
-    wrong
-}
-
-// The same in a new database.
-fn wrong_from_nothing(rt: &impl Abort, alloc: Global, lines: &str) -> String {
-    let connection = Connection::open_in_memory(alloc).expect(rt, "a database");
-    wrong_in(rt, alloc, connection, lines)
 }
 
 const KEPT: &str = r#"open => NotOurs
@@ -232,14 +219,12 @@ load => BadRow 1"#;
 
 #[test]
 fn rows_are_kept_in_order(rt: HostRuntime) {
-    let wrong = wrong_from_nothing(&rt, rt.alloc(), KEPT);
-    assert_eq!(rt; wrong.as_str(), "");
+    check(&rt, rt.alloc(), KEPT);
 }
 
 #[test]
 fn bad_rows_are_told(rt: HostRuntime) {
-    let wrong = wrong_from_nothing(&rt, rt.alloc(), BAD);
-    assert_eq!(rt; wrong.as_str(), "");
+    check(&rt, rt.alloc(), BAD);
 }
 
 #[test]
@@ -254,5 +239,5 @@ fn faults_are_numbered(rt: HostRuntime) {
     );
     assert_eq!(rt; numbers, (1, 2, 3, 4, 5));
     let text = bad.to_string(rt.alloc()).expect(&rt, "memory");
-    assert_eq!(rt; text.as_str(), "row 1 is bad");
+    expect_text(&rt, text, "row 1 is bad");
 }

@@ -96,9 +96,8 @@ fn refused_commits_leave_the_core(rt: HostRuntime) {
     let keeper = Refusing::at(rt.alloc(), &[1, 3]);
     let (told, keeper) = run(&rt, rt.alloc(), keeper, REFUSED);
     drop(keeper);
-    assert_eq!(rt; told.wrong.as_str(), "");
-    assert_eq!(rt; told.counts, (3, 2, 0, Some(2)));
-    assert_eq!(rt; told.log.as_str(), REFUSED_LOG);
+    told.expect_counts(&rt, (3, 2, 0, Some(2)));
+    told.expect_log(&rt, REFUSED_LOG);
 }
 
 // Alice comes before Bob.
@@ -107,25 +106,22 @@ fn a_tick_ends_marked_sessions_in_order(rt: HostRuntime) {
     let keeper = Refusing::at(rt.alloc(), &[2, 3]);
     let (told, keeper) = run(&rt, rt.alloc(), keeper, MARKED);
     drop(keeper);
-    assert_eq!(rt; told.wrong.as_str(), "");
-    assert_eq!(rt; told.counts, (4, 2, 0, Some(2)));
-    assert_eq!(rt; told.log.as_str(), MARKED_LOG);
+    told.expect_counts(&rt, (4, 2, 0, Some(2)));
+    told.expect_log(&rt, MARKED_LOG);
 }
 
 #[test]
 fn a_tick_ends_who_was_silent_for_a_lease(rt: HostRuntime) {
     let (told, keeper) = run(&rt, rt.alloc(), MemKeeper::new(rt.alloc()), LEASE);
     drop(keeper);
-    assert_eq!(rt; told.wrong.as_str(), "");
-    assert_eq!(rt; told.counts, (2, 1, 0, Some(1)));
+    told.expect_counts(&rt, (2, 1, 0, Some(1)));
 }
 
 #[test]
 fn messages_are_kept_back_in_order(rt: HostRuntime) {
     let (told, keeper) = run(&rt, rt.alloc(), MemKeeper::new(rt.alloc()), KEPT_BACK);
     drop(keeper);
-    assert_eq!(rt; told.wrong.as_str(), "");
-    assert_eq!(rt; told.counts, (2, 1, 0, Some(1)));
+    told.expect_counts(&rt, (2, 1, 0, Some(1)));
 }
 
 // Who takes nothing is ended in the call that fills the ring, and what was put stays to be taken.
@@ -133,18 +129,16 @@ fn messages_are_kept_back_in_order(rt: HostRuntime) {
 fn slow_readers_are_ended(rt: HostRuntime) {
     let (told, keeper) = run(&rt, rt.alloc(), MemKeeper::new(rt.alloc()), SLOW);
     drop(keeper);
-    assert_eq!(rt; told.wrong.as_str(), "");
-    assert_eq!(rt; told.counts, (266, 264, 0, Some(264)));
-    assert_eq!(rt; told.log.lines().nth(261).unwrap_or(""), SLOW_END);
-    assert_eq!(rt; told.tree.as_str(), r#"{"a":260,"b":true}"#);
+    told.expect_counts(&rt, (266, 264, 0, Some(264)));
+    told.expect_entry(&rt, 261, SLOW_END);
+    told.expect_tree(&rt, r#"{"a":260,"b":true}"#);
 }
 
 #[test]
 fn readers_in_time_stay(rt: HostRuntime) {
     let (told, keeper) = run(&rt, rt.alloc(), MemKeeper::new(rt.alloc()), IN_TIME);
     drop(keeper);
-    assert_eq!(rt; told.wrong.as_str(), "");
-    assert_eq!(rt; told.counts, (263, 261, 0, Some(261)));
+    told.expect_counts(&rt, (263, 261, 0, Some(261)));
 }
 
 // What was answered stays in the log, and sessions whose ends were refused are ended first.
@@ -152,12 +146,10 @@ fn readers_in_time_stay(rt: HostRuntime) {
 fn open_sessions_are_ended_at_the_start(rt: HostRuntime) {
     let keeper = Refusing::at(rt.alloc(), &[3, 4]);
     let (told, keeper) = run(&rt, rt.alloc(), keeper, LEFT_OPEN);
-    assert_eq!(rt; told.wrong.as_str(), "");
-    assert_eq!(rt; told.counts, (3, 3, 0, Some(3)));
+    told.expect_counts(&rt, (3, 3, 0, Some(3)));
     drop(told);
     let (told, keeper) = run(&rt, rt.alloc(), keeper, STARTED_OVER);
     drop(keeper);
-    assert_eq!(rt; told.wrong.as_str(), "");
-    assert_eq!(rt; told.counts, (5, 0, 0, Some(0)));
-    assert_eq!(rt; told.log.as_str(), STARTED_OVER_LOG);
+    told.expect_counts(&rt, (5, 0, 0, Some(0)));
+    told.expect_log(&rt, STARTED_OVER_LOG);
 }

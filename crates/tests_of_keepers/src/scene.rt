@@ -4,6 +4,7 @@ ghost use Rattle.std.specs.Prelude.{◌≡◌, ◌^◌};
 ghost use Rattle.pres_log.specs.declared.fault.Fault.{Fault};
 
 use crate::refusing::{log_text, tree_text};
+use crate::words::expect_said;
 use pres_exchange::Outbox;
 use pres_hub::{Core, HubFault, Keeper, NoBell, Parting, Report, Seat};
 use pres_server::{ClientId, Moment, Number, SessionId, Stamp, Up, Why};
@@ -40,14 +41,34 @@ struct Scene<L: Ledger, K: Keeper + Drop> {
     partings: Vec<Parting<L>>,
 }
 
-/// What a run came to: the steps that answered something else, what was counted, and the log and the
-/// tree that are kept.
+/// What a run came to: what was counted, and the log and the tree that are kept.
 #[derive(Drop)]
 pub(crate) struct Told {
-    pub(crate) wrong: String,
-    pub(crate) counts: Counts,
-    pub(crate) log: String,
-    pub(crate) tree: String,
+    counts: Counts,
+    log: String,
+    tree: String,
+}
+
+impl Told {
+    /// So much has to be counted.
+    pub(crate) fn expect_counts(&self, rt: &impl Abort, wanted: Counts) {
+        assert_eq!(rt; self.counts, wanted);
+    }
+
+    /// The log has to be this.
+    pub(crate) fn expect_log(&self, rt: &impl Abort, wanted: &str) {
+        assert_eq!(rt; self.log.as_str(), wanted);
+    }
+
+    /// The entry with this index has to be this.
+    pub(crate) fn expect_entry(&self, rt: &impl Abort, index: usize, wanted: &str) {
+        assert_eq!(rt; self.log.lines().nth(index), Some(wanted));
+    }
+
+    /// The tree has to be this.
+    pub(crate) fn expect_tree(&self, rt: &impl Abort, wanted: &str) {
+        assert_eq!(rt; self.tree.as_str(), wanted);
+    }
 }
 
 /// The first session of the client.
@@ -241,23 +262,12 @@ impl<L: Ledger, K: Keeper + Drop> Scene<L, K> {
         }
     }
 
-    // Carries out the step of a line. Where it answers something else, its answer is added.
-    fn check(&mut self, rt: &impl Abort, line: &str, wrong: &mut String) {
-        let (step, wanted) = line.split_once(" => ").expect(rt, "an answer");
-        let answer = self.step(rt, step);
-        if answer.as_str() != wanted {
-            let line = format!(in self.alloc; "{step} => {answer}\n").expect(rt, "memory");
-            wrong.push_str(line.as_str()).expect(rt, "memory");
-        }
-    }
-
-    // The steps that answer something else, each with what it answers.
-    fn wrong_in(&mut self, rt: &impl Abort, lines: &str) -> String {
-        let mut wrong = String::new(self.alloc);
+    // Carries out the step of each line, which has to answer what it says.
+    fn check(&mut self, rt: &impl Abort, lines: &str) {
         for line in lines.lines() {
-            self.check(rt, line, &mut wrong);
+            let (step, wanted) = line.split_once(" => ").expect(rt, "an answer");
+            expect_said(rt, step, self.step(rt, step), wanted);
         }
-        wrong
     }
 
     // Ends the run: what was counted, and the keeper. Whoever still has a place loses it first.
@@ -292,7 +302,7 @@ fn run_with<L: Ledger, K: Keeper + Drop, R: Abort>(
     blank: Blank,
     keeper: K,
     lines: &String,
-) -> (String, Counts, K)
+) -> (Counts, K)
     requires name { blank.name ≡ L.name }
     requires parts { blank.parts ≡ L.parts }
     requires whole { blank.parts ≡ 2 ^ 53 }
@@ -309,9 +319,8 @@ fn run_with<L: Ledger, K: Keeper + Drop, R: Abort>(
         bob: None,
         partings: Vec::new(alloc),
     };
-    let wrong = scene.wrong_in(rt, lines.as_str());
-    let (counts, keeper) = scene.finish();
-    (wrong, counts, keeper)
+    scene.check(rt, lines.as_str());
+    scene.finish()
 }
 
 /// The steps over what the keeper holds. A step is a moment, a call and, behind ` => `, what it
@@ -326,14 +335,9 @@ pub(crate) fn run<K: Keeper + Drop, R: Abort>(
 {
     let lines = String::from_str(alloc, lines).expect(rt, "memory");
     let blank = Blank::new(1 << 53);
-    let (wrong, counts, mut keeper) = run_with::<Brand, K, R>(rt, alloc, blank, keeper, &lines);
+    let (counts, mut keeper) = run_with::<Brand, K, R>(rt, alloc, blank, keeper, &lines);
     let log = log_text(rt, alloc, &mut keeper);
     let tree = tree_text(rt, alloc, &mut keeper);
-    let told = Told {
-        wrong,
-        counts,
-        log,
-        tree,
-    };
+    let told = Told { counts, log, tree };
     (told, keeper)
 }

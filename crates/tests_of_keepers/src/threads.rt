@@ -44,6 +44,23 @@ struct Outcome {
     tree: String,
 }
 
+impl Outcome {
+    // So much has to be counted.
+    fn expect_counts(&self, rt: &impl Abort, wanted: Counts) {
+        assert_eq!(rt; self.counts, wanted);
+    }
+
+    // This has to be read.
+    fn expect_reads(&self, rt: &impl Abort, wanted: &str) {
+        assert_eq!(rt; self.reads.as_str(), wanted);
+    }
+
+    // The tree has to be this.
+    fn expect_tree(&self, rt: &impl Abort, wanted: &str) {
+        assert_eq!(rt; self.tree.as_str(), wanted);
+    }
+}
+
 // The caller's write number n, which sets its own path to n.
 fn write(rt: &impl Abort, alloc: Global, caller: Caller, n: u64) -> Up {
     let client = caller.client;
@@ -413,8 +430,8 @@ fn writer(number: u64, client: &'static str, writes: u64) -> Caller {
 fn two_threads_are_counted_exactly(rt: HostRuntime) {
     let callers = (writer(1, "alice", 100), writer(2, "bob", 100));
     let outcome = two(&rt, rt.alloc(), OpenGate, callers);
-    assert_eq!(rt; outcome.counts, (204, 202, 0, Some(202)));
-    assert_eq!(rt; outcome.tree.as_str(), r#"{"alice":100,"bob":100}"#);
+    outcome.expect_counts(&rt, (204, 202, 0, Some(202)));
+    outcome.expect_tree(&rt, r#"{"alice":100,"bob":100}"#);
 }
 
 const READ: &str = r#"{"m":"snap","path":"/bob","q":101,"r":101,"s":["alice",1,1],"value":100
@@ -435,8 +452,8 @@ fn two_threads_read_what_the_other_wrote(rt: HostRuntime) {
         },
     );
     let outcome = two(&rt, rt.alloc(), OpenGate, callers);
-    assert_eq!(rt; outcome.counts, (206, 204, 0, Some(204)));
-    assert_eq!(rt; outcome.reads.as_str(), READ);
+    outcome.expect_counts(&rt, (206, 204, 0, Some(204)));
+    outcome.expect_reads(&rt, READ);
 }
 
 const READ_LATE: &str = r#"{"m":"push","r":255,"s":["bob",1,1],"values":[["/alice",254]]
@@ -450,8 +467,8 @@ fn a_reader_that_takes_nothing_is_ended(rt: HostRuntime) {
         ..writer(2, "bob", 0)
     };
     let outcome = slow(&rt, rt.alloc(), (writer(1, "alice", 257), bob));
-    assert_eq!(rt; outcome.counts, (262, 260, 0, Some(260)));
-    assert_eq!(rt; outcome.reads.as_str(), READ_LATE);
+    outcome.expect_counts(&rt, (262, 260, 0, Some(260)));
+    outcome.expect_reads(&rt, READ_LATE);
 }
 
 // Two threads, of which one is held at its first call until the other was answered.
@@ -464,8 +481,8 @@ fn held<R: Threads + Wait + Abort + Sync>(rt: &R, alloc: Global, held: u64) -> O
 fn a_caller_that_is_held_holds_no_other(rt: HostRuntime) {
     for caller in 1..=2 {
         let outcome = held(&rt, rt.alloc(), caller);
-        assert_eq!(rt; outcome.counts, (6, 4, 0, Some(4)));
-        assert_eq!(rt; outcome.tree.as_str(), r#"{"alice":1,"bob":1}"#);
+        outcome.expect_counts(&rt, (6, 4, 0, Some(4)));
+        outcome.expect_tree(&rt, r#"{"alice":1,"bob":1}"#);
     }
 }
 
@@ -474,8 +491,8 @@ const FOUR: &str = r#"{"a":50,"b":50,"c":50,"d":50}"#;
 #[test]
 fn four_threads_leave_their_last_values(rt: HostRuntime) {
     let outcome = four(&rt, rt.alloc(), MemKeeper::new(rt.alloc()));
-    assert_eq!(rt; outcome.counts, (208, 204, 0, Some(204)));
-    assert_eq!(rt; outcome.tree.as_str(), FOUR);
+    outcome.expect_counts(&rt, (208, 204, 0, Some(204)));
+    outcome.expect_tree(&rt, FOUR);
 }
 
 // The same over a database in memory.
@@ -490,6 +507,6 @@ fn four_in_database<R: Threads + Wait + Abort + Sync>(rt: &R, alloc: Global) -> 
 #[test]
 fn four_threads_leave_their_last_values_in_a_database(rt: HostRuntime) {
     let outcome = four_in_database(&rt, rt.alloc());
-    assert_eq!(rt; outcome.counts, (208, 204, 0, Some(204)));
-    assert_eq!(rt; outcome.tree.as_str(), FOUR);
+    outcome.expect_counts(&rt, (208, 204, 0, Some(204)));
+    outcome.expect_tree(&rt, FOUR);
 }

@@ -34,17 +34,12 @@ pub(crate) fn run_sql<S: Alter + Drop>(
     (connection, said(rt, alloc, word))
 }
 
-// Notes the step where it says something else.
-pub(crate) fn note(
-    rt: &impl Abort,
-    alloc: Global,
-    step: &str,
-    text: &str,
-    wanted: &str,
-    wrong: &mut String,
-) {
-    if text != wanted {
-        let part = format!(in alloc; "{step} => {text}\n").expect(rt, "memory");
-        wrong.push_str(part.as_str()).expect(rt, "memory");
-    }
+/// What a step says has to be this.
+pub(crate) fn expect_said(rt: &impl Abort, step: &str, said: String, wanted: &str) {
+    assert_eq!(rt; said.as_str(), wanted, "at {step}");
+}
+
+/// The text has to be this one.
+pub(crate) fn expect_text(rt: &impl Abort, said: String, wanted: &str) {
+    assert_eq!(rt; said.as_str(), wanted);
 }

@@ -1,6 +1,6 @@
 //! Runs of a server in which sessions leave what is to be done at their end, and fall silent.
 
-use crate::turns::{wrong_in, wrong_in_all};
+use crate::turns::check;
 use std::alloc::Global;
 use std::process::Abort;
 
@@ -219,10 +219,9 @@ see 70000 {end}
     .expect(rt, "memory")
 }
 
-// What is wrong in the run of an end.
-fn wrong_in_ending(rt: &impl Abort, alloc: Global, end: &str, wanted: &str) -> String {
-    let run = ending(rt, alloc, end, wanted);
-    wrong_in(rt, alloc, run.as_str())
+// The run of an end has to say what it must.
+fn check_ending(rt: &impl Abort, alloc: Global, end: &str, wanted: &str) {
+    check(rt, alloc, ending(rt, alloc, end, wanted).as_str());
 }
 
 // A message that leaves a value at a place of its own, and its answer.
@@ -274,36 +273,31 @@ fn leavings(rt: &impl Abort, alloc: Global, rows: u64) -> String {
 
 #[test]
 fn what_is_left_is_done_at_the_end(rt: HostRuntime) {
-    let runs = [
-        CANCELLED_CHILD,
-        CANCELLED_BELOW_A_SCALAR,
-        CANCELLED_IN_AN_OBJECT,
-        LEFT_AGAIN,
-        TIMESTAMP_AND_REMOVAL,
-        ORDER,
-    ];
-    let wrong = wrong_in_all(&rt, rt.alloc(), &runs);
-    assert_eq!(rt; wrong.as_str(), "");
+    let alloc = rt.alloc();
+    check(&rt, alloc, CANCELLED_CHILD);
+    check(&rt, alloc, CANCELLED_BELOW_A_SCALAR);
+    check(&rt, alloc, CANCELLED_IN_AN_OBJECT);
+    check(&rt, alloc, LEFT_AGAIN);
+    check(&rt, alloc, TIMESTAMP_AND_REMOVAL);
+    check(&rt, alloc, ORDER);
 }
 
 #[test]
 fn silent_sessions_end(rt: HostRuntime) {
-    let runs = [LEASE, BEATS, FIRST_CLIENT_ENDS_FIRST];
-    let wrong = wrong_in_all(&rt, rt.alloc(), &runs);
-    assert_eq!(rt; wrong.as_str(), "");
+    let alloc = rt.alloc();
+    check(&rt, alloc, LEASE);
+    check(&rt, alloc, BEATS);
+    check(&rt, alloc, FIRST_CLIENT_ENDS_FIRST);
 }
 
 #[test]
 fn each_end_pays_what_was_left(rt: HostRuntime) {
     for (end, wanted) in ENDS {
-        let wrong = wrong_in_ending(&rt, rt.alloc(), end, wanted);
-        assert_eq!(rt; wrong.as_str(), "", "at {end}");
+        check_ending(&rt, rt.alloc(), end, wanted);
     }
 }
 
 #[test]
 fn so_many_rows_may_be_left(rt: HostRuntime) {
-    let run = leavings(&rt, rt.alloc(), 256);
-    let wrong = wrong_in(&rt, rt.alloc(), run.as_str());
-    assert_eq!(rt; wrong.as_str(), "");
+    check(&rt, rt.alloc(), leavings(&rt, rt.alloc(), 256).as_str());
 }

@@ -5,6 +5,7 @@ ghost use Rattle.pres_exchange.specs.Exchanges.{is_hello};
 ghost use Rattle.pres_server.specs.declared.input.Input.TheVariants.{Up as Message};
 
 use crate::rings::{ALICE, BOB, session, set};
+use crate::said::expect_text;
 use pres_exchange::{Bell, Exchange, Input, Keeper, MemKeeper, Moment, Outbox, Up, Why};
 use std::alloc::Global;
 use std::ops::Range;
@@ -242,5 +243,5 @@ fn rung_over<K: Keeper + Drop>(rt: &impl Abort, alloc: Global, keeper: K) -> Str
 fn each_due_bell_is_handed_out_once(rt: HostRuntime) {
     let alloc = rt.alloc();
     let said = rung_over(&rt, alloc, MemKeeper::new(alloc));
-    assert_eq!(rt; said.as_str(), "1 - 1 2 1 - 1 1 -");
+    expect_text(&rt, said, "1 - 1 2 1 - 1 1 -");
 }

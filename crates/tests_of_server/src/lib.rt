@@ -29,6 +29,8 @@ mod run;
 #[cfg(test)]
 mod runs;
 #[cfg(test)]
+mod said;
+#[cfg(test)]
 mod sessions;
 #[cfg(test)]
 mod turns;

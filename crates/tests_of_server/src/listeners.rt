@@ -5,6 +5,7 @@
 //! answers whether there is room, why the place is refused, and how many places that session has
 //! then.
 
+use crate::said::{expect_said, expect_text};
 use pres_fan::{FanFault, Listeners, Touched};
 use pres_tree::Path;
 use pres_wire::{ClientId, Number, SessionId, Stamp};
@@ -145,24 +146,12 @@ fn answer(rt: &impl Abort, alloc: Global, table: Table, case: &str) -> String {
     }
 }
 
-fn try_line(rt: &impl Abort, alloc: Global, table: Table, line: &str, wrong: &mut String) {
-    let (case, wanted) = line.split_once(" => ").expect(rt, "an answer");
-    let got = answer(rt, alloc, table, case);
-    if got.as_str() != wanted {
-        wrong.push_str(case).expect(rt, "memory");
-        wrong.push_str(" => ").expect(rt, "memory");
-        wrong.push_str(got.as_str()).expect(rt, "memory");
-        wrong.push_str("\n").expect(rt, "memory");
-    }
-}
-
-// The lines that answer something else, each with that.
-fn wrong_in(rt: &impl Abort, alloc: Global, table: Table, lines: &str) -> String {
-    let mut wrong = String::new(alloc);
+// Each line has to answer what it says.
+fn check(rt: &impl Abort, alloc: Global, table: Table, lines: &str) {
     for line in lines.lines() {
-        try_line(rt, alloc, table, line, &mut wrong);
+        let (case, wanted) = line.split_once(" => ").expect(rt, "an answer");
+        expect_said(rt, case, answer(rt, alloc, table, case), wanted);
     }
-    wrong
 }
 
 const TOUCHES: &str = "on a/1.1 /x; on a/1.1 /x; write /x => [a/1.1 /x]
@@ -180,8 +169,7 @@ on a/1.1 /x; on a/1.2 /x; on a/1.1 /y; drop a/1.1; write / => [a/1.2 /x]";
 
 #[test]
 fn writes_touch_places_that_meet_theirs(rt: HostRuntime) {
-    let wrong = wrong_in(&rt, rt.alloc(), Table::Touches, TOUCHES);
-    assert_eq!(rt; wrong.as_str(), "");
+    check(&rt, rt.alloc(), Table::Touches, TOUCHES);
 }
 
 const ROOMS: &str = "0 a/1.1 /p => true None 1
@@ -192,8 +180,7 @@ const ROOMS: &str = "0 a/1.1 /p => true None 1
 
 #[test]
 fn a_session_listens_to_at_most_256_places(rt: HostRuntime) {
-    let wrong = wrong_in(&rt, rt.alloc(), Table::Rooms, ROOMS);
-    assert_eq!(rt; wrong.as_str(), "");
+    check(&rt, rt.alloc(), Table::Rooms, ROOMS);
 }
 
 #[test]
@@ -204,5 +191,5 @@ fn faults_are_numbered_and_named(rt: HostRuntime) {
     );
     assert_eq!(rt; FanFault::Full.name(), "Full");
     let text = FanFault::Full.to_string(rt.alloc()).expect(&rt, "memory");
-    assert_eq!(rt; text.as_str(), "a session listens to more than 256 places");
+    expect_text(&rt, text, "a session listens to more than 256 places");
 }

@@ -7,6 +7,7 @@
 ghost use Rattle.std.specs.Prelude.{◌≡◌, ◌<◌, false, map, All, IsTrue};
 ghost use Rattle.pres_tree.specs.Paths.{overlap};
 
+use crate::said::{expect_said, expect_text};
 use pres_plan::{Action, Plan, PlanFault};
 use pres_tree::{Path, Tree};
 use pres_wire::Number;
@@ -245,24 +246,12 @@ fn answer(rt: &impl Abort, alloc: Global, table: Table, case: &str) -> String {
     }
 }
 
-fn try_line(rt: &impl Abort, alloc: Global, table: Table, line: &str, wrong: &mut String) {
-    let (case, wanted) = line.split_once(" => ").expect(rt, "an answer");
-    let got = answer(rt, alloc, table, case);
-    if got.as_str() != wanted {
-        wrong.push_str(case).expect(rt, "memory");
-        wrong.push_str(" => ").expect(rt, "memory");
-        wrong.push_str(got.as_str()).expect(rt, "memory");
-        wrong.push_str("\n").expect(rt, "memory");
-    }
-}
-
-// The lines that answer something else, each with that.
-fn wrong_in(rt: &impl Abort, alloc: Global, table: Table, lines: &str) -> String {
-    let mut wrong = String::new(alloc);
+// Each line has to answer what it says.
+fn check(rt: &impl Abort, alloc: Global, table: Table, lines: &str) {
     for line in lines.lines() {
-        try_line(rt, alloc, table, line, &mut wrong);
+        let (case, wanted) = line.split_once(" => ").expect(rt, "an answer");
+        expect_said(rt, case, answer(rt, alloc, table, case), wanted);
     }
-    wrong
 }
 
 const ENDS: &str =
@@ -278,8 +267,7 @@ null; put /a/b 1; update /a 2, /b {"c":{".sv":"timestamp"}} => put put ; 2 /a 2;
 
 #[test]
 fn an_end_pays_what_is_left(rt: HostRuntime) {
-    let wrong = wrong_in(&rt, rt.alloc(), Table::Ends, ENDS);
-    assert_eq!(rt; wrong.as_str(), "");
+    check(&rt, rt.alloc(), Table::Ends, ENDS);
 }
 
 const ROOMS: &str = "255 put /a 1 => true None 256
@@ -294,8 +282,7 @@ const ROOMS: &str = "255 put /a 1 => true None 256
 
 #[test]
 fn a_plan_has_at_most_256_rows(rt: HostRuntime) {
-    let wrong = wrong_in(&rt, rt.alloc(), Table::Rooms, ROOMS);
-    assert_eq!(rt; wrong.as_str(), "");
+    check(&rt, rt.alloc(), Table::Rooms, ROOMS);
 }
 
 #[test]
@@ -306,5 +293,5 @@ fn faults_are_numbered_and_named(rt: HostRuntime) {
     );
     assert_eq!(rt; PlanFault::Full.name(), "Full");
     let text = PlanFault::Full.to_string(rt.alloc()).expect(&rt, "memory");
-    assert_eq!(rt; text.as_str(), "a session leaves more than 256 rows");
+    expect_text(&rt, text, "a session leaves more than 256 rows");
 }

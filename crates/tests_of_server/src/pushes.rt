@@ -1,6 +1,6 @@
 //! Runs of a server in which sessions listen.
 
-use crate::turns::{wrong_in, wrong_in_all};
+use crate::turns::check;
 use std::alloc::Global;
 use std::process::Abort;
 
@@ -178,21 +178,16 @@ fn listenings(rt: &impl Abort, alloc: Global, paths: u64) -> String {
 
 #[test]
 fn listeners_see_each_write(rt: HostRuntime) {
-    let runs = [
-        PRESENCE,
-        PUSH_BEFORE_REPLY,
-        ORDER,
-        ACROSS_A_LOSS,
-        OWN_END,
-        TWO_LISTEN,
-    ];
-    let wrong = wrong_in_all(&rt, rt.alloc(), &runs);
-    assert_eq!(rt; wrong.as_str(), "");
+    let alloc = rt.alloc();
+    check(&rt, alloc, PRESENCE);
+    check(&rt, alloc, PUSH_BEFORE_REPLY);
+    check(&rt, alloc, ORDER);
+    check(&rt, alloc, ACROSS_A_LOSS);
+    check(&rt, alloc, OWN_END);
+    check(&rt, alloc, TWO_LISTEN);
 }
 
 #[test]
 fn so_many_paths_may_be_listened_to(rt: HostRuntime) {
-    let run = listenings(&rt, rt.alloc(), 256);
-    let wrong = wrong_in(&rt, rt.alloc(), run.as_str());
-    assert_eq!(rt; wrong.as_str(), "");
+    check(&rt, rt.alloc(), listenings(&rt, rt.alloc(), 256).as_str());
 }

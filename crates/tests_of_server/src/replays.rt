@@ -1,6 +1,7 @@
 //! Runs in which a server is made anew from its batches.
 
-use crate::turns::wrong_in_all;
+use crate::said::expect_text;
+use crate::turns::check;
 use pres_server::{Batch, Items, Number, Replay, ReplayFault, Server};
 use std::alloc::Global;
 use std::process::Abort;
@@ -210,8 +211,9 @@ replay 3 7 2
 
 #[test]
 fn batches_are_replayed(rt: HostRuntime) {
-    let wrong = wrong_in_all(&rt, rt.alloc(), &[REPLAYED, ORDERED]);
-    assert_eq!(rt; wrong.as_str(), "");
+    let alloc = rt.alloc();
+    check(&rt, alloc, REPLAYED);
+    check(&rt, alloc, ORDERED);
 }
 
 #[test]
@@ -220,5 +222,5 @@ fn faults_are_numbered_and_named(rt: HostRuntime) {
     assert_eq!(rt; (ReplayFault::Memory.number(), refused.number()), (1, 2));
     assert_eq!(rt; refused.name(), "NotLegal");
     let text = refused.to_string(rt.alloc()).expect(&rt, "memory");
-    assert_eq!(rt; text.as_str(), "batch 1 may not follow");
+    expect_text(&rt, text, "batch 1 may not follow");
 }

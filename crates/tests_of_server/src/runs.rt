@@ -1,6 +1,6 @@
 //! Runs of two clients against a server.
 
-use crate::world::wrong_in_all;
+use crate::world::check;
 
 // Writes that are made before a session is open go out at its Welcome, and a goodbye carries out
 // what was left for the end.
@@ -295,24 +295,23 @@ value /a => {"b":3,"d":4}"#;
 
 #[test]
 fn clients_and_a_server_get_on(rt: HostRuntime) {
-    let runs = [
-        BEFORE_ONLINE,
-        RESTART,
-        LOST_ANSWER,
-        LATE,
-        OLD,
-        AGAIN,
-        VIEW,
-        RACE,
-        UPDATES,
-    ];
-    let wrong = wrong_in_all(&rt, rt.alloc(), &runs);
-    assert_eq!(rt; wrong.as_str(), "");
+    let alloc = rt.alloc();
+    check(&rt, alloc, BEFORE_ONLINE);
+    check(&rt, alloc, RESTART);
+    check(&rt, alloc, LOST_ANSWER);
+    check(&rt, alloc, LATE);
+    check(&rt, alloc, OLD);
+    check(&rt, alloc, AGAIN);
+    check(&rt, alloc, VIEW);
+    check(&rt, alloc, RACE);
+    check(&rt, alloc, UPDATES);
 }
 
 #[test]
 fn a_client_takes_what_comes(rt: HostRuntime) {
-    let runs = [RESEND, IN_ORDER, REFUSED, TRIES];
-    let wrong = wrong_in_all(&rt, rt.alloc(), &runs);
-    assert_eq!(rt; wrong.as_str(), "");
+    let alloc = rt.alloc();
+    check(&rt, alloc, RESEND);
+    check(&rt, alloc, IN_ORDER);
+    check(&rt, alloc, REFUSED);
+    check(&rt, alloc, TRIES);
 }

@@ -7,6 +7,7 @@
 //! of batches, which says what becomes of these in a server of their own.
 
 use crate::replays::{ordered, replayed};
+use crate::said::expect_said;
 use pres_server::{
     Batch, Busy, ClientId, Count, Down, Entry, Fault, Input, Limit, Log, Moment, Number, Outcome,
     Path, Row, Server, SessionId, Turn, Up, Why,
@@ -311,27 +312,16 @@ fn step(rt: &impl Abort, alloc: Global, server: Server, case: &str) -> (Server, 
     }
 }
 
-// Notes a step that says something else than is wanted.
-fn note(rt: &impl Abort, wrong: &mut String, case: &str, said: &str, wanted: &str) {
-    if said != wanted {
-        wrong.push_str(case).expect(rt, "memory");
-        wrong.push_str("\n=> ").expect(rt, "memory");
-        wrong.push_str(said).expect(rt, "memory");
-        wrong.push('\n').expect(rt, "memory");
-    }
-}
-
-// The steps of the run that say something else than they must, each with that.
-pub(crate) fn wrong_in(rt: &impl Abort, alloc: Global, run: &str) -> String {
+/// Each step of the run has to say what it must.
+pub(crate) fn check(rt: &impl Abort, alloc: Global, run: &str) {
     let mut server = Server::new(alloc);
-    let mut wrong = String::new(alloc);
     for text in run.split("\n\n") {
         let (case, wanted) = text.split_once("\n=> ").expect(rt, "an answer");
         let (after, said) = step(rt, alloc, server, case);
         server = after;
-        note(rt, &mut wrong, case, said.as_str(), wanted);
+        expect_said(rt, case, said, wanted);
     }
-    wrong
+    drop(server);
 }
 
 const SUPERSEDED: &str = r#"1000 {"m":"hello","s":["alice",1,1]}
@@ -575,53 +565,40 @@ fn openings(rt: &impl Abort, alloc: Global, clients: u64) -> String {
     run
 }
 
-// What is wrong in the runs.
-pub(crate) fn wrong_in_all(rt: &impl Abort, alloc: Global, runs: &[&str]) -> String {
-    let mut wrong = String::new(alloc);
-    for run in runs {
-        wrong
-            .push_str(wrong_in(rt, alloc, run).as_str())
-            .expect(rt, "memory");
-    }
-    wrong
-}
-
-// What is wrong in a run in which alice's session ends for this reason.
-fn wrong_in_end(rt: &impl Abort, alloc: Global, line: &str, why: &str, name: &str) -> String {
-    let run = end(rt, alloc, line, why, name);
-    wrong_in(rt, alloc, run.as_str())
+// A run in which alice's session ends for this reason has to say what it must.
+fn check_end(rt: &impl Abort, alloc: Global, line: &str, why: &str, name: &str) {
+    check(rt, alloc, end(rt, alloc, line, why, name).as_str());
 }
 
 #[test]
 fn runs_say_what_they_must(rt: HostRuntime) {
-    let runs = [
-        SUPERSEDED, SENT_AGAIN, OLD_STAMPS, ORDER, ABANDONED, HEARD, MOMENTS, STALE,
-    ];
-    let wrong = wrong_in_all(&rt, rt.alloc(), &runs);
-    assert_eq!(rt; wrong.as_str(), "");
+    let alloc = rt.alloc();
+    check(&rt, alloc, SUPERSEDED);
+    check(&rt, alloc, SENT_AGAIN);
+    check(&rt, alloc, OLD_STAMPS);
+    check(&rt, alloc, ORDER);
+    check(&rt, alloc, ABANDONED);
+    check(&rt, alloc, HEARD);
+    check(&rt, alloc, MOMENTS);
+    check(&rt, alloc, STALE);
 }
 
 #[test]
 fn a_lost_session_ends(rt: HostRuntime) {
-    let wrong = wrong_in_end(&rt, rt.alloc(), r#"lost ["alice",1,1]"#, "lost", "Lost");
-    assert_eq!(rt; wrong.as_str(), "");
+    check_end(&rt, rt.alloc(), r#"lost ["alice",1,1]"#, "lost", "Lost");
 }
 
 #[test]
 fn a_slow_session_ends(rt: HostRuntime) {
-    let wrong = wrong_in_end(&rt, rt.alloc(), r#"slow ["alice",1,1]"#, "slow", "Slow");
-    assert_eq!(rt; wrong.as_str(), "");
+    check_end(&rt, rt.alloc(), r#"slow ["alice",1,1]"#, "slow", "Slow");
 }
 
 #[test]
 fn a_restart_ends_the_session(rt: HostRuntime) {
-    let wrong = wrong_in_end(&rt, rt.alloc(), "restart alice", "restart", "Restart");
-    assert_eq!(rt; wrong.as_str(), "");
+    check_end(&rt, rt.alloc(), "restart alice", "restart", "Restart");
 }
 
 #[test]
 fn so_many_sessions_may_be_open(rt: HostRuntime) {
-    let run = openings(&rt, rt.alloc(), 1024);
-    let wrong = wrong_in(&rt, rt.alloc(), run.as_str());
-    assert_eq!(rt; wrong.as_str(), "");
+    check(&rt, rt.alloc(), openings(&rt, rt.alloc(), 1024).as_str());
 }

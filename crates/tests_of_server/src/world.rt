@@ -5,6 +5,7 @@
 //! before it hears an answer; or `restart` and a number, with which alice begins an incarnation; or
 //! `value` and a path, which asks the server.
 
+use crate::said::expect_said;
 use pres_client::{Answer, Call, Client, ClientFault, Notice};
 use pres_server::{
     ClientId, Down, Input, Items, Moment, Number, Path, Server, SessionId, Tree, Turn, Up,
@@ -436,53 +437,23 @@ fn step(
     }
 }
 
-// Notes the step, if it says something else than is wanted.
-fn noted(rt: &impl Abort, wrong: &mut String, case: &str, said: &str, wanted: &str) {
-    if said != wanted {
-        wrong.push_str(case).expect(rt, "memory");
-        wrong.push_str(" => ").expect(rt, "memory");
-        wrong.push_str(said).expect(rt, "memory");
-        wrong.push('\n').expect(rt, "memory");
-    }
-}
-
-// The server after the line, and what is wrong with it, if it says something else than it must.
-fn line(
-    rt: &impl Abort,
-    alloc: Global,
-    server: Server,
-    pair: &mut Pair,
-    wrong: &mut String,
-    text: &str,
-) -> Server {
+// The server after the line, which has to say what it must, if it says that.
+fn line(rt: &impl Abort, alloc: Global, server: Server, pair: &mut Pair, text: &str) -> Server {
     let (case, wanted) = text.split_once(" => ").unwrap_or((text, ""));
     let (server, said) = step(rt, alloc, server, pair, case);
-    noted(rt, wrong, case, said.as_str(), wanted);
+    expect_said(rt, case, said, wanted);
     server
 }
 
-// The steps of the run that say something else than they must, each with that.
-fn wrong_in(rt: &impl Abort, alloc: Global, run: &str) -> String {
+/// Each step of the run, with new clients and a new server, has to say what it must.
+pub(crate) fn check(rt: &impl Abort, alloc: Global, run: &str) {
     let mut pair = Pair {
         alice: client(rt, alloc, "alice", 1),
         bob: client(rt, alloc, "bob", 1),
     };
     let mut server = Server::new(alloc);
-    let mut wrong = String::new(alloc);
     for text in run.split('\n') {
-        server = line(rt, alloc, server, &mut pair, &mut wrong, text);
+        server = line(rt, alloc, server, &mut pair, text);
     }
     drop(server);
-    wrong
-}
-
-/// The same of all of the runs, each of new clients and a new server.
-pub(crate) fn wrong_in_all(rt: &impl Abort, alloc: Global, runs: &[&str]) -> String {
-    let mut wrong = String::new(alloc);
-    for run in runs {
-        wrong
-            .push_str(wrong_in(rt, alloc, run).as_str())
-            .expect(rt, "memory");
-    }
-    wrong
 }

@@ -4,6 +4,7 @@ use pres_command::presence_run;
 use std::io;
 use std::io::{Read, Write};
 use std::net::{Net, TcpListener, TcpStream};
+use std::process::Abort;
 use std::random::RandomSource;
 use std::sync::Wait;
 use std::thread::Threads;
@@ -31,6 +32,22 @@ struct Ran {
     faults: Vec<u8>,
 }
 
+impl Ran {
+    // It has to have written this, and come to this status.
+    fn expect(&self, rt: &impl Abort, status: u8, output: &str, faults: &str) {
+        assert_eq!(rt; self.status, status, "{output}");
+        assert!(rt; self.output.as_slice() == output.as_bytes(), "{output}");
+        assert!(rt; self.faults.as_slice() == faults.as_bytes(), "{output}");
+    }
+
+    // It has to have come to this status: at 0 it wrote only what was asked for, and else only why.
+    fn expect_status(&self, rt: &impl Abort, words: &[&str], status: u8) {
+        assert_eq!(rt; self.status, status, "{words:?}");
+        assert_eq!(rt; self.output.is_empty(), status != 0, "{words:?}");
+        assert_eq!(rt; self.faults.is_empty(), status == 0, "{words:?}");
+    }
+}
+
 fn run<
     H: Net<Listener = TcpListener, Stream = TcpStream>
         + Threads
@@ -54,108 +71,62 @@ fn run<
 
 #[test]
 fn applies_lines(rt: HostRuntime) {
-    for (input, status, output, faults) in [
-        ("", 0, "tree null\n", ""),
-        (
-            r#"{"now":1000,"op":"set","path":"/a","value":1}"#,
-            0,
-            "1 wrote\ntree {\"a\":1}\n",
-            "",
-        ),
-        (
-            "x\n",
-            1,
-            "refused 12 NotJson\ntree null\n",
-            "presence: input refused\n",
-        ),
-    ] {
-        let ran = run(&rt, &rt, &["presence", "apply"], &mut input.as_bytes());
-        assert_eq!(rt; ran.status, status, "{input}");
-        assert!(rt; ran.output.as_slice() == output.as_bytes(), "{input}");
-        assert!(rt; ran.faults.as_slice() == faults.as_bytes(), "{input}");
+    let words = ["presence", "apply"];
+    let ran = run(&rt, &rt, &words, &mut b"".as_slice());
+    ran.expect(&rt, 0, "tree null\n", "");
+    let set = r#"{"now":1000,"op":"set","path":"/a","value":1}"#;
+    let ran = run(&rt, &rt, &words, &mut set.as_bytes());
+    ran.expect(&rt, 0, "1 wrote\ntree {\"a\":1}\n", "");
+    let ran = run(&rt, &rt, &words, &mut b"x\n".as_slice());
+    let refused = "refused 12 NotJson\ntree null\n";
+    ran.expect(&rt, 1, refused, "presence: input refused\n");
+}
+
+// The words, each behind a blank, have to come to this status.
+fn check<
+    H: Net<Listener = TcpListener, Stream = TcpStream>
+        + Threads
+        + Wait
+        + Clock
+        + RandomSource
+        + Abort
+        + Copy
+        + Sync,
+>(host: &HostRuntime, rt: &H, words: &str, status: u8) {
+    let mut list = Vec::new(host.alloc());
+    for word in words.split(' ') {
+        list.push(word).expect(rt, "memory");
     }
+    let ran = run(host, rt, list.as_slice(), &mut b"".as_slice());
+    ran.expect_status(rt, list.as_slice(), status);
 }
 
 #[test]
 fn reads_its_words(rt: HostRuntime) {
-    for (words, status, writes, faults) in [
-        (["presence"].as_slice(), 2, false, true),
-        (["presence", "nosuch"].as_slice(), 2, false, true),
-        (["presence", "apply", "x"].as_slice(), 2, false, true),
-        (
-            ["presence", "serve", "127.0.0.1:1"].as_slice(),
-            2,
-            false,
-            true,
-        ),
-        (
-            [
-                "presence",
-                "serve",
-                "127.0.0.1:1",
-                "f",
-                "--connections",
-                "0",
-            ]
-            .as_slice(),
-            2,
-            false,
-            true,
-        ),
-        (
-            [
-                "presence",
-                "serve",
-                "127.0.0.1:1",
-                "f",
-                "--connections",
-                "1025",
-            ]
-            .as_slice(),
-            2,
-            false,
-            true,
-        ),
-        (
-            ["presence", "serve", "127.0.0.1:1", "/no/such/folder/f"].as_slice(),
-            3,
-            false,
-            true,
-        ),
-        (
-            ["presence", "client", "127.0.0.1:1", "alice"].as_slice(),
-            2,
-            false,
-            true,
-        ),
-        (
-            ["presence", "client", "127.0.0.1:1", "alice", "0"].as_slice(),
-            2,
-            false,
-            true,
-        ),
-        (
-            ["presence", "client", "127.0.0.1:1", "a b", "1"].as_slice(),
-            2,
-            false,
-            true,
-        ),
-        (
-            ["presence", "client", "127.0.0.1:1", "alice", "1"].as_slice(),
-            4,
-            false,
-            true,
-        ),
-        (["presence", "--help"].as_slice(), 0, true, false),
-        (["presence", "--version"].as_slice(), 0, true, false),
-        (["presence", "apply"].as_slice(), 0, true, false),
-    ] {
-        let mut input = b"".as_slice();
-        let ran = run(&rt, &rt, words, &mut input);
-        assert_eq!(rt; ran.status, status, "{words:?}");
-        assert_eq!(rt; !ran.output.is_empty(), writes, "{words:?}");
-        assert_eq!(rt; !ran.faults.is_empty(), faults, "{words:?}");
-    }
+    check(&rt, &rt, "presence", 2);
+    check(&rt, &rt, "presence nosuch", 2);
+    check(&rt, &rt, "presence apply x", 2);
+    check(&rt, &rt, "presence serve 127.0.0.1:1", 2);
+    check(&rt, &rt, "presence serve 127.0.0.1:1 f --connections 0", 2);
+    check(
+        &rt,
+        &rt,
+        "presence serve 127.0.0.1:1 f --connections 1025",
+        2,
+    );
+    check(&rt, &rt, "presence serve 127.0.0.1:1 /no/such/folder/f", 3);
+    check(&rt, &rt, "presence client 127.0.0.1:1 alice", 2);
+    check(&rt, &rt, "presence client 127.0.0.1:1 alice 0", 2);
+    check(&rt, &rt, "presence client 127.0.0.1:1 a! 1", 2);
+    check(&rt, &rt, "presence client 127.0.0.1:1 alice 1", 4);
+    check(&rt, &rt, "presence --help", 0);
+    check(&rt, &rt, "presence --version", 0);
+    check(&rt, &rt, "presence apply", 0);
+}
+
+// A help that can't be written.
+#[test]
+fn tells_that_a_write_failed(rt: HostRuntime) {
     let mut faults = Vec::new(rt.alloc());
     let words = ["presence", "--help"];
     let mut input = b"".as_slice();

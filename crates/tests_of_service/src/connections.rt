@@ -3,6 +3,7 @@
 ghost use Rattle.std.specs.Prelude.{◌≡◌, ◌^◌};
 
 use crate::script::{Fails, HEAD, NONE, Script, frame, said, script_of};
+use crate::texts::expect_text;
 use pres_hub::{Core, Hub, MemKeeper, NoBell, OpenGate};
 use pres_server::Moment;
 use pres_sock::{Clock, serve_stream};
@@ -29,6 +30,14 @@ impl Clock for Stopped {
 struct Outcome {
     counts: (u64, u64, u64, Option<u64>),
     ended: &'static str,
+}
+
+impl Outcome {
+    // It has to have ended so, and to have counted so much.
+    fn expect(&self, rt: &impl Abort, ended: &str, counts: (u64, u64, u64, Option<u64>)) {
+        assert_eq!(rt; self.ended, ended);
+        assert_eq!(rt; self.counts, counts);
+    }
 }
 
 // The end in words.
@@ -124,6 +133,21 @@ fn answered<R: Wait + Threads + Abort + Sync>(
     (said(rt, alloc, written), served)
 }
 
+// A connection of these lines has to be answered so, and closed, and to make as many entries as this,
+// of which so many were accepted.
+fn check_closed<R: Wait + Threads + Abort + Sync>(
+    rt: &R,
+    alloc: Global,
+    lines: &str,
+    answers: &str,
+    entries: (u64, u64),
+) {
+    let (said, served) = answered(rt, alloc, lines, NONE);
+    expect_text(rt, said, answers);
+    let (number, accepted) = entries;
+    served.expect(rt, "closed", (number, accepted, 0, Some(accepted)));
+}
+
 const BAD: &str = r#"text {"m":"hello","s":["alice",1,1]}
 text {"m":"beat"
 binary 1
@@ -143,10 +167,7 @@ close
 
 #[test]
 fn what_is_no_message_is_answered(rt: HostRuntime) {
-    let (said, served) = answered(&rt, rt.alloc(), BAD, NONE);
-    assert_eq!(rt; said.as_str(), BAD_ANSWERS);
-    assert_eq!(rt; served.ended, "closed");
-    assert_eq!(rt; served.counts, (3, 2, 0, Some(2)));
+    check_closed(&rt, rt.alloc(), BAD, BAD_ANSWERS, (3, 2));
 }
 
 const EARLY: &str = r#"text {"m":"beat","s":["alice",1,1]}
@@ -155,13 +176,8 @@ close"#;
 // Before the Hello the connection is ended.
 #[test]
 fn what_comes_before_a_hello_ends_the_connection(rt: HostRuntime) {
-    let (said, served) = answered(&rt, rt.alloc(), EARLY, NONE);
-    assert_eq!(rt;
-        said.as_str(),
-        "{\"code\":1,\"m\":\"fault\",\"s\":null}\nclose\n"
-    );
-    assert_eq!(rt; served.ended, "closed");
-    assert_eq!(rt; served.counts, (0, 0, 0, Some(0)));
+    let answers = "{\"code\":1,\"m\":\"fault\",\"s\":null}\nclose\n";
+    check_closed(&rt, rt.alloc(), EARLY, answers, (0, 0));
 }
 
 const BYE: &str = r#"text {"m":"hello","s":["alice",1,1]}
@@ -176,30 +192,29 @@ close
 // Behind Gone the connection is closed.
 #[test]
 fn a_bye_closes_the_connection(rt: HostRuntime) {
-    let (said, served) = answered(&rt, rt.alloc(), BYE, NONE);
-    assert_eq!(rt; said.as_str(), BYE_ANSWERS);
-    assert_eq!(rt; served.ended, "closed");
-    assert_eq!(rt; served.counts, (2, 2, 0, Some(2)));
+    check_closed(&rt, rt.alloc(), BYE, BYE_ANSWERS, (2, 2));
 }
 
 // So many lines of nothing let a connection rest.
 const RESTS: usize = 30;
 
+// The lines, with a rest before each.
+fn with_rests(rt: &impl Abort, alloc: Global, lines: &str) -> String {
+    let rest = "nothing\n".repeat(alloc, RESTS).expect(rt, "memory");
+    let mut rested = String::new(alloc);
+    for line in lines.lines() {
+        rested.push_str(rest.as_str()).expect(rt, "memory");
+        rested.push_str(line).expect(rt, "memory");
+        rested.push('\n').expect(rt, "memory");
+    }
+    rested
+}
+
 // What comes behind a rest is answered as what comes at once.
 #[test]
 fn what_comes_behind_a_rest_is_answered(rt: HostRuntime) {
-    let mut lines = String::new(rt.alloc());
-    for line in BYE.lines() {
-        for _ in 0..RESTS {
-            lines.push_str("nothing\n").expect(&rt, "memory");
-        }
-        lines.push_str(line).expect(&rt, "memory");
-        lines.push('\n').expect(&rt, "memory");
-    }
-    let (said, served) = answered(&rt, rt.alloc(), lines.as_str(), NONE);
-    assert_eq!(rt; said.as_str(), BYE_ANSWERS);
-    assert_eq!(rt; served.ended, "closed");
-    assert_eq!(rt; served.counts, (2, 2, 0, Some(2)));
+    let lines = with_rests(&rt, rt.alloc(), BYE);
+    check_closed(&rt, rt.alloc(), lines.as_str(), BYE_ANSWERS, (2, 2));
 }
 
 const SHORT: &str = r#"text {"m":"hello","s":["alice",1,1]}
@@ -253,11 +268,10 @@ const HELLO: &str = r#"text {"m":"hello","s":["alice",1,1]}"#;
 
 #[test]
 fn a_silent_peer_is_out_of_turns(rt: HostRuntime) {
-    let ended = ended_silent(&rt, rt.alloc(), 1_999);
-    assert_eq!(rt; ended.ended, "stream");
-    let ended = ended_silent(&rt, rt.alloc(), 2_000);
-    assert_eq!(rt; ended.ended, "turns");
-    assert_eq!(rt; ended.counts, (2, 1, 0, Some(1)));
+    let gone = ended_silent(&rt, rt.alloc(), 1_999);
+    gone.expect(&rt, "stream", (2, 1, 0, Some(1)));
+    let spent = ended_silent(&rt, rt.alloc(), 2_000);
+    spent.expect(&rt, "turns", (2, 1, 0, Some(1)));
 }
 
 #[test]
@@ -270,6 +284,5 @@ fn no_handshake_is_no_seat(rt: HostRuntime) {
     let (stream, written) = script_of(&rt, rt.alloc(), pieces, NONE);
     drop(written);
     let ended = served(&rt, rt.alloc(), stream);
-    assert_eq!(rt; ended.ended, "handshake");
-    assert_eq!(rt; ended.counts, (0, 0, 0, Some(0)));
+    ended.expect(&rt, "handshake", (0, 0, 0, Some(0)));
 }

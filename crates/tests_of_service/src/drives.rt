@@ -1,6 +1,7 @@
 //! What a client says, and what it tells.
 
 use crate::script::{Fails, NONE, Script, said, script_of, server_frame};
+use crate::texts::expect_text;
 use pres_client::{Call, Client};
 use pres_drive::{Line, drive_client};
 use pres_ids::{ClientId, Number};
@@ -160,7 +161,7 @@ connected false
 #[test]
 fn a_client_tells_its_notices(rt: HostRuntime) {
     let (said, told, ended) = driven(&rt, rt.alloc(), SERVED, NONE);
-    assert_eq!(rt; said.as_str(), SAID);
-    assert_eq!(rt; told.as_str(), TOLD);
+    expect_text(&rt, said, SAID);
+    expect_text(&rt, told, TOLD);
     assert_eq!(rt; ended, "done");
 }

@@ -3,6 +3,7 @@
 ghost use Rattle.std.specs.Prelude.{◌≡◌, ◌^◌};
 
 use crate::drives::{Sheet, TOLD, Zeros, end_text, lines, text_of};
+use crate::texts::expect_text;
 use pres_client::Client;
 use pres_drive::drive_client;
 use pres_hub::{Core, Hub, MemKeeper, OpenGate};
@@ -90,7 +91,6 @@ fn met<R: Net<Listener = TcpListener, Stream = TcpStream> + Threads + Wait + Clo
 #[test]
 fn a_client_and_a_server_meet(rt: HostRuntime) {
     let (told, ended, number) = met(&rt, rt.alloc());
-    assert_eq!(rt; told.as_str(), TOLD);
-    assert_eq!(rt; ended, "done");
-    assert_eq!(rt; number, 4);
+    expect_text(&rt, told, TOLD);
+    assert_eq!(rt; (ended, number), ("done", 4));
 }

@@ -19,6 +19,8 @@ mod files;
 #[cfg(test)]
 mod script;
 #[cfg(test)]
+mod texts;
+#[cfg(test)]
 mod visits;
 #[cfg(test)]
 mod wakes;

@@ -2,6 +2,7 @@
 
 use crate::board::{Board, Pen};
 use crate::files::{Place, new_place};
+use crate::texts::expect_text;
 use pres_ids::{ClientId, Number};
 use pres_service::{ServiceFault, Serving, Visit, client_run, serve_run};
 use std::alloc::Global;
@@ -142,10 +143,8 @@ connected false
 #[test]
 fn a_file_survives(rt: HostRuntime) {
     let place = new_place(&rt, &rt, "survives");
-    let first = one(&rt, &rt, &place, FIRST);
-    assert_eq!(rt; first.as_str(), FIRST_SAID);
-    let second = one(&rt, &rt, &place, SECOND);
-    assert_eq!(rt; second.as_str(), SECOND_SAID);
+    expect_text(&rt, one(&rt, &rt, &place, FIRST), FIRST_SAID);
+    expect_text(&rt, one(&rt, &rt, &place, SECOND), SECOND_SAID);
     place.clear(&rt);
 }
 
@@ -156,12 +155,10 @@ fn a_file_survives(rt: HostRuntime) {
 fn a_file_that_holds_nothing_is_made(rt: HostRuntime) {
     let place = new_place(&rt, &rt, "nothing");
     fs::write(&rt, place.file.as_str(), "\0").expect(&rt, "a file");
-    let said = one(&rt, &rt, &place, FIRST);
-    assert_eq!(rt; said.as_str(), FIRST_SAID);
+    expect_text(&rt, one(&rt, &rt, &place, FIRST), FIRST_SAID);
     assert_eq!(rt; place.page_size(&rt, &rt), 1024);
     place.make_blank(&rt, &rt);
-    let said = one(&rt, &rt, &place, FIRST);
-    assert_eq!(rt; said.as_str(), FIRST_SAID);
+    expect_text(&rt, one(&rt, &rt, &place, FIRST), FIRST_SAID);
     assert_eq!(rt; place.page_size(&rt, &rt), 4096);
     place.clear(&rt);
 }
@@ -228,48 +225,53 @@ connected false
 #[test]
 fn two_visitors_meet(rt: HostRuntime) {
     let place = new_place(&rt, &rt, "two");
-    let said = two(&rt, &rt, &place);
-    assert_eq!(rt; said.as_str(), TWO_SAID);
+    expect_text(&rt, two(&rt, &rt, &place), TWO_SAID);
     place.clear(&rt);
 }
 
-// Lines that are none are told before there is a connection: nobody listens there.
+// The lines have to be told as bad before there is a connection: nobody listens there.
+fn check_bad_lines<
+    R: Net<Listener = TcpListener, Stream = TcpStream> + RandomSource + Clock + Wait + Abort + Copy,
+>(rt: &R, alloc: Global, lines: &'static str, told: &str) {
+    let visitor = Visitor { lines, ..FIRST };
+    let mut output = Vec::new(alloc);
+    let status = visit(rt, alloc, "127.0.0.1:1", visitor, &mut output);
+    assert_eq!(rt; status, 1, "{lines:?}");
+    assert!(rt; output.as_slice() == told.as_bytes(), "{lines:?}");
+}
+
 #[test]
 fn bad_lines_are_told(rt: HostRuntime) {
-    for (lines, told) in [
-        ("listen /a\nlitsen /b\n", "bad line 2\n"),
-        ("\n", "bad line 1\n"),
-        ("wait 1001", "bad line 1\n"),
-        ("set /a 1\r\nset /b", "bad line 2\n"),
-    ] {
-        let visitor = Visitor { lines, ..FIRST };
-        let mut output = Vec::new(rt.alloc());
-        let status = visit(&rt, rt.alloc(), "127.0.0.1:1", visitor, &mut output);
-        assert_eq!(rt; status, 1, "{lines:?}");
-        assert_eq!(rt;
-            std::str::from_utf8(output.as_slice()).expect(&rt, "UTF-8"),
-            told
-        );
-    }
+    let alloc = rt.alloc();
+    check_bad_lines(&rt, alloc, "listen /a\nlitsen /b\n", "bad line 2\n");
+    check_bad_lines(&rt, alloc, "\n", "bad line 1\n");
+    check_bad_lines(&rt, alloc, "wait 1001", "bad line 1\n");
+    check_bad_lines(&rt, alloc, "set /a 1\r\nset /b", "bad line 2\n");
+}
+
+// The status to which a server comes there.
+fn status_at<R: Net<Listener = TcpListener, Stream = TcpStream> + Threads + Wait + Clock + Sync>(
+    host: &HostRuntime,
+    rt: &R,
+    address: &str,
+    file: &str,
+) -> u8 {
+    let serving = Serving {
+        address,
+        file,
+        connections: Some(1),
+    };
+    serve(host, rt, serving).0
 }
 
 // A file that is no database of saved rows, and an address that can't be bound.
 #[test]
 fn bad_places_are_refused(rt: HostRuntime) {
     let place = new_place(&rt, &rt, "refused");
+    let (address, file) = (place.address.as_str(), place.file.as_str());
     let foreign = place.foreign(&rt, &rt);
-    for (address, file, status) in [
-        (place.address.as_str(), foreign.as_str(), 3),
-        (place.address.as_str(), "/no/such/folder/file", 3),
-        ("nowhere", place.file.as_str(), 4),
-    ] {
-        let serving = Serving {
-            address,
-            file,
-            connections: Some(1),
-        };
-        let (served, _) = serve(&rt, &rt, serving);
-        assert_eq!(rt; served, status, "{address} {file}");
-    }
+    assert_eq!(rt; status_at(&rt, &rt, address, foreign.as_str()), 3);
+    assert_eq!(rt; status_at(&rt, &rt, address, "/no/such/folder/file"), 3);
+    assert_eq!(rt; status_at(&rt, &rt, "nowhere", file), 4);
     place.clear(&rt);
 }

@@ -6,7 +6,7 @@ use std::alloc::Global;
 use std::io::{ErrorKind, Read, Write};
 use std::net::{Net, TcpListener, TcpStream};
 use std::process::Abort;
-use std::time::{Duration, Instant};
+use std::time::{Clock, Duration, Instant};
 use std::{io, thread};
 
 // Long enough that a test which waits so long has failed.
@@ -41,12 +41,23 @@ fn read(stream: &mut Wakeable<'_>) -> Result<usize, ErrorKind> {
     stream.read(&mut [0u8; 64]).map_err(|e| e.kind())
 }
 
+// A read has to come to this.
+fn expect_read(rt: &impl Abort, stream: &mut Wakeable<'_>, wanted: Result<usize, ErrorKind>) {
+    assert_eq!(rt; read(stream), wanted);
+}
+
+// It has to be soon behind the start.
+fn expect_soon<R: Clock + Abort>(rt: &R, start: &Instant) {
+    let elapsed = start.elapsed(rt).expect(rt, "a clock");
+    assert!(rt; elapsed < Duration::from_millis(LONG_MILLIS));
+}
+
 #[test]
 fn time_ends_a_read(rt: HostRuntime) {
     let crowd = Crowd::new();
     let (mut stream, _bell, _far) = waking(&rt, rt.alloc(), 30, &crowd);
     let start = Instant::now(&rt).expect(&rt, "a clock");
-    assert_eq!(rt; read(&mut stream), Err(ErrorKind::WouldBlock));
+    expect_read(&rt, &mut stream, Err(ErrorKind::WouldBlock));
     assert!(rt; start.elapsed(&rt).expect(&rt, "a clock") >= Duration::from_millis(30));
 }
 
@@ -63,9 +74,9 @@ fn a_ring_ends_a_read(rt: HostRuntime) {
     })
     .expect(&rt, "a thread");
     for _ in 0..3u8 {
-        assert_eq!(rt; read(&mut stream), Err(ErrorKind::WouldBlock));
+        expect_read(&rt, &mut stream, Err(ErrorKind::WouldBlock));
     }
-    assert!(rt; start.elapsed(&rt).expect(&rt, "a clock") < Duration::from_millis(LONG_MILLIS));
+    expect_soon(&rt, &start);
     child.join(&rt);
 }
 
@@ -78,11 +89,11 @@ fn a_ring_is_heard_once(rt: HostRuntime) {
     for _ in 0..5u8 {
         bell.ring();
         bell.ring();
-        assert_eq!(rt; read(&mut stream), Err(ErrorKind::WouldBlock));
+        expect_read(&rt, &mut stream, Err(ErrorKind::WouldBlock));
         far.write_all(b"abc").expect(&rt, "a connection");
-        assert_eq!(rt; read(&mut stream), Ok(3));
+        expect_read(&rt, &mut stream, Ok(3));
     }
-    assert!(rt; start.elapsed(&rt).expect(&rt, "a clock") < Duration::from_millis(LONG_MILLIS));
+    expect_soon(&rt, &start);
 }
 
 // How many bytes come until the end.
@@ -110,7 +121,7 @@ fn all_bytes_come_and_then_the_end(rt: HostRuntime) {
             .expect(&rt, "a connection");
         drop(far);
         assert_eq!(rt; until_the_end(&mut stream), Ok(sent));
-        assert_eq!(rt; read(&mut stream), Ok(0));
-        assert!(rt; start.elapsed(&rt).expect(&rt, "a clock") < Duration::from_millis(LONG_MILLIS));
+        expect_read(&rt, &mut stream, Ok(0));
+        expect_soon(&rt, &start);
     }
 }

@@ -1,6 +1,7 @@
 //! Tests of saved bodies: what is read and printed again, and which texts are none. A table is a
 //! text of lines, each a case and what it must answer.
 
+use crate::said::expect_text;
 use pres_body::{print_entries, read_entries};
 use pres_log::Entry;
 use pres_write::Items;
@@ -26,23 +27,13 @@ fn body_answer(rt: &impl Abort, alloc: Global, text: &str) -> String {
     again
 }
 
-// Notes the line where something else is answered.
-fn try_line(rt: &impl Abort, alloc: Global, line: &str, wrong: &mut String) {
-    let (case, wanted) = line.split_once(" => ").expect(rt, "an answer");
-    let said = body_answer(rt, alloc, case);
-    if said.as_str() != wanted {
-        let line = format!(in alloc; "{case} => {said}\n").expect(rt, "memory");
-        wrong.push_str(line.as_str()).expect(rt, "memory");
-    }
-}
-
-// The lines that answer something else, each with that.
-fn wrong_in(rt: &impl Abort, alloc: Global, lines: &str) -> String {
-    let mut wrong = String::new(alloc);
+// Each line has to answer what it says.
+fn check(rt: &impl Abort, alloc: Global, lines: &str) {
     for line in lines.lines() {
-        try_line(rt, alloc, line, &mut wrong);
+        let (case, wanted) = line.split_once(" => ").expect(rt, "an answer");
+        let said = body_answer(rt, alloc, case);
+        assert_eq!(rt; said.as_str(), wanted, "at {case}");
     }
-    wrong
 }
 
 const SAVED: &str = r#"[{"e":"open","s":["alice",1,1]}] => same
@@ -127,19 +118,19 @@ const NO_PUTS: &str = r#"[{"e":"left","q":1,"rows":[["/b",1],["/a",2]],"s":["a",
 
 #[test]
 fn bodies_are_read_and_printed(rt: HostRuntime) {
-    assert_eq!(rt; wrong_in(&rt, rt.alloc(), SAVED).as_str(), "");
+    check(&rt, rt.alloc(), SAVED);
 }
 
 #[test]
 fn bodies_are_printed_tidily(rt: HostRuntime) {
-    assert_eq!(rt; wrong_in(&rt, rt.alloc(), UNTIDY).as_str(), "");
+    check(&rt, rt.alloc(), UNTIDY);
 }
 
 #[test]
 fn other_texts_are_none(rt: HostRuntime) {
-    assert_eq!(rt; wrong_in(&rt, rt.alloc(), NO_BATCHES).as_str(), "");
-    assert_eq!(rt; wrong_in(&rt, rt.alloc(), NO_ENTRIES).as_str(), "");
-    assert_eq!(rt; wrong_in(&rt, rt.alloc(), NO_PUTS).as_str(), "");
+    check(&rt, rt.alloc(), NO_BATCHES);
+    check(&rt, rt.alloc(), NO_ENTRIES);
+    check(&rt, rt.alloc(), NO_PUTS);
 }
 
 // An end with a write of the value at a path of so many keys.
@@ -160,16 +151,10 @@ fn deep_answer(rt: &impl Abort, alloc: Global, keys: usize, value: &str) -> Stri
 
 #[test]
 fn writes_reach_32_keys(rt: HostRuntime) {
-    assert_eq!(rt; deep_answer(&rt, rt.alloc(), 32, "1").as_str(), "same");
-    assert_eq!(rt;
-        deep_answer(&rt, rt.alloc(), 31, r#"{"b":1}"#).as_str(),
-        "same"
-    );
-    assert_eq!(rt;
-        deep_answer(&rt, rt.alloc(), 32, r#"{"b":1}"#).as_str(),
-        "none"
-    );
-    assert_eq!(rt; deep_answer(&rt, rt.alloc(), 33, "null").as_str(), "none");
+    expect_text(&rt, deep_answer(&rt, rt.alloc(), 32, "1"), "same");
+    expect_text(&rt, deep_answer(&rt, rt.alloc(), 31, r#"{"b":1}"#), "same");
+    expect_text(&rt, deep_answer(&rt, rt.alloc(), 32, r#"{"b":1}"#), "none");
+    expect_text(&rt, deep_answer(&rt, rt.alloc(), 33, "null"), "none");
 }
 
 // A Left with a row for each number from 1000 to before the end, at paths that rise.
@@ -190,6 +175,6 @@ fn wide_answer(rt: &impl Abort, alloc: Global, end: usize) -> String {
 
 #[test]
 fn lefts_hold_256_rows(rt: HostRuntime) {
-    assert_eq!(rt; wide_answer(&rt, rt.alloc(), 1256).as_str(), "same");
-    assert_eq!(rt; wide_answer(&rt, rt.alloc(), 1257).as_str(), "none");
+    expect_text(&rt, wide_answer(&rt, rt.alloc(), 1256), "same");
+    expect_text(&rt, wide_answer(&rt, rt.alloc(), 1257), "none");
 }

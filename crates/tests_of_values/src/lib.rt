@@ -12,4 +12,6 @@ mod messages;
 #[cfg(test)]
 mod operations;
 #[cfg(test)]
+mod said;
+#[cfg(test)]
 mod trees;

@@ -1,6 +1,7 @@
 //! Tests of messages: what is read and printed, and why texts are refused. A table is a text of
 //! lines, each a case and what it must answer. Each helper holds one message at most.
 
+use crate::said::expect_text;
 use pres_tree::{Path, Scalar, Tree};
 use pres_wire::{
     ClientId, Code, Count, Down, Field, IdFault, Limit, MAX_TEXT_BYTES, Number, PathValue,
@@ -58,7 +59,7 @@ fn counts_go_up_to_numbers(rt: HostRuntime) {
 #[test]
 fn numbers_are_displayed(rt: HostRuntime) {
     let said = format!(in rt.alloc(); "{} {}", number(12), Count::up_to(number(34)));
-    assert_eq!(rt; said.expect(&rt, "memory").as_str(), "12 34");
+    expect_text(&rt, said.expect(&rt, "memory"), "12 34");
 }
 
 // ---- clients and sessions
@@ -81,13 +82,21 @@ fn sessions_of_a_client(rt: HostRuntime) {
     let alice = ClientId::parse(rt.alloc(), "alice").expect(&rt, "a client's name");
     let first = SessionId::of(alice, stamp(1, 2));
     let second = second_of(&rt, rt.alloc(), &first);
-    let copied = first.copy(rt.alloc()).expect(&rt, "memory");
-    assert!(rt; copied == first);
-    assert!(rt; first < second);
-    assert!(rt; first.stamp().is_earlier(&second.stamp()));
-    assert!(rt; !second.stamp().is_earlier(&first.stamp()));
-    let said = format!(in rt.alloc(); "{} {first} {second}", first.stamp()).expect(&rt, "memory");
-    assert_eq!(rt; said.as_str(), "1.2 alice/1.2 alice/2.1");
+    let order = (
+        first < second,
+        first.stamp().is_earlier(&second.stamp()),
+        second.stamp().is_earlier(&first.stamp()),
+    );
+    assert_eq!(rt; order, (true, true, false));
+    let said = format!(in rt.alloc(); "{} {first} {second}", first.stamp());
+    expect_text(&rt, said.expect(&rt, "memory"), "1.2 alice/1.2 alice/2.1");
+}
+
+#[test]
+fn sessions_are_copied(rt: HostRuntime) {
+    let session = session(&rt, rt.alloc(), "alice");
+    let copied = session.copy(rt.alloc()).expect(&rt, "memory");
+    assert!(rt; copied == session);
 }
 
 fn session_in(rt: &impl Abort, alloc: Global, text: &str) -> Option<SessionId> {
@@ -254,34 +263,13 @@ fn answer(rt: &impl Abort, alloc: Global, table: Table, case: &str) -> String {
     }
 }
 
-// Notes the line where something else is answered.
-fn try_line(rt: &impl Abort, alloc: Global, table: Table, line: &str, wrong: &mut String) {
-    let (case, wanted) = line.split_once(" => ").expect(rt, "an answer");
-    let said = answer(rt, alloc, table, case);
-    if said.as_str() != wanted {
-        let line = format!(in alloc; "{case} => {said}\n").expect(rt, "memory");
-        wrong.push_str(line.as_str()).expect(rt, "memory");
-    }
-}
-
-// The lines that answer something else, each with that.
-fn wrong_in(rt: &impl Abort, alloc: Global, table: Table, lines: &str) -> String {
-    let mut wrong = String::new(alloc);
+// Each line has to answer what it says.
+fn check(rt: &impl Abort, alloc: Global, table: Table, lines: &str) {
     for line in lines.lines() {
-        try_line(rt, alloc, table, line, &mut wrong);
+        let (case, wanted) = line.split_once(" => ").expect(rt, "an answer");
+        let said = answer(rt, alloc, table, case);
+        assert_eq!(rt; said.as_str(), wanted, "at {case}");
     }
-    wrong
-}
-
-// The lines of several tables that answer something else, each with that.
-fn wrong_in_all(rt: &impl Abort, alloc: Global, tables: &[(Table, &str)]) -> String {
-    let mut wrong = String::new(alloc);
-    for (table, lines) in tables {
-        wrong
-            .push_str(wrong_in(rt, alloc, *table, lines).as_str())
-            .expect(rt, "memory");
-    }
-    wrong
 }
 
 const IDS: &str = "a-Z_09 => a-Z_09
@@ -382,37 +370,27 @@ const NUMBERS: &str = r#"{"m":"op","s":["a",1,1],"q":_} with null ; 0 ; 1.0 ; -1
 
 #[test]
 fn ids_are_plain_words(rt: HostRuntime) {
-    let wrong = wrong_in(&rt, rt.alloc(), Table::Ids, IDS);
-    assert_eq!(rt; wrong.as_str(), "");
+    check(&rt, rt.alloc(), Table::Ids, IDS);
 }
 
 #[test]
 fn sessions_are_read_and_printed(rt: HostRuntime) {
-    let wrong = wrong_in(&rt, rt.alloc(), Table::Sessions, SESSIONS);
-    assert_eq!(rt; wrong.as_str(), "");
+    check(&rt, rt.alloc(), Table::Sessions, SESSIONS);
 }
 
 #[test]
 fn messages_are_read_and_printed(rt: HostRuntime) {
-    let tables = [
-        (Table::Messages, MESSAGES),
-        (Table::Messages, UNTIDY),
-        (Table::Writes, WRITES),
-        (Table::Left, LEFT),
-    ];
-    let wrong = wrong_in_all(&rt, rt.alloc(), &tables);
-    assert_eq!(rt; wrong.as_str(), "");
+    check(&rt, rt.alloc(), Table::Messages, MESSAGES);
+    check(&rt, rt.alloc(), Table::Messages, UNTIDY);
+    check(&rt, rt.alloc(), Table::Writes, WRITES);
+    check(&rt, rt.alloc(), Table::Left, LEFT);
 }
 
 #[test]
 fn texts_are_refused(rt: HostRuntime) {
-    let tables = [
-        (Table::Refusals, REFUSALS),
-        (Table::RefusedWrites, REFUSED_WRITES),
-        (Table::RefusedLeft, REFUSED_LEFT),
-    ];
-    let wrong = wrong_in_all(&rt, rt.alloc(), &tables);
-    assert_eq!(rt; wrong.as_str(), "");
+    check(&rt, rt.alloc(), Table::Refusals, REFUSALS);
+    check(&rt, rt.alloc(), Table::RefusedWrites, REFUSED_WRITES);
+    check(&rt, rt.alloc(), Table::RefusedLeft, REFUSED_LEFT);
 }
 
 #[test]
@@ -420,19 +398,15 @@ fn refusals_are_displayed(rt: HostRuntime) {
     let told = WireFault::Field(Field::N)
         .to_string(rt.alloc())
         .expect(&rt, "memory");
-    assert_eq!(rt; told.as_str(), "the field n is missing or wrong");
+    expect_text(&rt, told, "the field n is missing or wrong");
 }
 
 #[test]
 fn fields_are_checked(rt: HostRuntime) {
-    let tables = [
-        (Table::Fields, HELLO_SESSIONS),
-        (Table::Fields, OP_SESSIONS),
-        (Table::Fields, BYE_SESSIONS),
-        (Table::Fields, NUMBERS),
-    ];
-    let wrong = wrong_in_all(&rt, rt.alloc(), &tables);
-    assert_eq!(rt; wrong.as_str(), "");
+    check(&rt, rt.alloc(), Table::Fields, HELLO_SESSIONS);
+    check(&rt, rt.alloc(), Table::Fields, OP_SESSIONS);
+    check(&rt, rt.alloc(), Table::Fields, BYE_SESSIONS);
+    check(&rt, rt.alloc(), Table::Fields, NUMBERS);
 }
 
 fn q_of(rt: &impl Abort, alloc: Global, text: &str) -> Option<Number> {
@@ -459,9 +433,8 @@ const TOO_LONG: &str = "1048576+x => 3 TooLong TooLong";
 #[test]
 fn long_texts_are_refused_first(rt: HostRuntime) {
     assert_eq!(rt; MAX_TEXT_BYTES, 1048576);
-    let tables = [(Table::Filled, LONGEST), (Table::RefusedFilled, TOO_LONG)];
-    let wrong = wrong_in_all(&rt, rt.alloc(), &tables);
-    assert_eq!(rt; wrong.as_str(), "");
+    check(&rt, rt.alloc(), Table::Filled, LONGEST);
+    check(&rt, rt.alloc(), Table::RefusedFilled, TOO_LONG);
 }
 
 // ---- messages to clients
@@ -661,14 +634,12 @@ stale => {"done":7,"m":"reply","n":1,"out":{"stale":1},"q":2,"r":3,"s":["bob",1,
 
 #[test]
 fn messages_to_clients_are_printed(rt: HostRuntime) {
-    let wrong = wrong_in(&rt, rt.alloc(), Table::ToClients, TO_CLIENTS);
-    assert_eq!(rt; wrong.as_str(), "");
+    check(&rt, rt.alloc(), Table::ToClients, TO_CLIENTS);
 }
 
 #[test]
 fn answers_to_plans_are_printed(rt: HostRuntime) {
-    let wrong = wrong_in(&rt, rt.alloc(), Table::ToClients, PLANNED);
-    assert_eq!(rt; wrong.as_str(), "");
+    check(&rt, rt.alloc(), Table::ToClients, PLANNED);
 }
 
 const PUSHES: &str = r#"/a/b => {"m":"push","r":2,"s":["bob",1,1],"values":[["/a/b",null]],"z":3}
@@ -678,34 +649,32 @@ const PUSHES: &str = r#"/a/b => {"m":"push","r":2,"s":["bob",1,1],"values":[["/a
 
 #[test]
 fn what_listeners_are_told_is_printed(rt: HostRuntime) {
-    let none = snap_text(&rt, rt.alloc(), None);
-    assert_eq!(rt;
-        none.as_str(),
-        r#"{"m":"snap","path":"/a","q":1,"r":1,"s":["bob",1,1],"value":null,"z":3}"#
+    expect_text(
+        &rt,
+        snap_text(&rt, rt.alloc(), None),
+        r#"{"m":"snap","path":"/a","q":1,"r":1,"s":["bob",1,1],"value":null,"z":3}"#,
     );
-    let one = snap_text(&rt, rt.alloc(), Some(1));
-    assert_eq!(rt;
-        one.as_str(),
-        r#"{"m":"snap","path":"/a","q":1,"r":1,"s":["bob",1,1],"value":1,"z":3}"#
+    expect_text(
+        &rt,
+        snap_text(&rt, rt.alloc(), Some(1)),
+        r#"{"m":"snap","path":"/a","q":1,"r":1,"s":["bob",1,1],"value":1,"z":3}"#,
     );
-    let off = off_done_text(&rt, rt.alloc());
-    assert_eq!(rt;
-        off.as_str(),
-        r#"{"m":"offdone","q":2,"r":3,"s":["bob",1,1],"z":4}"#
+    expect_text(
+        &rt,
+        off_done_text(&rt, rt.alloc()),
+        r#"{"m":"offdone","q":2,"r":3,"s":["bob",1,1],"z":4}"#,
     );
-    let wrong = wrong_in(&rt, rt.alloc(), Table::Pushes, PUSHES);
-    assert_eq!(rt; wrong.as_str(), "");
-    let empty = push_answer(&rt, rt.alloc(), "");
-    assert_eq!(rt;
-        empty.as_str(),
-        r#"{"m":"push","r":2,"s":["bob",1,1],"values":[],"z":3}"#
+    check(&rt, rt.alloc(), Table::Pushes, PUSHES);
+    expect_text(
+        &rt,
+        push_answer(&rt, rt.alloc(), ""),
+        r#"{"m":"push","r":2,"s":["bob",1,1],"values":[],"z":3}"#,
     );
 }
 
 #[test]
 fn replies_are_printed(rt: HostRuntime) {
-    let wrong = wrong_in(&rt, rt.alloc(), Table::ToClients, REPLIES);
-    assert_eq!(rt; wrong.as_str(), "");
+    check(&rt, rt.alloc(), Table::ToClients, REPLIES);
 }
 
 // ---- messages to clients, read
@@ -762,10 +731,6 @@ const UNREAD: &str = r#" => NotJson
 
 #[test]
 fn messages_to_clients_are_read(rt: HostRuntime) {
-    let wrong = wrong_in_all(
-        &rt,
-        rt.alloc(),
-        &[(Table::Read, READ), (Table::Unread, UNREAD)],
-    );
-    assert_eq!(rt; wrong.as_str(), "");
+    check(&rt, rt.alloc(), Table::Read, READ);
+    check(&rt, rt.alloc(), Table::Unread, UNREAD);
 }

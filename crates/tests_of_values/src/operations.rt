@@ -4,6 +4,7 @@
 ghost use Rattle.pres_write.specs.Basics.{Apart};
 ghost use Rattle.pres_write.specs.Outcomes.{writes_in};
 
+use crate::said::expect_text;
 use pres_tree::{Path, Scalar, Tree, TreeFault};
 use pres_write::{
     Basic, Draft, Items, Kept, Moment, Op, Outcome, Placement, Puts, Transaction, Unconditional,
@@ -414,33 +415,13 @@ fn answer(rt: &impl Abort, alloc: Global, table: Table, case: &str) -> String {
     }
 }
 
-fn try_line(rt: &impl Abort, alloc: Global, table: Table, line: &str, wrong: &mut String) {
-    let (case, wanted) = line.split_once(" => ").expect(rt, "an answer");
-    let got = answer(rt, alloc, table, case);
-    if got.as_str() != wanted {
-        let line = format!(in alloc; "{case} => {got}\n").expect(rt, "memory");
-        wrong.push_str(line.as_str()).expect(rt, "memory");
-    }
-}
-
-// The lines that answer something else, each with that.
-fn wrong_in(rt: &impl Abort, alloc: Global, table: Table, lines: &str) -> String {
-    let mut wrong = String::new(alloc);
+// Each line has to answer what it says.
+fn check(rt: &impl Abort, alloc: Global, table: Table, lines: &str) {
     for line in lines.lines() {
-        try_line(rt, alloc, table, line, &mut wrong);
+        let (case, wanted) = line.split_once(" => ").expect(rt, "an answer");
+        let said = answer(rt, alloc, table, case);
+        assert_eq!(rt; said.as_str(), wanted, "at {case}");
     }
-    wrong
-}
-
-// The lines of several tables that answer something else, each with that.
-fn wrong_in_all(rt: &impl Abort, alloc: Global, tables: &[(Table, &str)]) -> String {
-    let mut wrong = String::new(alloc);
-    for (table, lines) in tables {
-        wrong
-            .push_str(wrong_in(rt, alloc, *table, lines).as_str())
-            .expect(rt, "memory");
-    }
-    wrong
 }
 
 const REFUSED: &str = r#"{"op":"remove"} => 11 Shape
@@ -496,36 +477,28 @@ const TREES: &str =
 
 #[test]
 fn operations_leave_trees(rt: HostRuntime) {
-    let wrong = wrong_in(&rt, rt.alloc(), Table::Trees, TREES);
-    assert_eq!(rt; wrong.as_str(), "");
+    check(&rt, rt.alloc(), Table::Trees, TREES);
 }
 
 #[test]
 fn operations_are_refused(rt: HostRuntime) {
-    let wrong = wrong_in(&rt, rt.alloc(), Table::Faults, REFUSED);
-    assert_eq!(rt; wrong.as_str(), "");
+    check(&rt, rt.alloc(), Table::Faults, REFUSED);
 }
 
 #[test]
 fn places_have_at_most_32_keys(rt: HostRuntime) {
-    let wrong = wrong_in(&rt, rt.alloc(), Table::Depths, DEPTHS);
-    assert_eq!(rt; wrong.as_str(), "");
+    check(&rt, rt.alloc(), Table::Depths, DEPTHS);
 }
 
 #[test]
 fn updates_have_at_most_256_places(rt: HostRuntime) {
-    let tables = [
-        (Table::Places, "256 => 0\n257 => 10"),
-        (Table::Names, NAMES),
-    ];
-    let wrong = wrong_in_all(&rt, rt.alloc(), &tables);
-    assert_eq!(rt; wrong.as_str(), "");
+    check(&rt, rt.alloc(), Table::Places, "256 => 0\n257 => 10");
+    check(&rt, rt.alloc(), Table::Names, NAMES);
 }
 
 #[test]
 fn transactions_compare_whole_values(rt: HostRuntime) {
-    let wrong = wrong_in(&rt, rt.alloc(), Table::Compares, COMPARES);
-    assert_eq!(rt; wrong.as_str(), "");
+    check(&rt, rt.alloc(), Table::Compares, COMPARES);
 }
 
 const WRITES: &str = r#"/a/b {"c":[1]} => /a/b {"c":{"0":1}}
@@ -539,13 +512,9 @@ const TXS: &str = r#"/a 2 => {"expect":1,"op":"tx","path":"/a","value":2}"#;
 
 #[test]
 fn writes_and_operations_are_made(rt: HostRuntime) {
-    let tables = [
-        (Table::Writes, WRITES),
-        (Table::Sets, SETS),
-        (Table::Txs, TXS),
-    ];
-    let wrong = wrong_in_all(&rt, rt.alloc(), &tables);
-    assert_eq!(rt; wrong.as_str(), "");
+    check(&rt, rt.alloc(), Table::Writes, WRITES);
+    check(&rt, rt.alloc(), Table::Sets, SETS);
+    check(&rt, rt.alloc(), Table::Txs, TXS);
 }
 
 const PUTS: &str = r#"{"op":"set","path":"/a","value":{"b":1}} => puts /a {"b":1}
@@ -558,8 +527,7 @@ const PUTS: &str = r#"{"op":"set","path":"/a","value":{"b":1}} => puts /a {"b":1
 
 #[test]
 fn operations_put_drafts(rt: HostRuntime) {
-    let wrong = wrong_in(&rt, rt.alloc(), Table::Puts, PUTS);
-    assert_eq!(rt; wrong.as_str(), "");
+    check(&rt, rt.alloc(), Table::Puts, PUTS);
 }
 
 #[test]
@@ -568,6 +536,6 @@ fn moments_are_compared_and_printed(rt: HostRuntime) {
     let late = early.max(Moment::at(7));
     assert!(rt; early < late);
     assert_eq!(rt; late.millis(), 7);
-    let said = format!(in rt.alloc(); "{early} {}", Moment::at(u64::MAX)).expect(&rt, "memory");
-    assert_eq!(rt; said.as_str(), "5 9007199254740991");
+    let said = format!(in rt.alloc(); "{early} {}", Moment::at(u64::MAX));
+    expect_text(&rt, said.expect(&rt, "memory"), "5 9007199254740991");
 }

@@ -3,6 +3,7 @@
 
 ghost use Rattle.pres_tree.specs.Rows.{Fits};
 
+use crate::said::expect_text;
 use pres_tree::{Key, MAX_DEPTH, Path, Scalar, Text, Tree, TreeFault};
 use serde_json::Value;
 use std::alloc::Global;
@@ -181,8 +182,7 @@ fn texts_answer(rt: &impl Abort, alloc: Global, case: &str) -> String {
 fn keys_are_displayed(rt: HostRuntime) {
     let key = Key::parse(rt.alloc(), "a-b").expect(&rt, "a number");
     assert!(rt; key >= key);
-    let said = key.to_string(rt.alloc()).expect(&rt, "memory");
-    assert_eq!(rt; said.as_str(), "a-b");
+    expect_text(&rt, key.to_string(rt.alloc()).expect(&rt, "memory"), "a-b");
 }
 
 fn json_text(rt: &impl Abort, alloc: Global, value: Value) -> String {
@@ -341,34 +341,13 @@ fn answer(rt: &impl Abort, alloc: Global, table: Table, case: &str) -> String {
     }
 }
 
-// Notes the line where something else is answered.
-fn try_line(rt: &impl Abort, alloc: Global, table: Table, line: &str, wrong: &mut String) {
-    let (case, wanted) = line.split_once(" => ").expect(rt, "an answer");
-    let said = answer(rt, alloc, table, case);
-    if said.as_str() != wanted {
-        let line = format!(in alloc; "{case} => {said}\n").expect(rt, "memory");
-        wrong.push_str(line.as_str()).expect(rt, "memory");
-    }
-}
-
-// The lines that answer something else, each with that.
-fn wrong_in(rt: &impl Abort, alloc: Global, table: Table, lines: &str) -> String {
-    let mut wrong = String::new(alloc);
+// Each line has to answer what it says.
+fn check(rt: &impl Abort, alloc: Global, table: Table, lines: &str) {
     for line in lines.lines() {
-        try_line(rt, alloc, table, line, &mut wrong);
+        let (case, wanted) = line.split_once(" => ").expect(rt, "an answer");
+        let said = answer(rt, alloc, table, case);
+        assert_eq!(rt; said.as_str(), wanted, "at {case}");
     }
-    wrong
-}
-
-// The lines of several tables that answer something else, each with that.
-fn wrong_in_all(rt: &impl Abort, alloc: Global, tables: &[(Table, &str)]) -> String {
-    let mut wrong = String::new(alloc);
-    for (table, lines) in tables {
-        wrong
-            .push_str(wrong_in(rt, alloc, *table, lines).as_str())
-            .expect(rt, "memory");
-    }
-    wrong
 }
 
 const KEYS: &str = " => 2 EmptyKey
@@ -425,78 +404,70 @@ const NUMBERS: &str =
 
 #[test]
 fn small_and_large_objects(rt: HostRuntime) {
-    let wrong = wrong_in(&rt, rt.alloc(), Table::Numbers, NUMBERS);
-    assert_eq!(rt; wrong.as_str(), "");
+    check(&rt, rt.alloc(), Table::Numbers, NUMBERS);
 }
 
 #[test]
 fn texts_are_compared_by_their_bytes(rt: HostRuntime) {
-    let wrong = wrong_in(&rt, rt.alloc(), Table::Texts, TEXTS);
-    assert_eq!(rt; wrong.as_str(), "");
+    check(&rt, rt.alloc(), Table::Texts, TEXTS);
 }
 
 #[test]
 fn key_texts(rt: HostRuntime) {
-    let wrong = wrong_in(&rt, rt.alloc(), Table::Keys, KEYS);
-    assert_eq!(rt; wrong.as_str(), "");
+    check(&rt, rt.alloc(), Table::Keys, KEYS);
 }
 
 #[test]
 fn path_texts(rt: HostRuntime) {
-    let wrong = wrong_in(&rt, rt.alloc(), Table::Paths, PATHS);
-    assert_eq!(rt; wrong.as_str(), "");
+    check(&rt, rt.alloc(), Table::Paths, PATHS);
 }
 
 #[test]
 fn keys_have_at_most_768_bytes_and_paths_32_keys(rt: HostRuntime) {
     assert_eq!(rt; MAX_DEPTH, 32);
-    let wrong = wrong_in(&rt, rt.alloc(), Table::LongPaths, LONG_PATHS);
-    assert_eq!(rt; wrong.as_str(), "");
+    check(&rt, rt.alloc(), Table::LongPaths, LONG_PATHS);
 }
 
 #[test]
 fn paths_of_parts(rt: HostRuntime) {
-    let tables = [
-        (Table::Pairs, PAIRS),
-        (Table::LongPairs, "32 /a+ => below, 5 TooDeep, none"),
-    ];
-    let wrong = wrong_in_all(&rt, rt.alloc(), &tables);
-    assert_eq!(rt; wrong.as_str(), "");
+    check(&rt, rt.alloc(), Table::Pairs, PAIRS);
+    check(
+        &rt,
+        rt.alloc(),
+        Table::LongPairs,
+        "32 /a+ => below, 5 TooDeep, none",
+    );
 }
 
 #[test]
 fn paths_above_a_path(rt: HostRuntime) {
     for (len, wanted) in [(0, "/"), (2, "/a/b"), (3, "/a/b/c"), (4, "/a/b/c")] {
-        let said = first_keys(&rt, rt.alloc(), "/a/b/c", len);
-        assert_eq!(rt; said.as_str(), wanted);
+        expect_text(&rt, first_keys(&rt, rt.alloc(), "/a/b/c", len), wanted);
     }
 }
 
 #[test]
 fn values_of_json(rt: HostRuntime) {
-    let wrong = wrong_in(&rt, rt.alloc(), Table::Values, VALUES);
-    assert_eq!(rt; wrong.as_str(), "");
+    check(&rt, rt.alloc(), Table::Values, VALUES);
 }
 
 #[test]
 fn scalars_stand_below_at_most_32_keys(rt: HostRuntime) {
-    let wrong = wrong_in(
+    check(
         &rt,
         rt.alloc(),
         Table::Nested,
         "33 null => null\n33 1 => 5 TooDeep",
     );
-    assert_eq!(rt; wrong.as_str(), "");
 }
 
 #[test]
 fn writes_change_the_tree(rt: HostRuntime) {
-    let wrong = wrong_in(&rt, rt.alloc(), Table::Writes, WRITES);
-    assert_eq!(rt; wrong.as_str(), "");
+    check(&rt, rt.alloc(), Table::Writes, WRITES);
 }
 
 #[test]
 fn scalars_are_trees(rt: HostRuntime) {
     let said = printed(&rt, rt.alloc(), &Tree::scalar(Scalar::Bool(true)));
-    assert_eq!(rt; said.as_str(), "true");
+    expect_text(&rt, said, "true");
 }
