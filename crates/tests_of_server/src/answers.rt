@@ -64,18 +64,19 @@ fn interleaved(rt: &impl Abort, alloc: Global) -> RetryTable {
     table
 }
 
+// The client's write with the number was done there.
+fn check_done(rt: &impl Abort, alloc: Global, table: &RetryTable, name: &str, n: u64, wanted: u64) {
+    let client = client(rt, alloc, name);
+    assert_eq!(rt; done(rt, table, &client, n), wanted, "at {name} {n}");
+}
+
 #[test]
 fn clients_are_counted_apart(rt: HostRuntime) {
     let table = interleaved(&rt, rt.alloc());
-    for (name, n, wanted) in [
-        ("alice", 2, 6),
-        ("alice", 3, 9),
-        ("bob", 1, 7),
-        ("bob", 2, 8),
-    ] {
-        let client = client(&rt, rt.alloc(), name);
-        assert_eq!(rt; done(&rt, &table, &client, n), wanted, "at {name} {n}");
-    }
+    check_done(&rt, rt.alloc(), &table, "alice", 2, 6);
+    check_done(&rt, rt.alloc(), &table, "alice", 3, 9);
+    check_done(&rt, rt.alloc(), &table, "bob", 1, 7);
+    check_done(&rt, rt.alloc(), &table, "bob", 2, 8);
 }
 
 // Where the client's answered writes were done, in their order.
@@ -89,16 +90,15 @@ fn rows_done(rt: &impl Abort, alloc: Global, table: &RetryTable, name: &str) -> 
     done
 }
 
+// The client's answered writes were done there, in this order.
+fn check_rows(rt: &impl Abort, alloc: Global, table: &RetryTable, name: &str, wanted: &[u64]) {
+    assert_eq!(rt; rows_done(rt, alloc, table, name).as_slice(), wanted);
+}
+
 #[test]
 fn rows_are_those_of_the_client_in_order(rt: HostRuntime) {
     let table = interleaved(&rt, rt.alloc());
-    assert_eq!(rt;
-        rows_done(&rt, rt.alloc(), &table, "alice").as_slice(),
-        &[3, 6, 9][..]
-    );
-    assert_eq!(rt;
-        rows_done(&rt, rt.alloc(), &table, "bob").as_slice(),
-        &[7, 8][..]
-    );
-    assert!(rt; rows_done(&rt, rt.alloc(), &table, "carol").is_empty());
+    check_rows(&rt, rt.alloc(), &table, "alice", &[3, 6, 9]);
+    check_rows(&rt, rt.alloc(), &table, "bob", &[7, 8]);
+    check_rows(&rt, rt.alloc(), &table, "carol", &[]);
 }

@@ -30,6 +30,20 @@ fn lines_are_made_once(rt: HostRuntime) {
     assert!(rt; !lines.has(&alice));
 }
 
+// The first line that is marked has to be that of the session, for this reason.
+fn check_marked(rt: &impl Abort, alloc: Global, lines: &Lines, session: &SessionId, why: Why) {
+    let Some(Ok((found, marked))) = lines.first_marked(alloc) else {
+        panic!(rt; "none is marked");
+    };
+    assert!(rt; found == *session && marked == why);
+}
+
+// The one line that is slow has to be that of the session.
+fn check_slow(rt: &impl Abort, alloc: Global, lines: &mut Lines, session: &SessionId) {
+    assert!(rt; matches!(lines.next_slow(alloc), Some(Ok(found)) if found == *session));
+    assert!(rt; lines.next_slow(alloc).is_none());
+}
+
 #[test]
 fn slow_lines_are_marked_in_order(rt: HostRuntime) {
     let alloc = rt.alloc();
@@ -38,12 +52,9 @@ fn slow_lines_are_marked_in_order(rt: HostRuntime) {
     let mut lines = reserved(&rt, alloc, &alice, &bob);
     assert!(rt; lines.first_marked(alloc).is_none());
     lines.strike(&bob, Why::Lost);
-    assert!(rt; matches!(lines.next_slow(alloc), Some(Ok(found)) if found == alice));
-    assert!(rt; lines.next_slow(alloc).is_none());
+    check_slow(&rt, alloc, &mut lines, &alice);
     lines.strike(&alice, Why::Lost);
-    assert!(rt;
-        matches!(lines.first_marked(alloc), Some(Ok((found, Why::Slow))) if found == alice)
-    );
+    check_marked(&rt, alloc, &lines, &alice, Why::Slow);
     lines.remove(&alice);
-    assert!(rt; matches!(lines.first_marked(alloc), Some(Ok((found, Why::Lost))) if found == bob));
+    check_marked(&rt, alloc, &lines, &bob, Why::Lost);
 }

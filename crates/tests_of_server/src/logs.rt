@@ -1,6 +1,7 @@
 //! Tests of logs: operations of one writer, and sessions of one client. Each helper makes one value
 //! of another, so that few are alive at once.
 
+use crate::said::expect_text;
 use pres_log::{Batch, Entry, Fault, Log, Plain};
 use pres_wire::{ClientId, Number, SessionId, Stamp, Why};
 use pres_write::{Items, Kept, Moment, Op};
@@ -45,19 +46,29 @@ fn left(rt: &impl Abort, alloc: Global, log: &Plain) -> String {
     value.to_string(alloc).expect(rt, "memory")
 }
 
+// The operation that puts the moment under the name gets the number.
+fn check_applied(
+    rt: &impl Abort,
+    alloc: Global,
+    log: &mut Plain,
+    name: &str,
+    now: u64,
+    number: u64,
+) {
+    assert_eq!(rt; applied(rt, alloc, log, name, now), Some(number));
+    assert_eq!(rt; log.number().get(), number);
+}
+
 #[test]
 fn moments_never_fall(rt: HostRuntime) {
     let alloc = rt.alloc();
     let mut log = Plain::new(alloc);
-    for (number, name, now) in [(1, "t", 5), (2, "u", 3), (3, "v", 7)] {
-        assert_eq!(rt; applied(&rt, alloc, &mut log, name, now), Some(number));
-        assert_eq!(rt; log.number().get(), number);
-    }
-    let tree = left(&rt, alloc, &log);
-    assert_eq!(rt; tree.as_str(), r#"{"t":5,"u":5,"v":7}"#);
+    check_applied(&rt, alloc, &mut log, "t", 5, 1);
+    check_applied(&rt, alloc, &mut log, "u", 3, 2);
+    check_applied(&rt, alloc, &mut log, "v", 7, 3);
+    expect_text(&rt, left(&rt, alloc, &log), r#"{"t":5,"u":5,"v":7}"#);
     assert_eq!(rt; moved(&rt, alloc, &mut log, "t", 6), Some(4));
-    let tree = left(&rt, alloc, &log);
-    assert_eq!(rt; tree.as_str(), r#"{"t":7,"u":5,"v":7}"#);
+    expect_text(&rt, left(&rt, alloc, &log), r#"{"t":7,"u":5,"v":7}"#);
 }
 
 fn session(rt: &impl Abort, alloc: Global, attempt: u64) -> SessionId {
@@ -128,22 +139,38 @@ fn attempt_at(log: &Log, number: u64) -> Option<u64> {
     }
 }
 
+// The entry with the number has this attempt, as `attempt_at` tells it.
+fn check_entry(rt: &impl Abort, log: &Log, number: u64, wanted: Option<u64>) {
+    assert_eq!(rt; attempt_at(log, number), wanted, "at {number}");
+}
+
 #[test]
 fn entries_are_numbered(rt: HostRuntime) {
-    let alloc = rt.alloc();
-    assert!(rt; Log::new(alloc).is_empty());
-    let log = log_of_two(&rt, alloc);
+    assert!(rt; Log::new(rt.alloc()).is_empty());
+    let log = log_of_two(&rt, rt.alloc());
     assert_eq!(rt; log.len(), 3);
-    assert_eq!(rt; log.batches().len(), 2);
-    let wanted = [None, Some(1), Some(101), Some(2), None];
-    for (number, attempt) in (0..5).zip(wanted) {
-        assert_eq!(rt; attempt_at(&log, number), attempt, "at {number}");
-    }
-    for (batch, (first, now, count)) in log.batches().iter().zip([(1, 1000, 1), (2, 2000, 2)]) {
-        assert_eq!(rt; batch.first().get(), first);
-        assert_eq!(rt; batch.moment(), Moment::at(now));
-        assert_eq!(rt; batch.entries().len(), count);
-    }
+    check_entry(&rt, &log, 0, None);
+    check_entry(&rt, &log, 1, Some(1));
+    check_entry(&rt, &log, 2, Some(101));
+    check_entry(&rt, &log, 3, Some(2));
+    check_entry(&rt, &log, 4, None);
+}
+
+// The batch begins with this number, and has this moment and so many entries.
+fn check_batch(rt: &impl Abort, batch: &Batch, first: u64, now: u64, count: usize) {
+    assert_eq!(rt; batch.first().get(), first);
+    assert_eq!(rt; batch.moment(), Moment::at(now));
+    assert_eq!(rt; batch.entries().len(), count);
+}
+
+#[test]
+fn batches_are_kept_in_order(rt: HostRuntime) {
+    let log = log_of_two(&rt, rt.alloc());
+    let [first, second] = log.batches() else {
+        panic!(rt; "no two batches");
+    };
+    check_batch(&rt, first, 1, 1000, 1);
+    check_batch(&rt, second, 2, 2000, 2);
 }
 
 #[test]

@@ -53,22 +53,38 @@ fn take_up_to(rt: &impl Abort, alloc: Global, outbox: &mut Outbox, count: usize)
     texts
 }
 
+// All that comes out of a ring after so many writes, which is given up or isn't.
+fn taken(
+    rt: &impl Abort,
+    alloc: Global,
+    alice: &SessionId,
+    writes: u32,
+    given_up: bool,
+) -> Vec<String> {
+    let Ends {
+        mut feed,
+        mut outbox,
+        rest,
+    } = ends_for(rt, alloc, listened(rt, alloc, writes), alice);
+    put_rest(&mut feed, rest);
+    assert_eq!(rt; feed.is_given_up(), given_up);
+    let texts = take_up_to(rt, alloc, &mut outbox, CAPACITY);
+    assert!(rt; outbox.take().is_none());
+    texts
+}
+
+// A ring takes the first 256 messages that so many writes make.
+fn check(rt: &impl Abort, alloc: Global, writes: u32, given_up: bool) {
+    let alice = session(rt, alloc, ALICE);
+    let mut put = texts_for(rt, alloc, &listened(rt, alloc, writes), &alice);
+    put.truncate(CAPACITY);
+    assert_eq!(rt; put.len(), 256);
+    assert!(rt; taken(rt, alloc, &alice, writes, given_up) == put);
+}
+
 #[test]
 fn a_full_ring_is_given_up(rt: HostRuntime) {
-    let alloc = rt.alloc();
-    let alice = session(&rt, alloc, ALICE);
-    for (writes, given_up) in [(254, false), (255, true), (300, true)] {
-        let mut put = texts_for(&rt, alloc, &listened(&rt, alloc, writes), &alice);
-        let Ends {
-            mut feed,
-            mut outbox,
-            rest,
-        } = ends_for(&rt, alloc, listened(&rt, alloc, writes), &alice);
-        put_rest(&mut feed, rest);
-        assert_eq!(rt; feed.is_given_up(), given_up);
-        put.truncate(CAPACITY);
-        assert_eq!(rt; put.len(), 256);
-        assert!(rt; take_up_to(&rt, alloc, &mut outbox, CAPACITY) == put);
-        assert!(rt; outbox.take().is_none());
-    }
+    check(&rt, rt.alloc(), 254, false);
+    check(&rt, rt.alloc(), 255, true);
+    check(&rt, rt.alloc(), 300, true);
 }

@@ -16,31 +16,55 @@ fn stamp(rt: &impl Abort, incarnation: u64, attempt: u64) -> Stamp {
     }
 }
 
+// The number of one message more from the client.
+fn accepted(rt: &impl Abort, live: &mut Live<NoPlan>) -> u64 {
+    live.accept().expect(rt, "one message more").get()
+}
+
+// The number of one message more to the client.
+fn emitted(rt: &impl Abort, live: &mut Live<NoPlan>) -> u64 {
+    live.emit().expect(rt, "one message more").get()
+}
+
+// So many messages have to have come from the client and gone to it.
+fn check_counts(rt: &impl Abort, live: &Live<NoPlan>, count: u64, sent: u64) {
+    assert_eq!(rt; (live.count().get(), live.sent().get()), (count, sent));
+}
+
 #[test]
-fn a_client_comes_and_goes(rt: HostRuntime) {
+fn a_session_counts_its_messages(rt: HostRuntime) {
     let mut live = first(stamp(&rt, 1, 1), Moment::at(1000), NoPlan);
     live.hear(Moment::at(3000));
     live.hear(Moment::at(2000));
     assert_eq!(rt; live.heard().millis(), 3000);
-    assert_eq!(rt; live.accept().expect(&rt, "one message more").get(), 1);
-    assert_eq!(rt; live.accept().expect(&rt, "one message more").get(), 2);
-    assert_eq!(rt; live.emit().expect(&rt, "one message more").get(), 1);
+    assert_eq!(rt; accepted(&rt, &mut live), 1);
+    assert_eq!(rt; accepted(&rt, &mut live), 2);
+    assert_eq!(rt; emitted(&rt, &mut live), 1);
     let due = live.end(Why::Lost);
     assert_eq!(rt; due.why(), Why::Lost);
-    let live = due.put_back();
-    assert_eq!(rt; live.count().get(), 2);
-    assert_eq!(rt; live.sent().get(), 1);
-    let gone = live.end(Why::Bye).spend(&[]);
-    let Err((fault, gone, plan)) = gone.open(stamp(&rt, 1, 1), Moment::at(4000), NoPlan) else {
+    check_counts(&rt, &due.put_back(), 2, 1);
+}
+
+// A client that comes again with the stamp that it had is refused.
+fn refused(rt: &impl Abort, gone: Gone) -> (Gone, NoPlan) {
+    let Err((fault, gone, plan)) = gone.open(stamp(rt, 1, 1), Moment::at(4000), NoPlan) else {
         panic!(rt; "an equal stamp was accepted");
     };
-    assert_eq!(rt; fault, SessionFault::Old(stamp(&rt, 1, 1)));
-    assert_eq!(rt; gone.last(), stamp(&rt, 1, 1));
+    assert_eq!(rt; fault, SessionFault::Old(stamp(rt, 1, 1)));
+    assert_eq!(rt; gone.last(), stamp(rt, 1, 1));
+    (gone, plan)
+}
+
+#[test]
+fn a_client_comes_and_goes(rt: HostRuntime) {
+    let live = first(stamp(&rt, 1, 1), Moment::at(1000), NoPlan);
+    let gone = live.end(Why::Bye).spend(&[]);
+    let (gone, plan) = refused(&rt, gone);
     let Ok(live) = gone.open(stamp(&rt, 1, 2), Moment::at(4000), plan) else {
         panic!(rt; "a greater stamp was refused");
     };
     assert_eq!(rt; live.stamp(), stamp(&rt, 1, 2));
-    assert_eq!(rt; live.count().get(), 0);
+    check_counts(&rt, &live, 0, 0);
 }
 
 // A plan that owes the rows that were put into it, in their order.
