@@ -1,7 +1,7 @@
 //! Tests of saved bodies: what is read and printed again, and which texts are none. A table is a
 //! text of lines, each a case and what it must answer.
 
-use crate::said::expect_text;
+use crate::said::{expect_said, expect_text};
 use pres_body::{print_entries, read_entries};
 use pres_log::Entry;
 use pres_write::Items;
@@ -31,8 +31,7 @@ fn body_answer(rt: &impl Abort, alloc: Global, text: &str) -> String {
 fn check(rt: &impl Abort, alloc: Global, lines: &str) {
     for line in lines.lines() {
         let (case, wanted) = line.split_once(" => ").expect(rt, "an answer");
-        let said = body_answer(rt, alloc, case);
-        assert_eq!(rt; said.as_str(), wanted, "at {case}");
+        expect_said(rt, case, body_answer(rt, alloc, case), wanted);
     }
 }
 

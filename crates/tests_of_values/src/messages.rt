@@ -1,7 +1,7 @@
 //! Tests of messages: what is read and printed, and why texts are refused. A table is a text of
 //! lines, each a case and what it must answer. Each helper holds one message at most.
 
-use crate::said::expect_text;
+use crate::said::{expect_said, expect_text};
 use pres_tree::{Path, Scalar, Tree};
 use pres_wire::{
     ClientId, Code, Count, Down, Field, IdFault, Limit, MAX_TEXT_BYTES, Number, PathValue,
@@ -267,8 +267,7 @@ fn answer(rt: &impl Abort, alloc: Global, table: Table, case: &str) -> String {
 fn check(rt: &impl Abort, alloc: Global, table: Table, lines: &str) {
     for line in lines.lines() {
         let (case, wanted) = line.split_once(" => ").expect(rt, "an answer");
-        let said = answer(rt, alloc, table, case);
-        assert_eq!(rt; said.as_str(), wanted, "at {case}");
+        expect_said(rt, case, answer(rt, alloc, table, case), wanted);
     }
 }
 

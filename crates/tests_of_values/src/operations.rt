@@ -4,7 +4,7 @@
 ghost use Rattle.pres_write.specs.Basics.{Apart};
 ghost use Rattle.pres_write.specs.Outcomes.{writes_in};
 
-use crate::said::expect_text;
+use crate::said::{expect_said, expect_text};
 use pres_tree::{Path, Scalar, Tree, TreeFault};
 use pres_write::{
     Basic, Draft, Items, Kept, Moment, Op, Outcome, Placement, Puts, Transaction, Unconditional,
@@ -419,8 +419,7 @@ fn answer(rt: &impl Abort, alloc: Global, table: Table, case: &str) -> String {
 fn check(rt: &impl Abort, alloc: Global, table: Table, lines: &str) {
     for line in lines.lines() {
         let (case, wanted) = line.split_once(" => ").expect(rt, "an answer");
-        let said = answer(rt, alloc, table, case);
-        assert_eq!(rt; said.as_str(), wanted, "at {case}");
+        expect_said(rt, case, answer(rt, alloc, table, case), wanted);
     }
 }
 

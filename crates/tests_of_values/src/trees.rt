@@ -3,7 +3,7 @@
 
 ghost use Rattle.pres_tree.specs.Rows.{Fits};
 
-use crate::said::expect_text;
+use crate::said::{expect_said, expect_text};
 use pres_tree::{Key, MAX_DEPTH, Path, Scalar, Text, Tree, TreeFault};
 use serde_json::Value;
 use std::alloc::Global;
@@ -345,8 +345,7 @@ fn answer(rt: &impl Abort, alloc: Global, table: Table, case: &str) -> String {
 fn check(rt: &impl Abort, alloc: Global, table: Table, lines: &str) {
     for line in lines.lines() {
         let (case, wanted) = line.split_once(" => ").expect(rt, "an answer");
-        let said = answer(rt, alloc, table, case);
-        assert_eq!(rt; said.as_str(), wanted, "at {case}");
+        expect_said(rt, case, answer(rt, alloc, table, case), wanted);
     }
 }
 
