@@ -34,7 +34,10 @@ fn stops_where_a_read_fails(rt: HostRuntime) {
 // An output that takes so many writes has to hold this, and the run to come to this.
 fn check_clogged(rt: &impl Abort, alloc: Global, writes: usize, wanted: &str, end: End) {
     let text = format!(in alloc; "{SET_A}\n{SET_AB}\n").expect(rt, "memory");
-    let mut input = text.as_bytes();
+    let mut input = Drops {
+        rest: text.as_bytes(),
+        fails: false,
+    };
     let mut output = Clogs {
         taken: Vec::new(alloc),
         writes,
