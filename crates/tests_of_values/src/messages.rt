@@ -273,6 +273,7 @@ fn check(rt: &impl Abort, alloc: Global, table: Table, lines: &str) {
 
 const IDS: &str = "a-Z_09 => a-Z_09
 a! => refused
+a b => refused
  => refused";
 
 const SESSIONS: &str = r#"[ "alice", 1, 2 ] => ["alice",1,2] [1,2]

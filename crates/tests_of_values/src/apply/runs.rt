@@ -40,13 +40,14 @@ const STALE: &str = r#"{"expect":null,"now":1,"op":"tx","path":"/n","value":1}
 
 // The input has to be answered so, also where it comes a byte at a time.
 fn check_bytes(rt: &impl Abort, alloc: Global, input: &[u8], output: &str, end: End) {
+    let text = std::str::from_utf8(input).unwrap_or("bytes that are no text");
     let mut whole = input;
-    assert!(rt; answers(alloc, &mut whole, output, end), "{output}");
+    assert!(rt; answers(alloc, &mut whole, output, end), "whole: {text}");
     let mut drops = Drops {
         rest: input,
         fails: false,
     };
-    assert!(rt; answers(alloc, &mut drops, output, end), "{output}");
+    assert!(rt; answers(alloc, &mut drops, output, end), "by bytes: {text}");
 }
 
 // The lines are all taken, and answered so.
