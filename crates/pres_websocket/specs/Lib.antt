@@ -1,1 +1,4 @@
+pub mod Closing
 pub mod Ends
+pub mod Meters
+pub mod Told

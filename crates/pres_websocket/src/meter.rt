@@ -1,7 +1,11 @@
 //! A stream that counts its reads.
 
+ghost use Rattle.std.specs.Prelude.{◌≡◌};
+ghost use Rattle.pres_websocket.specs.Meters.{is_spent};
+
 use std::io;
 use std::io::{ErrorKind, Read, Write};
+use std::marker::Model;
 
 /// The greatest number of reads in a row that give nothing.
 pub const MAX_IDLE_READS: u32 = 2_000;
@@ -19,9 +23,21 @@ pub struct Metered<S> {
     idle: u32,
 }
 
+impl<S> Model for Metered<S> {
+    ghost use Rattle.pres_websocket.specs.Meters.{Meter, meter_code};
+
+    ghost Value = { Meter S };
+
+    ghost coded = { meter_code S.code };
+
+    ghost view = { λ m. record { stream = m.stream; reads = m.reads; idle = m.idle } };
+}
+
 impl<S> Metered<S> {
     /// No reads so far.
-    pub(crate) fn new(stream: S) -> Metered<S> {
+    pub(crate) fn new(stream: S) -> Metered<S>
+        ensures { result ≡ record { stream = stream; reads = 0; idle = 0 } }
+    {
         Metered {
             stream,
             reads: 0,
@@ -30,12 +46,16 @@ impl<S> Metered<S> {
     }
 
     /// Whether no read is left.
-    pub(crate) fn is_spent(&self) -> bool {
+    pub(crate) fn is_spent(&self) -> bool
+        ensures { result ≡ is_spent self.now }
+    {
         self.reads >= MAX_READS || self.idle >= MAX_IDLE_READS
     }
 }
 
 impl<S: Read> Read for Metered<S> {
+    ghost remaining = { λ meter. S.remaining meter.stream };
+
     fn read(&mut self, buf: &mut [u8]) -> io::Result<usize> {
         if self.is_spent() {
             return Err(io::Error::from(ErrorKind::WouldBlock));
@@ -58,6 +78,8 @@ impl<S: Read> Read for Metered<S> {
 }
 
 impl<S: Write> Write for Metered<S> {
+    ghost contents = { λ meter. S.contents meter.stream };
+
     fn write(&mut self, buf: &[u8]) -> io::Result<usize> {
         self.idle = 0;
         self.stream.write(buf)

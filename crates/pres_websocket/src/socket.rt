@@ -1,7 +1,17 @@
 //! A WebSocket over any stream.
 
-ghost use Rattle.std.specs.Prelude.{◌≡◌, false, IfErr};
-ghost use Rattle.pres_websocket.specs.Ends.{is_handshake, of_shake};
+ghost use Rattle.std.specs.Prelude.{◌≡◌, ◌≢◌, ℕ, List, [], false, Some, Result, Err, IfOk, IfErr, OnOk};
+ghost use Rattle.tungstenite.specs.Failure.{WriteFails, IsIo};
+ghost use Rattle.tungstenite.specs.Heads.{Connected, Serves};
+ghost use Rattle.tungstenite.specs.Socket.{Reads, Writes, Flushed};
+ghost use Rattle.tungstenite.specs.declared.error.Error.{Error as Cause};
+ghost use Rattle.tungstenite.specs.declared.message.Message.{Message as Given};
+ghost use Rattle.tungstenite.specs.Connection.{write_step};
+ghost use Rattle.tungstenite.specs.Content.{text as text_content};
+ghost use Rattle.pres_websocket.specs.Closing.{Closes};
+ghost use Rattle.pres_websocket.specs.Ends.{is_handshake, of_shake, of_stream};
+ghost use Rattle.pres_websocket.specs.Told.{IsTold, IsOfShake};
+ghost use Rattle.pres_websocket.specs.declared.fault.SockFault.TheVariants.{Memory};
 
 use crate::fault::{SockFault, stream_fault};
 use crate::meter::Metered;
@@ -33,7 +43,10 @@ fn config() -> WebSocketConfig {
 pub fn accept<S: Read + Write + Drop>(
     alloc: Global,
     stream: S,
-) -> Result<Socket<S, NoMask>, SockFault> {
+) -> Result<Socket<S, NoMask>, SockFault>
+    ensures serves { IfOk result Serves }
+    ensures refused { IfErr result IsOfShake }
+{
     let mut mid = server::start(alloc, Metered::new(stream), NoCallback, Some(config()));
     for _ in 0..u64::MAX {
         mid = match mid.handshake() {
@@ -74,7 +87,10 @@ pub fn connect<S: Read + Write + Drop, M: MaskKeys + Drop>(
     alloc: Global,
     stream: S,
     mut keys: M,
-) -> Result<Socket<S, M>, SockFault> {
+) -> Result<Socket<S, M>, SockFault>
+    ensures connected { IfOk result (λ socket. (key : List ℕ) × Connected key socket) }
+    ensures refused { IfErr result IsOfShake }
+{
     let nonce = nonce_of(&mut keys);
     let request = client::request_of(alloc, "ws://presence/").map_err(shake_fault)?;
     let stream = Metered::new(stream);
@@ -109,27 +125,41 @@ pub enum Came {
     Nothing,
 }
 
+// What an error of a read is told as: the peer's close, or nothing where the stream would block.
+fn told<S>(stream: &Metered<S>, error: Error) -> Result<Came, SockFault>
+    ensures told { IsTold stream.now (Err error) result }
+    ensures shaken { IfErr result (λ e. is_handshake e ≡ false) }
+{
+    match error {
+        Error::ConnectionClosed => Ok(Came::Close),
+        Error::Io(error) => {
+            if error.kind() != ErrorKind::WouldBlock {
+                return Err(SockFault::Stream(Error::Io(error)));
+            }
+            if stream.is_spent() {
+                return Err(SockFault::Turns);
+            }
+            Ok(Came::Nothing)
+        }
+        other => Err(stream_fault(other)),
+    }
+}
+
 /// One read. A ping is answered by the socket itself.
 pub fn read<S: Read + Write + Drop, M: MaskKeys + Drop>(
     socket: &mut Socket<S, M>,
 ) -> Result<Came, SockFault>
-    ensures { IfErr result (λ e. is_handshake e ≡ false) }
+    ensures came { (given : Result Given Cause)
+        × Reads (λ meter. S.remaining meter.stream) socket.old socket.new given
+        × IsTold socket.new.stream given result }
+    ensures shaken { IfErr result (λ e. is_handshake e ≡ false) }
 {
     match socket.read() {
         Ok(Message::Text(text)) => Ok(Came::Text(text)),
         Ok(Message::Binary(_)) => Ok(Came::Binary),
         Ok(Message::Ping(_)) | Ok(Message::Pong(_)) => Ok(Came::Nothing),
-        Ok(Message::Close(_)) | Err(Error::ConnectionClosed) => Ok(Came::Close),
-        Err(Error::Io(error)) => {
-            if error.kind() != ErrorKind::WouldBlock {
-                return Err(SockFault::Stream(Error::Io(error)));
-            }
-            if socket.get_ref().is_spent() {
-                return Err(SockFault::Turns);
-            }
-            Ok(Came::Nothing)
-        }
-        Err(error) => Err(stream_fault(error)),
+        Ok(Message::Close(_)) => Ok(Came::Close),
+        Err(error) => told(socket.get_ref(), error),
     }
 }
 
@@ -139,7 +169,12 @@ pub fn write<S: Read + Write + Drop, M: MaskKeys + Drop>(
     socket: &mut Socket<S, M>,
     text: &str,
 ) -> Result<(), SockFault>
-    ensures { IfErr result (λ e. is_handshake e ≡ false) }
+    ensures wrote { OnOk result (Writes (λ meter. S.contents meter.stream) socket.old socket.new
+        (write_step socket.old.conn (text_content text.now))) }
+    ensures failed { IfErr result (λ e. (e ≢ Memory) → (cause : Cause)
+        × WriteFails (write_step socket.old.conn (text_content text.now)) cause
+        × (e ≡ of_stream cause)) }
+    ensures shaken { IfErr result (λ e. is_handshake e ≡ false) }
 {
     socket
         .write(Message::text(alloc, text)?)
@@ -150,14 +185,20 @@ pub fn write<S: Read + Write + Drop, M: MaskKeys + Drop>(
 pub fn flush<S: Read + Write + Drop, M: MaskKeys + Drop>(
     socket: &mut Socket<S, M>,
 ) -> Result<(), SockFault>
-    ensures { IfErr result (λ e. is_handshake e ≡ false) }
+    ensures sent { Flushed (λ meter. S.contents meter.stream) socket.old socket.new }
+    ensures empty { OnOk result (socket.new.output ≡ []) }
+    ensures failed { IfErr result (λ e. (cause : Cause) × IsIo cause × (e ≡ of_stream cause)) }
+    ensures shaken { IfErr result (λ e. is_handshake e ≡ false) }
 {
     socket.flush().map_err(stream_fault)
 }
 
 /// Closes the connection as RFC 6455, 7.1.1, has it: what the peer has still sent is read, so that
 /// it gets the close. Whatever fails then, the connection is over.
-pub fn close<S: Read + Write + Drop, M: MaskKeys + Drop>(socket: &mut Socket<S, M>) {
+pub fn close<S: Read + Write + Drop, M: MaskKeys + Drop>(socket: &mut Socket<S, M>)
+    ensures { Closes (λ meter. S.remaining meter.stream) (λ meter. S.contents meter.stream)
+        (Some (record { code = CloseCode.Normal; reason = [] })) socket.old socket.new }
+{
     let frame = CloseFrame {
         code: CloseCode::Normal,
         reason: Utf8Bytes::from_static(""),
