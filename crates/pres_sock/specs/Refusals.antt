@@ -1,5 +1,11 @@
--- What a refusal of the hub is answered with.
-use Rattle.std.specs.Prelude.{Option, Some, None}
+-- What a connection is answered where it is refused something.
+use Rattle.std.specs.Prelude.{◌≡◌, ◌⊎◌, ⊤, Bool, true, false, Option, Some, None, Result, Ok}
+use Rattle.pres_ids.specs.declared.id.SessionId.{SessionId}
+use Rattle.pres_wire.specs.declared.fault.WireFault.{WireFault}
+use Rattle.pres_wire.specs.declared.up.Up.{Up}
+use Rattle.pres_wire.specs.declared.up.Up.TheVariants as up
+use Rattle.pres_wire.specs.declared.down.Down.{Down}
+use Rattle.pres_wire.specs.declared.down.Down.TheVariants as down
 use Rattle.pres_wire.specs.declared.down.Code.{Code}
 use Rattle.pres_wire.specs.declared.down.Code.TheVariants as code
 use Rattle.pres_log.specs.Faults.{code_of as code_of_server}
@@ -13,3 +19,21 @@ code_of (hub.Refused e) = Some (code_of_server e)
 code_of (hub.Keeper e) = Some code.Busy
 code_of hub.Down = Some code.Down
 code_of e = None
+
+-- what answers a binary message of this session
+abbrev pub bad : SessionId → Option Down
+bad session = Some (down.Fault (Some session) code.Bad)
+
+-- what answers a text that is no message: the same, or that memory was refused
+abbrev pub AnswersBad : SessionId → Option Down → Type 0
+AnswersBad session answer = (answer ≡ bad session) ⊎ (answer ≡ Some (down.Fault (Some session) code.Busy))
+
+-- what was read is no Hello
+abbrev pub IsNoHello : Result Up WireFault → Type 0
+IsNoHello (Ok (up.Hello session)) = ⊥
+IsNoHello read = ⊤
+
+-- the connection ends behind it: before a session is open, what is no Hello ends it
+abbrev pub is_last : Down → Bool
+is_last (down.Fault None code.Bad) = true
+is_last message = false

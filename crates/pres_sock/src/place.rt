@@ -1,6 +1,8 @@
 //! A connection's place at its hub.
 
-ghost use Rattle.std.specs.Prelude.{◌≡◌, ◌≤◌, false, Some, None, IfOk, IfErr};
+ghost use Rattle.std.specs.Prelude.{◌≡◌, ◌≤◌, false, Some, None, Err, IfOk, IfErr};
+ghost use Rattle.pres_wire.specs.UpForms.{decoded};
+ghost use Rattle.pres_wire.specs.declared.fault.WireFault.{WireFault};
 ghost use Rattle.pres_wire.specs.declared.down.Down.TheVariants.{Fault};
 ghost use Rattle.pres_websocket.specs.Ends.{is_handshake};
 ghost use Rattle.pres_sock.specs.Refusals as refusal;
@@ -75,6 +77,8 @@ impl<L: Ledger> Place<L> {
         text: &str,
         now: Moment,
     ) -> Result<Option<Down>, SockFault>
+        ensures bad { (e : WireFault) → decoded text.now ≡ Err e
+            → IfOk result (refusal.AnswersBad self.old.seat.session) }
         ensures grows { self.old.seat.made ≤ self.new.seat.made }
         ensures err { IfErr result (λ e. is_handshake e ≡ false) }
     {

@@ -1,9 +1,18 @@
 //! The server's side of a connection.
 
-ghost use Rattle.std.specs.Prelude.{◌≡◌, ◌≤◌, true, false, None, Ok, IfOk, IfErr, IfSome};
+ghost use Rattle.std.specs.Prelude.{◌≡◌, ◌≤◌, ◌⊎◌, ℕ, List, true, false, None, Ok, Err, OnOk, IfOk, IfErr, IfSome};
+ghost use Rattle.serde_json.specs.Written.{compact_text};
+ghost use Rattle.tungstenite.specs.Connection.{write_step};
+ghost use Rattle.tungstenite.specs.Content.{text};
+ghost use Rattle.tungstenite.specs.Socket.{Writes};
+ghost use Rattle.pres_wire.specs.DownForms.{down_json};
 ghost use Rattle.pres_wire.specs.UpForms.{decoded};
+ghost use Rattle.pres_wire.specs.declared.down.Code.TheVariants.{Bad, Busy};
+ghost use Rattle.pres_wire.specs.declared.fault.WireFault.{WireFault};
 ghost use Rattle.pres_wire.specs.declared.up.Up.TheVariants.{Hello};
 ghost use Rattle.pres_websocket.specs.Ends.{is_handshake, fails_to_shake};
+ghost use Rattle.pres_websocket.specs.declared.socket.Came.TheVariants.{Binary, Text};
+ghost use Rattle.pres_sock.specs.Refusals.{bad, AnswersBad, IsNoHello, is_last};
 
 use crate::place::{Place, Visit, code_of, join, ring};
 use pres_hub::{Bell, Gate, Hub, Keeper, Parting};
@@ -267,14 +276,18 @@ fn put<S: Read + Write + Drop>(
     socket: &mut Socket<S, NoMask>,
     message: &Down,
 ) -> Result<(), SockFault>
-    ensures { IfErr result (λ e. is_handshake e ≡ false) }
+    ensures wrote { OnOk result (Writes (λ meter. S.contents meter.stream) socket.old socket.new
+        (write_step socket.old.conn (text (compact_text (down_json message.now))))) }
+    ensures err { IfErr result (λ e. is_handshake e ≡ false) }
 {
     let text = message.encode(alloc)?;
     write(alloc, socket, text.as_str())
 }
 
 // Whether the connection ends behind it: before a session is open, what is no Hello ends it.
-fn is_last(fault: &Down) -> bool {
+fn is_last(fault: &Down) -> bool
+    ensures { result ≡ is_last fault.now }
+{
     matches!(
         fault,
         Down::Fault {
@@ -286,7 +299,9 @@ fn is_last(fault: &Down) -> bool {
 
 // The session of a Hello, or the code that answers another text.
 fn hello_in(alloc: Global, text: &str) -> Result<SessionId, Code>
-    ensures { IfOk result (λ session. decoded text.now ≡ Ok (Hello session)) }
+    ensures hello { IfOk result (λ session. decoded text.now ≡ Ok (Hello session)) }
+    ensures bad { IfErr result (λ code. (code ≡ Busy)
+        ⊎ ((code ≡ Bad) × IsNoHello (decoded text.now))) }
 {
     match Up::decode(alloc, text) {
         Ok(Up::Hello { session }) => Ok(session),
@@ -428,6 +443,9 @@ fn answer_to<L: Ledger, K: Keeper + Drop, B: Bell + Clone + Drop, G: Gate, R: Wa
     came: Came,
     clock: &mut C,
 ) -> Result<Option<Down>, SockFault>
+    ensures binary { came ≡ Binary → IfOk result (λ answer. answer ≡ bad place.old.seat.session) }
+    ensures bad { (words : List ℕ) (e : WireFault) → came ≡ Text words → decoded words ≡ Err e
+        → IfOk result (AnswersBad place.old.seat.session) }
     ensures grows { place.old.seat.made ≤ place.new.seat.made }
     ensures err { IfErr result (λ e. is_handshake e ≡ false) }
 {
@@ -444,7 +462,10 @@ fn put_answer<S: Read + Write + Drop>(
     socket: &mut Socket<S, NoMask>,
     answer: Option<Down>,
 ) -> Result<(), SockFault>
-    ensures { IfErr result (λ e. is_handshake e ≡ false) }
+    ensures wrote { OnOk result (IfSome answer (λ message.
+        Writes (λ meter. S.contents meter.stream) socket.old socket.new
+        (write_step socket.old.conn (text (compact_text (down_json message)))))) }
+    ensures err { IfErr result (λ e. is_handshake e ≡ false) }
 {
     match answer {
         Some(answer) => put(alloc, socket, &answer),
