@@ -1,5 +1,5 @@
 -- What a connection is answered where it is refused something.
-use Rattle.std.specs.Prelude.{◌≡◌, ◌⊎◌, ⊤, Bool, true, false, Option, Some, None, Result, Ok}
+use Rattle.std.specs.Prelude.{◌≡◌, ◌⊎◌, ⊤, Bool, true, false, Option, Some, None, Result, Ok, Err}
 use Rattle.pres_ids.specs.declared.id.SessionId.{SessionId}
 use Rattle.pres_wire.specs.declared.fault.WireFault.{WireFault}
 use Rattle.pres_wire.specs.declared.up.Up.{Up}
@@ -32,6 +32,12 @@ AnswersBad session answer = (answer ≡ bad session) ⊎ (answer ≡ Some (down.
 abbrev pub IsNoHello : Result Up WireFault → Type 0
 IsNoHello (Ok (up.Hello session)) = ⊥
 IsNoHello read = ⊤
+
+-- a fault message that refuses what was asked for: it names the session, or has the code of what is no Hello
+abbrev pub IsRefusal : Result SessionId Code → Down → Type 0
+IsRefusal (Ok session) (down.Fault named code) = named ≡ Some session
+IsRefusal (Err bad) message = message ≡ down.Fault None bad
+IsRefusal asked message = ⊥
 
 -- the connection ends behind it: before a session is open, what is no Hello ends it
 abbrev pub is_last : Down → Bool

@@ -12,7 +12,7 @@ ghost use Rattle.pres_wire.specs.declared.fault.WireFault.{WireFault};
 ghost use Rattle.pres_wire.specs.declared.up.Up.TheVariants.{Hello};
 ghost use Rattle.pres_websocket.specs.Ends.{is_handshake, fails_to_shake};
 ghost use Rattle.pres_websocket.specs.declared.socket.Came.TheVariants.{Binary, Text};
-ghost use Rattle.pres_sock.specs.Refusals.{bad, AnswersBad, IsNoHello, is_last};
+ghost use Rattle.pres_sock.specs.Refusals.{bad, AnswersBad, IsNoHello, IsRefusal, is_last};
 
 use crate::place::{Place, Visit, code_of, join, ring};
 use pres_hub::{Bell, Gate, Hub, Keeper, Parting};
@@ -54,6 +54,13 @@ struct Served<L: Ledger, B, S> {
 impl<L: Ledger, B, S> Served<L, B, S> {
     fn goes_on(&self) -> bool {
         matches!(self.step, Ok(Step::GoOn))
+    }
+
+    // The connection is over for this fault.
+    fn stop(&mut self, fault: SockFault)
+        requires { is_handshake fault ≡ false }
+    {
+        self.step = Err(fault);
     }
 }
 
@@ -238,36 +245,85 @@ fn greet<
     ensures { IfOk result (λ found. IfSome found (λ place. 1 ≤ place.seat.made)) }
 {
     for _ in 0..u64::MAX {
-        let asked = match read(socket)? {
-            Came::Nothing => continue,
-            Came::Text(text) => hello_in(visit.alloc, text.as_str()),
-            Came::Binary => Err(Code::Bad),
+        let Some(asked) = next_asked(visit.alloc, socket)? else {
+            return Ok(None);
+        };
+        match admit(visit, asked, &mut bell, due, &mut *clock)? {
+            Ok(place) => return Ok(Some(place)),
+            Err(fault) => if refuse(visit.alloc, socket, fault)? {
+                return Ok(None);
+            },
+        }
+    }
+    Err(SockFault::Turns)
+}
+
+// The session that is asked for next, or the code of what is no Hello. None where the peer closes.
+fn next_asked<S: Read + Write + Drop>(
+    alloc: Global,
+    socket: &mut Socket<S, NoMask>,
+) -> Result<Option<Result<SessionId, Code>>, SockFault>
+    ensures { IfErr result (λ e. is_handshake e ≡ false) }
+{
+    for _ in 0..u64::MAX {
+        match read(socket)? {
+            Came::Nothing => {}
+            Came::Text(text) => return Ok(Some(hello_in(alloc, text.as_str()))),
+            Came::Binary => return Ok(Some(Err(Code::Bad))),
             Came::Close => {
                 flush(socket)?;
                 return Ok(None);
             }
-        };
-        let fault = match asked {
-            Ok(session) => match join(visit, &session, &mut bell, due, Moment::at(clock.now())) {
-                Ok(place) => return Ok(Some(place)),
-                Err(fault) => Down::Fault {
-                    session: Some(session),
-                    code: code_of(fault)?,
-                },
-            },
-            Err(code) => Down::Fault {
-                session: None,
-                code,
-            },
-        };
-        put(visit.alloc, socket, &fault)?;
-        flush(socket)?;
-        if is_last(&fault) {
-            close(socket);
-            return Ok(None);
         }
     }
     Err(SockFault::Turns)
+}
+
+// The place of the session that is asked for, or the fault message that refuses it.
+fn admit<L: Ledger, K: Keeper + Drop, B: Bell + Clone + Drop, G: Gate, R: Wait, C: Clock>(
+    visit: &Visit<'_, L, K, B, G, R>,
+    asked: Result<SessionId, Code>,
+    bell: &mut Option<B>,
+    due: &mut Vec<B>,
+    clock: &mut C,
+) -> Result<Result<Place<L>, Down>, SockFault>
+    ensures joined { IfOk result (λ found. IfOk found (λ place. place.seat.made ≡ 1)) }
+    ensures refused { IfOk result (λ found. IfErr found (IsRefusal asked)) }
+    ensures err { IfErr result (λ e. is_handshake e ≡ false) }
+{
+    match asked {
+        Ok(session) => match join(visit, &session, bell, due, Moment::at(clock.now())) {
+            Ok(place) => Ok(Ok(place)),
+            Err(fault) => Ok(Err(Down::Fault {
+                session: Some(session),
+                code: code_of(fault)?,
+            })),
+        },
+        Err(code) => Ok(Err(Down::Fault {
+            session: None,
+            code,
+        })),
+    }
+}
+
+// Sends the fault message, and closes the connection where it is the last.
+fn refuse<S: Read + Write + Drop>(
+    alloc: Global,
+    socket: &mut Socket<S, NoMask>,
+    fault: Down,
+) -> Result<bool, SockFault>
+    ensures last { IfOk result (λ ended. ended ≡ is_last fault) }
+    ensures err { IfErr result (λ e. is_handshake e ≡ false) }
+{
+    let ended = is_last(&fault);
+    let put = put(alloc, socket, &fault);
+    drop(fault);
+    put?;
+    flush(socket)?;
+    if ended {
+        close(socket);
+    }
+    Ok(ended)
 }
 
 // Puts the message into what is to be sent.
@@ -335,10 +391,10 @@ fn serve<
                     clock: &mut *clock,
                 },
             ),
-            Err(fault) => served.step = Err(fault),
+            Err(fault) => served.stop(fault),
         }
     }
-    served.step = Err(SockFault::Turns);
+    served.stop(SockFault::Turns);
 }
 
 // The work for a connection that rested: what came is answered, and what comes behind it.
@@ -399,10 +455,10 @@ fn turns<
                 };
                 served.turn(visit, came, &mut *clock);
             }
-            Err(fault) => served.step = Err(fault),
+            Err(fault) => served.stop(fault),
         }
     }
-    served.step = Err(SockFault::Turns);
+    served.stop(SockFault::Turns);
 }
 
 // What this read is answered with, and what waits for the session.
@@ -484,14 +540,32 @@ fn send_all<L: Ledger, S: Read + Write + Drop>(
 {
     let mut step = Step::GoOn;
     'messages: for _ in 0..BURST {
-        let Some(message) = place.take() else {
+        let Some(is_gone) = put_next(alloc, socket, place)? else {
             break;
         };
-        put(alloc, socket, &message)?;
-        if matches!(message, Down::Gone { .. }) {
+        if is_gone {
             step = Step::Close;
         }
     }
     flush(socket)?;
     Ok(step)
+}
+
+// Puts the next message into what is to be sent, where there is one, and says whether it is Gone.
+fn put_next<L: Ledger, S: Read + Write + Drop>(
+    alloc: Global,
+    socket: &mut Socket<S, NoMask>,
+    place: &mut Place<L>,
+) -> Result<Option<bool>, SockFault>
+    ensures seat { place.new.seat ≡ place.old.seat }
+    ensures err { IfErr result (λ e. is_handshake e ≡ false) }
+{
+    let Some(message) = place.take() else {
+        return Ok(None);
+    };
+    let is_gone = matches!(message, Down::Gone { .. });
+    let put = put(alloc, socket, &message);
+    drop(message);
+    put?;
+    Ok(Some(is_gone))
 }
