@@ -99,8 +99,8 @@ class Server:
 class Client:
     """A connection with a session: a JSON message in each text. What it can't do is a ConnectionError."""
 
-    def __init__(self, port, session):
-        self.socket = socket.create_connection(("127.0.0.1", port), PATIENCE)
+    def __init__(self, port, session, patience=PATIENCE):
+        self.socket = socket.create_connection(("127.0.0.1", port), patience)
         self.socket.setsockopt(socket.IPPROTO_TCP, socket.TCP_NODELAY, 1)
         self.file = self.socket.makefile("rb")
         self.session, self.q = session, 0
