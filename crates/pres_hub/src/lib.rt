@@ -8,5 +8,5 @@ mod locked;
 pub use center::{Core, Said};
 pub use gate::{Gate, OpenGate};
 pub use locked::Hub;
-pub use pres_exchange::{Bell, Keeper, MemKeeper, NoBell, Outbox};
+pub use pres_exchange::{Bell, Keeper, MemKeeper, Moment, NoBell, Outbox, SessionId, Up, Why};
 pub use pres_seats::{HubFault, Parting, Report, Seat};

@@ -10,5 +10,7 @@ mod wakeable;
 
 pub use alarm::StreamBell;
 pub use crowd::Crowd;
+pub use pres_hub::{Core, Hub, HubFault, Keeper, Moment, OpenGate};
+pub use pres_sock::Clock;
 pub use serve::{WallClock, serve_connections};
 pub use wakeable::Wakeable;

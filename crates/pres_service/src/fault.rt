@@ -3,8 +3,8 @@
 ghost use Rattle.std.specs.Prelude.{◌≡◌};
 ghost use Rattle.pres_service.specs.Faults.{status_of};
 
-use pres_hub::HubFault;
-use pres_keeper::SavedFault;
+use pres_net::HubFault;
+use pres_saved::SavedFault;
 use pres_websocket::SockFault;
 use std::alloc::{AllocError, AllocFailed};
 use thiserror::Error;

@@ -8,10 +8,8 @@ ghost use Rattle.pres_service.specs.Outputs.{listening_line, number_line};
 use crate::fault::ServiceFault;
 use pres_engine::{Premise, Supposed};
 use pres_file::{Opened, keeper_in};
-use pres_hub::{Core, Hub, Keeper, OpenGate};
-use pres_net::{StreamBell, WallClock, serve_connections};
+use pres_net::{Core, Hub, Keeper, Moment, OpenGate, StreamBell, WallClock, serve_connections};
 use pres_saved::SqlKeeper;
-use pres_server::Moment;
 use sqlite::Alter;
 use std::alloc::Global;
 use std::io::Write;
@@ -142,7 +140,7 @@ where
     ensures silent { IfErr result (λ e. e ≢ fault.Input → output.new ≡ output.old) }
 {
     let start = Instant::now(rt).ok();
-    let now = Moment::at(pres_sock::Clock::now(&mut WallClock::new(rt)));
+    let now = Moment::at(pres_net::Clock::now(&mut WallClock::new(rt)));
     let core = match Core::<L, K, StreamBell>::start(alloc, blank, keeper, now) {
         Ok(core) => core,
         Err((fault, keeper)) => {

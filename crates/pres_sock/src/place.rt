@@ -7,8 +7,9 @@ ghost use Rattle.pres_wire.specs.declared.down.Down.TheVariants.{Fault};
 ghost use Rattle.pres_websocket.specs.Ends.{is_handshake};
 ghost use Rattle.pres_sock.specs.Refusals as refusal;
 
-use pres_hub::{Bell, Gate, Hub, HubFault, Keeper, Outbox, Parting, Seat};
-use pres_server::{Moment, SessionId, Up, Why};
+use pres_hub::{
+    Bell, Gate, Hub, HubFault, Keeper, Moment, Outbox, Parting, Seat, SessionId, Up, Why,
+};
 use pres_websocket::SockFault;
 use pres_wire::{Code, Down, WireFault};
 use std::alloc::Global;

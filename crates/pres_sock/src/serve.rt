@@ -15,8 +15,7 @@ ghost use Rattle.pres_websocket.specs.declared.socket.Came.TheVariants.{Binary, 
 ghost use Rattle.pres_sock.specs.Refusals.{bad, AnswersBad, IsNoHello, IsRefusal, is_last};
 
 use crate::place::{Place, Visit, code_of, join, ring};
-use pres_hub::{Bell, Gate, Hub, Keeper, Parting};
-use pres_server::{Moment, SessionId, Up};
+use pres_hub::{Bell, Gate, Hub, Keeper, Moment, Parting, SessionId, Up};
 use pres_websocket::{Came, SockFault, Socket, accept, close, flush, read, write};
 use pres_wire::{Code, Down, WireFault};
 use std::alloc::Global;

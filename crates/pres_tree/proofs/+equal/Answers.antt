@@ -11,6 +11,7 @@ use Rattle.pres_tree.proofs.Found.{HasChildren}
 use Rattle.pres_tree.proofs.Nodes.{at_object, leaf_is, no_leaf, tallest, tallest-le-height, tallest-middle, tallest-rest}
 use Rattle.pres_tree.proofs.SameChildren.{no_object, same_lookup}
 use Rattle.pres_tree.proofs.+equal.Goals as goal
+use Rattle.std.proofs.lemmas.Grind.{common_steps}
 
 pub equal::equal_children-equal-requires : goal.equal::equal_children-equal-requires
 equal::equal_children-equal-requires g t c κs within = (omega (arith, c.decreases, c.loop-key.invariant.1, ap tallest c.in-Some.ensures.steps, tallest-middle [] (c.in-Some.key.now, c.in-Some.child.now) c.next.new.self), within)
@@ -52,3 +53,15 @@ nested::Nested::equal-returns-in_default-node g t c = (
   λ h. absurd (false≢true h),
   λ e. absurd (no_object {n = c.self.inside.node} c.other.inside.node c.args.self.now c.args.other.now c.in-Object.children c.self.invariant c.self.view_is c.other.view_is c.in-Object.is c.in_default-node.not-Object e),
 )
+
+pub nested::Nested::equal-returns-in-Leaf-node : goal.nested::Nested::equal-returns-in-Leaf-node
+nested::Nested::equal-returns-in-Leaf-node g t c = grind (arith, common_steps)
+
+pub equal::equal_children-returns : goal.equal::equal_children-returns
+equal::equal_children-returns g t c = grind (arith, common_steps)
+
+pub equal::equal_children-returns-in_default : goal.equal::equal_children-returns-in_default
+equal::equal_children-returns-in_default g t c = grind (arith, common_steps)
+
+pub nested::Nested::equal-returns-in-Empty : goal.nested::Nested::equal-returns-in-Empty
+nested::Nested::equal-returns-in-Empty g t c = grind (arith, common_steps)

@@ -15,6 +15,7 @@ use Rattle.pres_tree.specs.Printing.{json_of, members_of, MembersReadBack}
 use Rattle.pres_tree.proofs.Nodes.{at_object, tallest, tallest-le-height, tallest-middle}
 use Rattle.pres_tree.proofs.Printing.{leaf_printed, json-object, Printed, printed-none, printed-more, printed-json, printed-reads_back, texts, text_end, texts_rise}
 use Rattle.pres_tree.proofs.+print.Goals as goal
+use Rattle.std.proofs.lemmas.Grind.{common_steps}
 
 pub nested::Nested::to_value-printed-requires : goal.nested::Nested::to_value-printed-requires
 nested::Nested::to_value-printed-requires g t c κs within =
@@ -103,3 +104,27 @@ print::printed-to_value-requires g t c κs within =
     let left = c.next.new.self in
     let all : c.args.children.now.entries ≡ done ++ e ∷ left = l.invariant.1 ∙ ap (λ es. done ++ es) c.in-Some.ensures.steps in
     (omega (arith, c.decreases, tallest-middle done e left, ap tallest all), within)
+
+pub print::printed-returns-in_err-insert-clause-json : goal.print::printed-returns-in_err-insert-clause-json
+print::printed-returns-in_err-insert-clause-json g t c = grind (arith, common_steps)
+
+pub print::printed-returns-in_err-insert-clause-reads_back : goal.print::printed-returns-in_err-insert-clause-reads_back
+print::printed-returns-in_err-insert-clause-reads_back g t c = grind (arith, common_steps)
+
+pub print::printed-loop-key-preserved-derived : goal.print::printed-loop-key-preserved-derived
+print::printed-loop-key-preserved-derived g t c = grind (arith, common_steps)
+
+pub print::printed-returns-in_err-name-clause-json : goal.print::printed-returns-in_err-name-clause-json
+print::printed-returns-in_err-name-clause-json g t c = grind (arith, common_steps)
+
+pub print::printed-loop-key-init-derived : goal.print::printed-loop-key-init-derived
+print::printed-loop-key-init-derived g t c = grind (arith, common_steps)
+
+pub print::printed-returns-in_err-to_value-clause-json : goal.print::printed-returns-in_err-to_value-clause-json
+print::printed-returns-in_err-to_value-clause-json g t c = grind (arith, common_steps)
+
+pub print::printed-returns-in_err-name-clause-reads_back : goal.print::printed-returns-in_err-name-clause-reads_back
+print::printed-returns-in_err-name-clause-reads_back g t c = grind (arith, common_steps)
+
+pub print::printed-returns-in_err-to_value-clause-reads_back : goal.print::printed-returns-in_err-to_value-clause-reads_back
+print::printed-returns-in_err-to_value-clause-reads_back g t c = grind (arith, common_steps)

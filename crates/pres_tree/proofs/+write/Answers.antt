@@ -11,6 +11,7 @@ use Rattle.pres_tree.proofs.Printing.{json-object, leaf_written, on_ok, on_any, 
 use Rattle.pres_tree.proofs.Plain.{ArePlain, plain_members}
 use Rattle.pres_tree.proofs.Written.{object_written}
 use Rattle.pres_tree.proofs.+write.Goals as goal
+use Rattle.std.proofs.lemmas.Grind.{common_steps}
 
 pub nested::Nested::write-write_members-requires :
     goal.nested::Nested::write-write_members-requires
@@ -106,3 +107,33 @@ print::write_members-loop-key-init g t c =
       ([], sym same, written-none g.L.Leaf.printing g.L.Form.reading),
       c.iter-key-items.ensures.ordered,
     )
+
+pub print::write_members-returns-in_err-write-clause-ok : goal.print::write_members-returns-in_err-write-clause-ok
+print::write_members-returns-in_err-write-clause-ok g t c = grind (arith, common_steps)
+
+pub print::write_members-returns-in_err-key-clause-plain : goal.print::write_members-returns-in_err-key-clause-plain
+print::write_members-returns-in_err-key-clause-plain g t c = grind (arith, common_steps)
+
+pub print::write_members-returns-in_err-write-clause-plain : goal.print::write_members-returns-in_err-write-clause-plain
+print::write_members-returns-in_err-write-clause-plain g t c = grind (arith, common_steps)
+
+pub print::write_members-returns-clause-before : goal.print::write_members-returns-clause-before
+print::write_members-returns-clause-before g t c = grind (arith, common_steps)
+
+pub print::write_members-returns-in_err-key-clause-reads_back : goal.print::write_members-returns-in_err-key-clause-reads_back
+print::write_members-returns-in_err-key-clause-reads_back g t c = grind (arith, common_steps)
+
+pub print::write_members-returns-clause-ok : goal.print::write_members-returns-clause-ok
+print::write_members-returns-clause-ok g t c = grind (arith, common_steps)
+
+pub print::write_members-returns-in_err-key-clause-before : goal.print::write_members-returns-in_err-key-clause-before
+print::write_members-returns-in_err-key-clause-before g t c = grind (arith, common_steps)
+
+pub print::write_members-returns-in_err-key-clause-ok : goal.print::write_members-returns-in_err-key-clause-ok
+print::write_members-returns-in_err-key-clause-ok g t c = grind (arith, common_steps)
+
+pub print::write_members-returns-in_err-write-clause-before : goal.print::write_members-returns-in_err-write-clause-before
+print::write_members-returns-in_err-write-clause-before g t c = grind (arith, common_steps)
+
+pub print::write_members-returns-in_err-write-clause-reads_back : goal.print::write_members-returns-in_err-write-clause-reads_back
+print::write_members-returns-in_err-write-clause-reads_back g t c = grind (arith, common_steps)

@@ -5,6 +5,7 @@ use Rattle.pres_apply.specs.Lines.{end_state}
 use Rattle.pres_apply.specs.Replies.{reply, next, tree_line}
 use Rattle.pres_apply.proofs.Going.{going_starts, going_more, going_ends, status_ends, reached_past, reached_kept, stopped_none, stopped_ends, stopped_midway, never_read, never_endless, spent_at}
 use Rattle.pres_apply.proofs.apply.apply_run.Goals as goal
+use Rattle.std.proofs.lemmas.Grind.{common_steps}
 
 pub reads-init : goal.reads-init
 reads-init g c = record {
@@ -115,3 +116,60 @@ returns-in_err-fed-clause-memory g c = λ _.
     (take c.in-Ok.count c.read.new.buf) c.feed-fed.new.out.items c.reads._turn c.reads.invariant.going c.in-Ok.ensures.bytes.0 few
     (λ line f h. let r = fed line f h in (r.0, r.1 ∙ ap (λ x. x ++ r.0) said, r.2))
     put
+
+pub returns-in_err-put-clause-read : goal.returns-in_err-put-clause-read
+returns-in_err-put-clause-read g c = grind (arith, common_steps)
+
+pub returns-in_err-put-2-clause-endless : goal.returns-in_err-put-2-clause-endless
+returns-in_err-put-2-clause-endless g c = grind (arith, common_steps)
+
+pub returns-in_err-fed-clause-unspent : goal.returns-in_err-fed-clause-unspent
+returns-in_err-fed-clause-unspent g c = grind (arith, common_steps)
+
+pub returns-then-count-eq0-clause-unspent : goal.returns-then-count-eq0-clause-unspent
+returns-then-count-eq0-clause-unspent g c = grind (arith, common_steps)
+
+pub returns-in_err-put-clause-memory : goal.returns-in_err-put-clause-memory
+returns-in_err-put-clause-memory g c = grind (arith, common_steps)
+
+pub returns-in_default-clause-memory : goal.returns-in_default-clause-memory
+returns-in_default-clause-memory g c = grind (arith, common_steps)
+
+pub returns-in_err-put-clause-endless : goal.returns-in_err-put-clause-endless
+returns-in_err-put-clause-endless g c = grind (arith, common_steps)
+
+pub returns-then-count-eq0-clause-endless : goal.returns-then-count-eq0-clause-endless
+returns-then-count-eq0-clause-endless g c = grind (arith, common_steps)
+
+pub returns-clause-memory : goal.returns-clause-memory
+returns-clause-memory g c = grind (arith, common_steps)
+
+pub returns-in_default-clause-unspent : goal.returns-in_default-clause-unspent
+returns-in_default-clause-unspent g c = grind (arith, common_steps)
+
+pub returns-then-count-eq0-clause-read : goal.returns-then-count-eq0-clause-read
+returns-then-count-eq0-clause-read g c = grind (arith, common_steps)
+
+pub returns-in_default-clause-endless : goal.returns-in_default-clause-endless
+returns-in_default-clause-endless g c = grind (arith, common_steps)
+
+pub returns-in_err-fed-clause-endless : goal.returns-in_err-fed-clause-endless
+returns-in_err-fed-clause-endless g c = grind (arith, common_steps)
+
+pub returns-clause-unspent : goal.returns-clause-unspent
+returns-clause-unspent g c = grind (arith, common_steps)
+
+pub returns-then-count-eq0-clause-memory : goal.returns-then-count-eq0-clause-memory
+returns-then-count-eq0-clause-memory g c = grind (arith, common_steps)
+
+pub returns-in_err-put-2-clause-memory : goal.returns-in_err-put-2-clause-memory
+returns-in_err-put-2-clause-memory g c = grind (arith, common_steps)
+
+pub returns-in_err-put-2-clause-read : goal.returns-in_err-put-2-clause-read
+returns-in_err-put-2-clause-read g c = grind (arith, common_steps)
+
+pub returns-in_err-fed-clause-read : goal.returns-in_err-fed-clause-read
+returns-in_err-fed-clause-read g c = grind (arith, common_steps)
+
+pub returns-clause-read : goal.returns-clause-read
+returns-clause-read g c = grind (arith, common_steps)

@@ -10,6 +10,8 @@ use Rattle.pres_write.specs.declared.outcome.Outcome.TheVariants as outcome
 use Rattle.pres_body.specs.Entries.{outcome_json}
 use Rattle.pres_body.proofs.Joined.{four}
 use Rattle.pres_body.proofs.set.set_head.Goals as goal
+use Rattle.std.proofs.Common.{arith}
+use Rattle.std.proofs.lemmas.Grind.{common_steps}
 
 pub returns-clause-ok : goal.returns-clause-ok
 returns-clause-ok c =
@@ -17,3 +19,9 @@ returns-clause-ok c =
     (key (codes "e") ∷ string (codes "op") ∷ []) (key (codes "n") ∷ tokens_of (whole c.args.n)) (key (codes "op") ∷ tokens_of (op_json (op.Set c.args.placement.now)))
     (key (codes "out") ∷ tokens_of (outcome_json (outcome.Wrote (c.args.write.now ∷ []))))
     c.in_ok-text_field.ensures.ok c.in_ok-number_field.ensures.ok c.in_ok-op_field.ensures.ok) c.out_field.ensures.ok
+
+pub returns-clause-plain : goal.returns-clause-plain
+returns-clause-plain c = grind (arith, common_steps)
+
+pub returns-clause-op : goal.returns-clause-op
+returns-clause-op c = grind (arith, common_steps)

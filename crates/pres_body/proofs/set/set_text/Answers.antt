@@ -13,6 +13,7 @@ use Rattle.pres_log.specs.declared.entry.Entry.TheVariants as entry
 use Rattle.pres_body.specs.Entries.{outcome_json, entries_json}
 use Rattle.pres_body.proofs.Joined.{four, set_parts}
 use Rattle.pres_body.proofs.set.set_text.Goals as goal
+use Rattle.std.proofs.lemmas.Grind.{common_steps}
 
 pub returns-clause-text : goal.returns-clause-text
 returns-clause-text c =
@@ -41,3 +42,9 @@ returns-clause-reads_back c =
     let low : depth d ≤ max_depth = omega (arith, op_low (op.Set c.args.placement.now) c.in_ok-set_head.ensures.op, c.in_ok-set_head.ensures.low) in
     let plain : IsPlain d = search rules in
     c.text_of.ensures.reads_back d written low plain
+
+pub text_of-requires : goal.text_of-requires
+text_of-requires c = grind (arith, common_steps)
+
+pub returns-clause-form : goal.returns-clause-form
+returns-clause-form c = grind (arith, common_steps)

@@ -6,6 +6,8 @@ use Rattle.pres_server.specs.Invariants.{MayTakeAll}
 use Rattle.pres_server.proofs.Heard.{tells_after, tells_carried}
 use Rattle.pres_server.proofs.Taken.{first_carried, rest_taken, first_added}
 use Rattle.pres_server.proofs.index.+take_all.Goals as goal
+use Rattle.std.proofs.Common.{arith}
+use Rattle.std.proofs.lemmas.Grind.{common_steps}
 
 pub take-requires : goal.take-requires
 take-requires t c = first_carried c.requires.0 c.args.made.number c.args.made.moment c.args.entries.now c.in-Some.first.now c.in-Some.rest.now c.args.index.now c.in-Some.ensures.cases.0 c.requires.1
@@ -58,3 +60,12 @@ returns-clause-answers t c = λ es f.
     ∙ append_assoc c.args.outs.now.items (answers_to es first) (answers (es ++ first ∷ []) rest)
     ∙ ap (λ l. c.args.outs.now.items ++ answers es l) (sym k))
     (c.take_all.ensures.answers (es ++ first ∷ []) g)
+
+pub returns-in_default-clause-heard : goal.returns-in_default-clause-heard
+returns-in_default-clause-heard t c = grind (arith, common_steps)
+
+pub returns-in_default-clause-answers : goal.returns-in_default-clause-answers
+returns-in_default-clause-answers t c = grind (arith, common_steps)
+
+pub returns-in_default-clause-indexed : goal.returns-in_default-clause-indexed
+returns-in_default-clause-indexed t c = grind (arith, common_steps)

@@ -2,6 +2,8 @@ use Rattle.std.proofs.Common.{◌∙◌, ap, sym, subst, ◌++◌}
 use Rattle.pres_server.specs.Pushes.{standing, after_pushes, pushes, MayPushAll}
 use Rattle.pres_server.proofs.Pushed.{stands_after, pushed_next}
 use Rattle.pres_server.proofs.push.push_all.Goals as goal
+use Rattle.std.proofs.Common.{arith}
+use Rattle.std.proofs.lemmas.Grind.{common_steps}
 
 pub loop-reached-preserved : goal.loop-reached-preserved
 loop-reached-preserved c =
@@ -20,3 +22,12 @@ loop-reached-preserved c =
           ∙ sym (ap (λ l. c.loop-reached.outs.items ++ pushes z tree (standing old) l) k)
           ∙ before.3,
     )
+
+pub push-requires : goal.push-requires
+push-requires c = grind (arith, common_steps)
+
+pub returns-clause-messages : goal.returns-clause-messages
+returns-clause-messages c = grind (arith, common_steps)
+
+pub returns-clause-live : goal.returns-clause-live
+returns-clause-live c = grind (arith, common_steps)

@@ -4,6 +4,7 @@ use Rattle.sqlite.specs.Held.{state}
 use Rattle.sqlite.specs.State.{HasCleanDisk}
 use Rattle.pres_table.proofs.Finding.{any_ok, both_ok, ours_same, left_after, found_after}
 use Rattle.pres_table.proofs.format.find.Goals as goal
+use Rattle.std.proofs.lemmas.Grind.{common_steps}
 
 pub returns-in_err-check_format-clause-err : goal.returns-in_err-check_format-clause-err
 returns-in_err-check_format-clause-err g c clean =
@@ -34,3 +35,6 @@ returns-clause-left g c clean ours alone =
     let early : HasCleanDisk mid = omega (arith, c.last_number.ensures.clean, clean) in
     let first = c.in_ok-check_format.ensures.same early ours in
     left_after old mid new first (c.last_number.ensures.left clean (ours_same old mid ours first) (first.0.mode ∙ alone))
+
+pub returns-clause-err : goal.returns-clause-err
+returns-clause-err g c = grind (arith, common_steps)

@@ -7,6 +7,7 @@ use Rattle.pres_table.proofs.Inserting.{left_by}
 use Rattle.pres_table.proofs.Progress.{query_fails}
 use Rattle.pres_table.proofs.Finding.{Counting, counting_begins, counting_more, counted}
 use Rattle.pres_table.proofs.format.last_number.Goals as goal
+use Rattle.std.proofs.lemmas.Grind.{common_steps}
 
 pub returns-in_err-rows-clause-left : goal.returns-in_err-rows-clause-left
 returns-in_err-rows-clause-left g c clean ours alone =
@@ -63,3 +64,42 @@ returns-in_default-clause-same g c clean ours =
     let progress = c.rows.invariant.4 (omega (arith, moved.survives.clean, late)) ours in
     let stays = rw c.in_ok-row.was at (moved.same late) in
     subst (λ h. IsUnchanged old (state g.S.Store h)) same (unchanged_then old (state g.S.Store c.rows.rows.conn.now) (state g.S.Store now) progress.same stays)
+
+pub returns-in_err-row-clause-left : goal.returns-in_err-row-clause-left
+returns-in_err-row-clause-left g c = grind (arith, common_steps)
+
+pub returns-clause-left : goal.returns-clause-left
+returns-clause-left g c = grind (arith, common_steps)
+
+pub returns-clause-mode : goal.returns-clause-mode
+returns-clause-mode g c = grind (arith, common_steps)
+
+pub returns-in_err-rows-clause-named : goal.returns-in_err-rows-clause-named
+returns-in_err-rows-clause-named g c = grind (arith, common_steps)
+
+pub returns-in_err-number_in-clause-left : goal.returns-in_err-number_in-clause-left
+returns-in_err-number_in-clause-left g c = grind (arith, common_steps)
+
+pub returns-in_default-clause-mode : goal.returns-in_default-clause-mode
+returns-in_default-clause-mode g c = grind (arith, common_steps)
+
+pub returns-in_err-number_in-clause-clean : goal.returns-in_err-number_in-clause-clean
+returns-in_err-number_in-clause-clean g c = grind (arith, common_steps)
+
+pub returns-in_default-clause-clean : goal.returns-in_default-clause-clean
+returns-in_default-clause-clean g c = grind (arith, common_steps)
+
+pub returns-clause-named : goal.returns-clause-named
+returns-clause-named g c = grind (arith, common_steps)
+
+pub returns-clause-clean : goal.returns-clause-clean
+returns-clause-clean g c = grind (arith, common_steps)
+
+pub returns-in_err-number_in-clause-mode : goal.returns-in_err-number_in-clause-mode
+returns-in_err-number_in-clause-mode g c = grind (arith, common_steps)
+
+pub returns-in_err-row-clause-named : goal.returns-in_err-row-clause-named
+returns-in_err-row-clause-named g c = grind (arith, common_steps)
+
+pub returns-in_default-clause-left : goal.returns-in_default-clause-left
+returns-in_default-clause-left g c = grind (arith, common_steps)

@@ -7,6 +7,7 @@ use Rattle.pres_table.specs.Saved.{Saved}
 use Rattle.pres_table.proofs.Inserting.{commits, fails, left_by, survives, params_for}
 use Rattle.pres_table.proofs.Statements.{insert_text}
 use Rattle.pres_table.proofs.insert.insert.Goals as goal
+use Rattle.std.proofs.lemmas.Grind.{common_steps}
 
 pub returns-clause-ok : goal.returns-clause-ok
 returns-clause-ok g c clean awaits =
@@ -47,3 +48,6 @@ returns-clause-crash g c awaits =
     let et : c.as_bytes-text.result.now ≡ c.args.body.now = search rules in
     let b : Saved = record { moment = c.args.moment; body = c.args.body.now } in
     survives (state g.S.Store c.args.connection.now) (state g.S.Store c.execute.new.self) c.args.number b awaits (rw (ek, em, et) at c.execute.ensures.survives)
+
+pub returns-in_err-execute-clause-named : goal.returns-in_err-execute-clause-named
+returns-in_err-execute-clause-named g c = grind (arith, common_steps)

@@ -10,6 +10,7 @@ use Rattle.sqlite.specs.State.{HasCleanDisk, Survives}
 use Rattle.pres_table.specs.Made.{IsMade, HoldsFormat, Makes, FailsToMake}
 use Rattle.pres_table.proofs.Making.{creates_meta, creates_batch, adds_format, err_weaker}
 use Rattle.pres_table.proofs.make.make.Goals as goal
+use Rattle.std.proofs.lemmas.Grind.{common_steps}
 
 pub returns-clause-ok : goal.returns-clause-ok
 returns-clause-ok g c clean has =
@@ -142,3 +143,33 @@ returns-clause-crash g c has =
     (λ clean db is. subst HoldsFormat (sym is) (holds (omega (arith, c.commit.ensures.survives.clean, clean))))
     (survives_begin g.S.Store old (state g.S.Store third) _ (rw begun at inside)) c.commit.ensures.survives in
     subst (λ h. Survives (state g.S.Store old) (state g.S.Store h) HoldsFormat) same whole
+
+pub returns-in_err-execute-clause-crash : goal.returns-in_err-execute-clause-crash
+returns-in_err-execute-clause-crash g c = grind (arith, common_steps)
+
+pub returns-clause-mode : goal.returns-clause-mode
+returns-clause-mode g c = grind (arith, common_steps)
+
+pub returns-in_err-execute-3-clause-mode : goal.returns-in_err-execute-3-clause-mode
+returns-in_err-execute-3-clause-mode g c = grind (arith, common_steps)
+
+pub returns-in_err-execute-3-clause-crash : goal.returns-in_err-execute-3-clause-crash
+returns-in_err-execute-3-clause-crash g c = grind arith
+
+pub returns-in_err-execute-2-clause-err : goal.returns-in_err-execute-2-clause-err
+returns-in_err-execute-2-clause-err g c = grind (arith, common_steps)
+
+pub returns-in_err-execute-2-clause-crash : goal.returns-in_err-execute-2-clause-crash
+returns-in_err-execute-2-clause-crash g c = grind (arith, common_steps)
+
+pub returns-in_err-execute-clause-err : goal.returns-in_err-execute-clause-err
+returns-in_err-execute-clause-err g c = grind (arith, common_steps)
+
+pub returns-clause-err : goal.returns-clause-err
+returns-clause-err g c = grind (arith, common_steps)
+
+pub returns-in_err-execute-3-clause-err : goal.returns-in_err-execute-3-clause-err
+returns-in_err-execute-3-clause-err g c = grind (arith, common_steps)
+
+pub returns-in_err-execute-2-clause-mode : goal.returns-in_err-execute-2-clause-mode
+returns-in_err-execute-2-clause-mode g c = grind (arith, common_steps)

@@ -11,6 +11,7 @@ use Rattle.pres_table.proofs.Statements.{select_text}
 use Rattle.pres_table.proofs.Inserting.{left_by}
 use Rattle.pres_table.proofs.Progress.{WhileShut, commits_nothing, open_if_begun, query_fails, progress_begins, nothing_more, first_clean, at_end, at_stop, at_bad_row, at_refusal, at_next, left_at, still}
 use Rattle.pres_table.proofs.take.go_over.Goals as goal
+use Rattle.std.proofs.lemmas.Grind.{common_steps}
 
 -- ---- the query is refused
 
@@ -318,3 +319,6 @@ returns-clause-crash g c k awaits =
     let end = c.connection-2-1.given.0 in
     let same : held ≡ end = search rules in
     subst (λ h. Survives (state g.S.Store old) (state g.S.Store h) (WhileShut (state g.S.Store old))) same (c.rows.invariant.1 k awaits)
+
+pub returns-in_err-rows-clause-goes : goal.returns-in_err-rows-clause-goes
+returns-in_err-rows-clause-goes g c = grind (arith, common_steps)

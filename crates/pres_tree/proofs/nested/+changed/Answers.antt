@@ -10,6 +10,7 @@ use Rattle.pres_tree.specs.Falls.{height-sorted_by}
 use Rattle.pres_tree.proofs.Changed.{changed_object, changed_children, changed_length, changed_keys, children_with-append}
 use Rattle.pres_tree.proofs.Nodes.{at_object, insert_last, tallest, tallest-le-height, tallest-middle}
 use Rattle.pres_tree.proofs.nested.+changed.Goals as goal
+use Rattle.std.proofs.lemmas.Grind.{common_steps}
 
 pub Nested::changed-changed_children-requires : goal.Nested::changed-changed_children-requires
 Nested::changed-changed_children-requires g t c κs within =
@@ -58,3 +59,42 @@ changed_children-changed-requires g t c κs within =
     let left = c.next.new.self in
     let all : c.args.children.now.entries ≡ done ++ e ∷ left = l.invariant.1 ∙ ap (λ es. done ++ es) c.in-Some.ensures.steps in
     (omega (arith, c.decreases, tallest-middle done e left, ap tallest all), within)
+
+pub changed_children-loop-key-preserved-derived : goal.changed_children-loop-key-preserved-derived
+changed_children-loop-key-preserved-derived g t c = grind (arith, common_steps)
+
+pub changed_children-loop-key-init : goal.changed_children-loop-key-init
+changed_children-loop-key-init g t c = grind (arith, common_steps)
+
+pub changed_children-returns-in_err-insert-clause-entries : goal.changed_children-returns-in_err-insert-clause-entries
+changed_children-returns-in_err-insert-clause-entries g t c = grind (arith, common_steps)
+
+pub Nested::changed-returns-in_ok-change-in-Leaf : goal.Nested::changed-returns-in_ok-change-in-Leaf
+Nested::changed-returns-in_ok-change-in-Leaf g t c = grind (arith, common_steps)
+
+pub Nested::changed-returns-in-Empty : goal.Nested::changed-returns-in-Empty
+Nested::changed-returns-in-Empty g t c = grind (arith, common_steps)
+
+pub changed_children-returns-clause-entries : goal.changed_children-returns-clause-entries
+changed_children-returns-clause-entries g t c = grind (arith, common_steps)
+
+pub changed_children-returns-clause-ordered : goal.changed_children-returns-clause-ordered
+changed_children-returns-clause-ordered g t c = grind (arith, common_steps)
+
+pub changed_children-same-insert : goal.changed_children-same-insert
+changed_children-same-insert g t c = grind (arith, common_steps)
+
+pub changed_children-returns-in_err-insert-clause-ordered : goal.changed_children-returns-in_err-insert-clause-ordered
+changed_children-returns-in_err-insert-clause-ordered g t c = grind (arith, common_steps)
+
+pub changed_children-returns-in_err-name-clause-entries : goal.changed_children-returns-in_err-name-clause-entries
+changed_children-returns-in_err-name-clause-entries g t c = grind (arith, common_steps)
+
+pub changed_children-returns-in_err-changed-clause-ordered : goal.changed_children-returns-in_err-changed-clause-ordered
+changed_children-returns-in_err-changed-clause-ordered g t c = grind (arith, common_steps)
+
+pub changed_children-returns-in_err-name-clause-ordered : goal.changed_children-returns-in_err-name-clause-ordered
+changed_children-returns-in_err-name-clause-ordered g t c = grind (arith, common_steps)
+
+pub changed_children-returns-in_err-changed-clause-entries : goal.changed_children-returns-in_err-changed-clause-entries
+changed_children-returns-in_err-changed-clause-entries g t c = grind (arith, common_steps)

@@ -11,6 +11,7 @@ use Rattle.pres_tree.proofs.Changed.{changed_object, changed_children, changed_l
 use Rattle.pres_tree.proofs.Nodes.{at_object, tallest, tallest-le-height, tallest-middle}
 use Rattle.pres_tree.proofs.Places.{first_in}
 use Rattle.pres_tree.proofs.nested.+moved.Goals as goal
+use Rattle.std.proofs.lemmas.Grind.{common_steps}
 
 pub moved-moved_children-requires : goal.moved-moved_children-requires
 moved-moved_children-requires g t c κs within =
@@ -63,3 +64,21 @@ moved_children-children-preserved g t c =
           ∙ first_in (children_with f rest) (children_with f done) e.0 (with_leaves f e.1) rise,
       c.in_ok-insert.ensures.ordered,
     )
+
+pub moved_children-children-smaller : goal.moved_children-children-smaller
+moved_children-children-smaller g t c = grind (arith, common_steps)
+
+pub moved-returns-in-Empty : goal.moved-returns-in-Empty
+moved-returns-in-Empty g t c = grind (arith, common_steps)
+
+pub moved_children-returns-in_err-insert-clause-ordered : goal.moved_children-returns-in_err-insert-clause-ordered
+moved_children-returns-in_err-insert-clause-ordered g t c = grind (arith, common_steps)
+
+pub moved_children-returns-in_err-insert-clause-entries : goal.moved_children-returns-in_err-insert-clause-entries
+moved_children-returns-in_err-insert-clause-entries g t c = grind (arith, common_steps)
+
+pub moved-returns-in-Leaf : goal.moved-returns-in-Leaf
+moved-returns-in-Leaf g t c = grind (arith, common_steps)
+
+pub moved_children-returns-clause-entries : goal.moved_children-returns-clause-entries
+moved_children-returns-clause-entries g t c = grind (arith, common_steps)

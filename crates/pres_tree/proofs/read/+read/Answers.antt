@@ -19,6 +19,7 @@ use Rattle.pres_tree.proofs.Shallow.{Kid, Kids, Kids-children, Kids-insert, Shal
 use Rattle.pres_tree.proofs.Reading.{Rise, decimal_key, names, names-rise, insert_end, rise_first, rise_insert, rise_without, rows_insert}
 use Rattle.pres_tree.proofs.read.+read.Goals as goal
 use Rattle.pres_tree.proofs.read.+read.Goals.{read_items-in-Ok+then-not-is_empty+in_ok-insert-in-Ok, read_items-in-Ok+else-not-is_empty, read_items-in-Err+in_default}
+use Rattle.std.proofs.lemmas.Grind.{common_steps}
 
 pub read_at-returns-then-is_leaf-clause-shallow : goal.read_at-returns-then-is_leaf-clause-shallow
 read_at-returns-then-is_leaf-clause-shallow g t c = subst (Shallow c.args.left) (sym c.scalar.ensures) (Shallow-leaf c.args.left c.in_ok-read.field-0 (omega arith))
@@ -178,3 +179,60 @@ pub read_members-returns-clause-shallow : goal.read_members-returns-clause-shall
 read_members-returns-clause-shallow g t c =
     let l = c.loop-name in
     subst (Shallow (c.args.left + 1)) (sym c.of_children.ensures) (Shallow-object c.args.left l.children.entries l.invariant.2 (rise_first (keys_of l.children.entries) (names l.name-iterator) l.invariant.3))
+
+pub read_members-loop-name-preserved-derived : goal.read_members-loop-name-preserved-derived
+read_members-loop-name-preserved-derived g t c = grind (arith, common_steps)
+
+pub read_members-loop-name-init-derived : goal.read_members-loop-name-init-derived
+read_members-loop-name-init-derived g t c = grind (arith, common_steps)
+
+pub read_members-loop-name-preserved-then-not-is_empty-derived : goal.read_members-loop-name-preserved-then-not-is_empty-derived
+read_members-loop-name-preserved-then-not-is_empty-derived g t c = grind (arith, common_steps)
+
+pub read_members-parse-requires-text-text : goal.read_members-parse-requires-text-text
+read_members-parse-requires-text-text g t c = grind (arith, common_steps)
+
+pub read_members-of_children-requires-clause-order : goal.read_members-of_children-requires-clause-order
+read_members-of_children-requires-clause-order g t c = grind (arith, common_steps)
+
+pub read_items-returns-in-Memory-clause-shallow : goal.read_items-returns-in-Memory-clause-shallow
+read_items-returns-in-Memory-clause-shallow g t c = grind (arith, common_steps)
+
+pub read_members-returns-in_err-insert-clause-shallow : goal.read_members-returns-in_err-insert-clause-shallow
+read_members-returns-in_err-insert-clause-shallow g t c = grind (arith, common_steps)
+
+pub read_items-returns-in-Some-clause-shallow : goal.read_items-returns-in-Some-clause-shallow
+read_items-returns-in-Some-clause-shallow g t c = grind (arith, common_steps)
+
+pub read_members-returns-in_err-key-clause-shallow : goal.read_members-returns-in_err-key-clause-shallow
+read_members-returns-in_err-key-clause-shallow g t c = grind (arith, common_steps)
+
+pub read_items-returns-in-Memory-clause-read : goal.read_items-returns-in-Memory-clause-read
+read_items-returns-in-Memory-clause-read g t c = grind (arith, common_steps)
+
+pub read_items-returns-in-Some-clause-read : goal.read_items-returns-in-Some-clause-read
+read_items-returns-in-Some-clause-read g t c = grind (arith, common_steps)
+
+pub read_members-returns-in_err-insert-clause-read : goal.read_members-returns-in_err-insert-clause-read
+read_members-returns-in_err-insert-clause-read g t c = grind (arith, common_steps)
+
+pub read_members-returns-in_err-key-clause-read : goal.read_members-returns-in_err-key-clause-read
+read_members-returns-in_err-key-clause-read g t c = grind (arith, common_steps)
+
+pub read_members-returns-in_err-child-clause-read : goal.read_members-returns-in_err-child-clause-read
+read_members-returns-in_err-child-clause-read g t c = grind (arith, common_steps)
+
+pub read_members-returns-clause-read : goal.read_members-returns-clause-read
+read_members-returns-clause-read g t c = grind (arith, common_steps)
+
+pub read_members-same-key : goal.read_members-same-key
+read_members-same-key g t c = grind (arith, common_steps)
+
+pub read_items-returns-in_err-insert-in-Ok-clause-read : goal.read_items-returns-in_err-insert-in-Ok-clause-read
+read_items-returns-in_err-insert-in-Ok-clause-read g t c = grind (arith, common_steps)
+
+pub read_members-returns-in_err-child-clause-shallow : goal.read_members-returns-in_err-child-clause-shallow
+read_members-returns-in_err-child-clause-shallow g t c = grind (arith, common_steps)
+
+pub read_items-loop-item-smaller : goal.read_items-loop-item-smaller
+read_items-loop-item-smaller g t c = grind (arith, common_steps)

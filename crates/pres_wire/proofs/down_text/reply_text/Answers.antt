@@ -11,6 +11,7 @@ use Rattle.pres_wire.specs.declared.fault.Field.TheVariants as field
 use Rattle.pres_wire.specs.UpForms.{and_then, needed}
 use Rattle.pres_wire.specs.DownForms.{down_json}
 use Rattle.pres_wire.proofs.down_text.reply_text.Goals as goal
+use Rattle.std.proofs.lemmas.Grind.{common_steps}
 
 pub returns-clause-text : goal.returns-clause-text
 returns-clause-text c =
@@ -42,3 +43,6 @@ returns-clause-reads_back c =
     let low : depth d ≤ max_depth = omega arith in
     let plain : IsPlain d = search rules in
     c.text_of.ensures.reads_back d written low plain
+
+pub text_of-requires : goal.text_of-requires
+text_of-requires c = grind (arith, common_steps)

@@ -12,6 +12,7 @@ use Rattle.pres_wire.specs.Fields.{path_json}
 use Rattle.pres_wire.specs.UpForms.{and_then, needed}
 use Rattle.pres_wire.specs.DownForms.{down_json}
 use Rattle.pres_wire.proofs.down_text.snap_text.Goals as goal
+use Rattle.std.proofs.lemmas.Grind.{common_steps}
 
 pub returns-clause-text : goal.returns-clause-text
 returns-clause-text c =
@@ -46,3 +47,6 @@ returns-clause-reads_back c =
     let low : depth d ≤ max_depth = omega (arith, below) in
     let plain : IsPlain d = search rules in
     c.text_of.ensures.reads_back d written low plain
+
+pub text_of-requires : goal.text_of-requires
+text_of-requires c = grind (arith, common_steps)

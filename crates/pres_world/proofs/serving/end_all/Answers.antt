@@ -5,6 +5,7 @@ use Rattle.pres_server.specs.Heard.{first_client}
 use Rattle.pres_server.specs.Turns.{moment_of}
 use Rattle.pres_world.proofs.Ended.{ended_by, log_by, none_left, stops_at, longer}
 use Rattle.pres_world.proofs.serving.end_all.Goals as goal
+use Rattle.std.proofs.lemmas.Grind.{common_steps}
 
 pub returns-then-not-ends-clause-ended : goal.returns-then-not-ends-clause-ended
 returns-then-not-ends-clause-ended c =
@@ -35,3 +36,9 @@ pub returns-clause-ended : goal.returns-clause-ended
 returns-clause-ended c =
     let s = c.loop-ended.server in
     c.loop-ended.invariant.0 [] s (none_left c.args.now s (sym c.in_ok-client.ensures ∙ search rules))
+
+pub returns-then-not-ends-clause-log : goal.returns-then-not-ends-clause-log
+returns-then-not-ends-clause-log c = grind (arith, common_steps)
+
+pub loop-ended-init : goal.loop-ended-init
+loop-ended-init c = grind (arith, common_steps)

@@ -10,6 +10,7 @@ use Rattle.pres_write.proofs.Applied.{applied_nothing, applied_then}
 use Rattle.pres_write.proofs.Held.{rows_unwrapped}
 use Rattle.pres_write.proofs.Together.{apart_last, put_first}
 use Rattle.pres_write.proofs.basic.+put_last_first.Goals as goal
+use Rattle.std.proofs.lemmas.Grind.{common_steps}
 
 pub returns-in_default-clause-ok : goal.returns-in_default-clause-ok
 returns-in_default-clause-ok t c =
@@ -65,3 +66,6 @@ returns-clause-ok t c =
     ∙ put_first c.args.tree.now ws w c.is_empty.ensures.value.in_order apart.1
     ∙ sym (applied_then c.args.tree.now ws w)
     ∙ sym (ap (applied c.args.tree.now) items)
+
+pub returns-in-Err-clause-err : goal.returns-in-Err-clause-err
+returns-in-Err-clause-err t c = grind (arith, common_steps)

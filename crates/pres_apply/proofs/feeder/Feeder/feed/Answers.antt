@@ -3,6 +3,7 @@ use Rattle.std.proofs.lemmas.Result.{err_from_is_err_and}
 use Rattle.pres_apply.proofs.Split.{midway_starts, midway_goes, midway_stops, midway_ends}
 use Rattle.pres_apply.proofs.Steps.{counts_line, ends_later}
 use Rattle.pres_apply.proofs.feeder.Feeder.feed.Goals as goal
+use Rattle.std.proofs.lemmas.Grind.{common_steps}
 
 pub lines-init : goal.lines-init
 lines-init c = record {
@@ -43,3 +44,6 @@ returns-in_err-end_line-clause-stopped c =
     rw p.1 (λ line f h.
     let r = midway_stops _ _ line c.args.piece.now c.lines.rest.now _ _ _ _ (c.lines.invariant.taken line f h) in
     (r.0, stays ∙ r.1, r.2))
+
+pub lines-smaller : goal.lines-smaller
+lines-smaller c = grind (arith, common_steps)

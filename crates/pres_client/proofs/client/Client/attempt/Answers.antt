@@ -6,6 +6,8 @@ use Rattle.pres_client.specs.Calls.{make_write, sent_now, try_of}
 use Rattle.pres_client.proofs.Ranges.{in_range-write, below}
 use Rattle.pres_client.proofs.Tried.{try_accepted, tried, tried_fields}
 use Rattle.pres_client.proofs.client.Client.attempt.Goals as goal
+use Rattle.std.proofs.Common.{arith}
+use Rattle.std.proofs.lemmas.Grind.{common_steps}
 
 pub invariant_of-self-2 : goal.invariant_of-self-2
 invariant_of-self-2 c =
@@ -53,3 +55,24 @@ returns-clause-ok c =
       rw (tried s c.args.request c.args.draft (ask_of c.args.request s.asks) c.in-Some-take.ask found)
           (◌∙◌ {b = after before} fields (ap after c.self.view_is)),
     )
+
+pub invariant_of-self : goal.invariant_of-self
+invariant_of-self c = grind (arith, common_steps)
+
+pub returns-in_default-reserve-clause-err : goal.returns-in_default-reserve-clause-err
+returns-in_default-reserve-clause-err c = grind (arith, common_steps)
+
+pub unreachable-requires-in_default-take : goal.unreachable-requires-in_default-take
+unreachable-requires-in_default-take c = grind (arith, common_steps)
+
+pub overflow_add-self : goal.overflow_add-self
+overflow_add-self c = grind (arith, common_steps)
+
+pub returns-in_default-try_now-clause-err : goal.returns-in_default-try_now-clause-err
+returns-in_default-try_now-clause-err c = grind (arith, common_steps)
+
+pub into_transaction-requires : goal.into_transaction-requires
+into_transaction-requires c = grind (arith, common_steps)
+
+pub returns-then-is_too_deep-clause-err : goal.returns-then-is_too_deep-clause-err
+returns-then-is_too_deep-clause-err c = grind (arith, common_steps)

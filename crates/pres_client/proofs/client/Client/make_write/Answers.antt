@@ -4,6 +4,8 @@ use Rattle.pres_client.specs.Calls.{make_write, sent_now}
 use Rattle.pres_client.proofs.Ranges.{in_range-write, below}
 use Rattle.pres_client.proofs.Tried.{made_fields}
 use Rattle.pres_client.proofs.client.Client.make_write.Goals as goal
+use Rattle.std.proofs.Common.{arith}
+use Rattle.std.proofs.lemmas.Grind.{common_steps}
 
 pub invariant_of-self-2 : goal.invariant_of-self-2
 invariant_of-self-2 c =
@@ -40,3 +42,6 @@ returns-clause-ok c =
     ◌∙◌ {b = make_write before m}
     (made_fields before m c.sent_with_one-sent.result c.push.new.self.queue c.push.new.self.sends c.push.new.self.notices c.in_ok-push.ensures.queue sends c.push.ensures.notices sent)
     (ap (λ t. make_write t m) c.self.view_is)
+
+pub invariant_of-self : goal.invariant_of-self
+invariant_of-self c = grind (arith, common_steps)

@@ -6,6 +6,8 @@ use Rattle.pres_client.specs.Clients.{State}
 use Rattle.pres_client.specs.Receiving.{bring, fits, answered, first_listen}
 use Rattle.pres_client.proofs.Denials.{denied_again, denied_last}
 use Rattle.pres_client.proofs.client.Client.receive_denied_listen.Goals as goal
+use Rattle.std.proofs.Common.{arith}
+use Rattle.std.proofs.lemmas.Grind.{common_steps}
 
 pub returns-then-is_later-clause-ok : goal.returns-then-is_later-clause-ok
 returns-then-is_later-clause-ok c =
@@ -28,3 +30,9 @@ returns-clause-ok c =
     rw (c.remove.ensures)
     (ap (λ (n : State). record n { watches = without_watch p n.watches }) (c.self-2.view_is ∙ c.settle.ensures ∙ ap (λ (n : State). answered (bring n c.args.z) (drop 1 n.queue)) c.in_ok-note.ensures.ok)
     ∙ denied_last s c.args.z c.args.q c.in-Some.request p first fit later)
+
+pub returns-then-not-fits-clause-ok : goal.returns-then-not-fits-clause-ok
+returns-then-not-fits-clause-ok c = grind (arith, common_steps)
+
+pub settle-requires-clause-taken : goal.settle-requires-clause-taken
+settle-requires-clause-taken c = grind (arith, common_steps)

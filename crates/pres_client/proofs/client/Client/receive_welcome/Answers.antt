@@ -5,6 +5,7 @@ use Rattle.pres_mail.specs.Watches.{on_of}
 use Rattle.pres_client.specs.Receiving.{is_fit}
 use Rattle.pres_client.proofs.Welcomes.{count-ons, numbers-opened, in_range-opened}
 use Rattle.pres_client.proofs.client.Client.receive_welcome.Goals as goal
+use Rattle.std.proofs.lemmas.Grind.{common_steps}
 
 pub open-requires-clause-first : goal.open-requires-clause-first
 open-requires-clause-first c = ap count_writes c.in_ok-listens.ensures ∙ count-ons c.self.inside.watches
@@ -25,3 +26,21 @@ invariant_of-self-2 c =
     let base : c.unwrap_or-base.result ≡ unwrap_or c.self.inside.base c.args.ops = c.unwrap_or-base.ensures ∙ ap (unwrap_or c.self.inside.base) c.get.ensures.value in
     let queue : c.open.new.self.queue ≡ map on_of c.self.inside.watches ++ c.self.inside.mail.queue = c.in_ok-open.ensures.queue ∙ ap (λ l. l ++ c.self.inside.mail.queue) c.in_ok-listens.ensures in
     rw (queue, base) (rw (sym c.self.view_is) at (in_range-opened s c.args.ops h fit))
+
+pub returns-clause-ok : goal.returns-clause-ok
+returns-clause-ok c = grind (arith, common_steps)
+
+pub overflow_add-base-2 : goal.overflow_add-base-2
+overflow_add-base-2 c = grind (arith, common_steps)
+
+pub returns-then-not-is_fit-clause-ok : goal.returns-then-not-is_fit-clause-ok
+returns-then-not-is_fit-clause-ok c = grind (arith, common_steps)
+
+pub open-requires-clause-q : goal.open-requires-clause-q
+open-requires-clause-q c = grind (arith, common_steps)
+
+pub invariant_of-self-in_err-open : goal.invariant_of-self-in_err-open
+invariant_of-self-in_err-open c = grind (arith, common_steps)
+
+pub overflow_add-base : goal.overflow_add-base
+overflow_add-base c = grind (arith, common_steps)

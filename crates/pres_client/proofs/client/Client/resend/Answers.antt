@@ -1,6 +1,17 @@
 use Rattle.std.proofs.Common.{sym}
 use Rattle.pres_client.proofs.Few.{few-resend}
 use Rattle.pres_client.proofs.client.Client.resend.Goals as goal
+use Rattle.std.proofs.Common.{arith}
+use Rattle.std.proofs.lemmas.Grind.{common_steps}
 
 pub returns-clause-few : goal.returns-clause-few
 returns-clause-few c = rw (c.in_ok-add.ensures.sends, c.in_ok-sends.ensures, sym c.self.view_is) (rw (sym c.self.view_is) at (few-resend c.args.self.now))
+
+pub invariant_of-self-2 : goal.invariant_of-self-2
+invariant_of-self-2 c = grind (arith, common_steps)
+
+pub invariant_of-self : goal.invariant_of-self
+invariant_of-self c = grind (arith, common_steps)
+
+pub returns-clause-ok : goal.returns-clause-ok
+returns-clause-ok c = grind (arith, common_steps)

@@ -5,6 +5,8 @@ use Rattle.pres_client.specs.Calls.{enqueue, sent_now}
 use Rattle.pres_client.proofs.Ranges.{in_range-other, below}
 use Rattle.pres_client.proofs.Watched.{watched_fields}
 use Rattle.pres_client.proofs.client.Client.watch_by.Goals as goal
+use Rattle.std.proofs.Common.{arith}
+use Rattle.std.proofs.lemmas.Grind.{common_steps}
 
 pub invariant_of-self-2 : goal.invariant_of-self-2
 invariant_of-self-2 c =
@@ -43,3 +45,15 @@ returns-clause-ok c =
     ◌∙◌ {b = after before}
     (watched_fields before m c.args.path c.args.request c.put.new.self.queue c.put.new.self.sends c.put.new.self.notices c.add.new.self queue sends notices added)
     (ap after c.self.view_is)
+
+pub returns-in_default-reserve-clause-err : goal.returns-in_default-reserve-clause-err
+returns-in_default-reserve-clause-err c = grind (arith, common_steps)
+
+pub invariant_of-self-in_default-add : goal.invariant_of-self-in_default-add
+invariant_of-self-in_default-add c = grind (arith, common_steps)
+
+pub invariant_of-self : goal.invariant_of-self
+invariant_of-self c = grind (arith, common_steps)
+
+pub returns-in_default-add-clause-err : goal.returns-in_default-add-clause-err
+returns-in_default-add-clause-err c = grind (arith, common_steps)

@@ -8,6 +8,8 @@ use Rattle.pres_fan.proofs.Searches.{placed_at}
 use Rattle.pres_fan.proofs.Members.{have_more, have_with, has_place, are_with, new_listener, taken_back}
 use Rattle.pres_fan.proofs.Sets.{put_ordered}
 use Rattle.pres_fan.proofs.listeners.Listeners.on.Goals as goal
+use Rattle.std.proofs.Common.{arith}
+use Rattle.std.proofs.lemmas.Grind.{common_steps}
 
 -- the listeners are as they were where the place could not be added
 as_before : (c : goal.Joined-place-2) → without c.args.session.now c.in-Err.refused.value.path c.add.new.self ≡ c.self.inside.paths
@@ -45,3 +47,18 @@ invariant_of-self-in_default c =
 
 pub returns-in-Err-clause-unchanged : goal.returns-in-Err-clause-unchanged
 returns-in-Err-clause-unchanged c = c.remove.ensures ∙ as_before c ∙ c.self.view_is
+
+pub returns-in_err-add-clause-full : goal.returns-in_err-add-clause-full
+returns-in_err-add-clause-full c = grind (arith, common_steps)
+
+pub returns-clause-full : goal.returns-clause-full
+returns-clause-full c = grind (arith, common_steps)
+
+pub invariant_of-self : goal.invariant_of-self
+invariant_of-self c = grind (arith, common_steps)
+
+pub returns-clause-ok : goal.returns-clause-ok
+returns-clause-ok c = grind (arith, common_steps)
+
+pub returns-in-Err-clause-full : goal.returns-in-Err-clause-full
+returns-in-Err-clause-full c = grind (arith, common_steps)

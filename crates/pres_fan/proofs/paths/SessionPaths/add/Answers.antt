@@ -8,6 +8,8 @@ use Rattle.pres_fan.specs.Listeners.{with_listener}
 use Rattle.pres_fan.specs.Sets.{AreInOrder, listeners_in}
 use Rattle.pres_fan.proofs.Sets.{in_found, found, with_path, same_paths, set_in_order, put_in_order}
 use Rattle.pres_fan.proofs.paths.SessionPaths.add.Goals as goal
+use Rattle.std.proofs.Common.{arith}
+use Rattle.std.proofs.lemmas.Grind.{common_steps}
 
 pub invariant_of-self : goal.invariant_of-self
 invariant_of-self c =
@@ -56,3 +58,21 @@ returns-clause-added c =
   where
     listeners_of : (c : goal.After-drop-2) → listeners_in c.get_mut.follows.lender-at-none.entries ≡ c.args.self.now
     listeners_of c = ap listeners_in (as_it_was c) ∙ c.self.view_is
+
+pub returns-in_err-insert-3-clause-unchanged : goal.returns-in_err-insert-3-clause-unchanged
+returns-in_err-insert-3-clause-unchanged c = grind (arith, common_steps)
+
+pub invariant_of-self-in_err-insert-3 : goal.invariant_of-self-in_err-insert-3
+invariant_of-self-in_err-insert-3 c = grind (arith, common_steps)
+
+pub invariant_of-self-in_err-insert-2 : goal.invariant_of-self-in_err-insert-2
+invariant_of-self-in_err-insert-2 c = grind (arith, common_steps)
+
+pub returns-in_err-insert-2-clause-added : goal.returns-in_err-insert-2-clause-added
+returns-in_err-insert-2-clause-added c = grind (arith, common_steps)
+
+pub returns-in_err-insert-2-clause-unchanged : goal.returns-in_err-insert-2-clause-unchanged
+returns-in_err-insert-2-clause-unchanged c = grind (arith, common_steps)
+
+pub invariant_of-self-in_err-session : goal.invariant_of-self-in_err-session
+invariant_of-self-in_err-session c = grind (arith, common_steps)

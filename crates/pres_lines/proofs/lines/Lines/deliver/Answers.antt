@@ -4,6 +4,7 @@ use Rattle.pres_lines.specs.Lines.{line_at, unmarked}
 use Rattle.pres_lines.specs.Steps.{IsToldWith, LineAfter, LineFits}
 use Rattle.pres_lines.proofs.Sends.{first_told, rest_told, line_more, fits_more, line_none, fits_none}
 use Rattle.pres_lines.proofs.lines.Lines.deliver.Goals as goal
+use Rattle.std.proofs.lemmas.Grind.{common_steps}
 
 at_most : (a b c : ℕ) → a ≤ b → b ≤ c → a ≤ c
 at_most a b c h k = omega (arith, h, k)
@@ -46,3 +47,6 @@ returns-clause-fits c s =
     let none : length c.loop-message.message-iterator.rest.items ≡ 0 = search rules in
     let e : c.loop-message.message-iterator.rest.items ≡ [] = empty c.loop-message.message-iterator.rest.items none in
     c.loop-message.invariant.2 s l (subst (λ xs. LineAfter s xs l l) (sym e) (line_none s l)) (subst (λ xs. LineFits s xs l l) (sym e) (fits_none s l))
+
+pub loop-message-init : goal.loop-message-init
+loop-message-init c = grind (arith, common_steps)

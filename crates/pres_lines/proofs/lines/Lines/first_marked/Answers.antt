@@ -4,6 +4,8 @@ use Rattle.std.specs.Map.{keys_of}
 use Rattle.pres_fan.specs.Listeners.{session_cmp}
 use Rattle.pres_lines.proofs.Firsts.{lines_in_order, marked_line, none_marked}
 use Rattle.pres_lines.proofs.lines.Lines.first_marked.Goals as goal
+use Rattle.std.proofs.Common.{arith}
+use Rattle.std.proofs.lemmas.Grind.{common_steps}
 
 pub returns-in-Some-mark-clause-line : goal.returns-in-Some-mark-clause-line
 returns-in-Some-mark-clause-line c =
@@ -20,3 +22,6 @@ returns-in-Some-mark-clause-ordered c =
 pub returns-clause-ordered : goal.returns-clause-ordered
 returns-clause-ordered c =
     subst (λ lines. IsStrictlySortedBy session_cmp (keys_of lines)) c.self.view_is (lines_in_order c.self.inside.by_session.entries c.iter-session-items.ensures.ordered)
+
+pub returns-in-Some-mark-clause-session : goal.returns-in-Some-mark-clause-session
+returns-in-Some-mark-clause-session c = grind (arith, common_steps)

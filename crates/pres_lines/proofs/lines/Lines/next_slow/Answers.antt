@@ -4,6 +4,8 @@ use Rattle.pres_ids.specs.declared.id.Why.TheVariants.{Slow}
 use Rattle.pres_lines.specs.Lines.{Lines, line_at, is_slow, marked, first_slow, unmarked, ChangesAt}
 use Rattle.pres_lines.proofs.Firsts.{none_of, slow_line, slow_marked, slow_fewer, none_slow, if_some, if_none}
 use Rattle.pres_lines.proofs.lines.Lines.next_slow.Goals as goal
+use Rattle.std.proofs.Common.{arith}
+use Rattle.std.proofs.lemmas.Grind.{common_steps}
 
 -- where the lines say that none is slow
 none_known : (new now : Lines) → new ≡ now → first_slow new ≡ None → first_slow now ≡ None
@@ -45,3 +47,9 @@ returns-then-is_some-clause-fewer c =
 
 pub returns-else-is_some-clause-none_slow : goal.returns-else-is_some-clause-none_slow
 returns-else-is_some-clause-none_slow c = if_none _ _ (none_slow c.args.self.now (sym c.first_slow-found.ensures.found ∙ sym c.is_some.ensures ∙ c.if-is_some.false))
+
+pub returns-then-is_some-clause-none_slow : goal.returns-then-is_some-clause-none_slow
+returns-then-is_some-clause-none_slow c = grind (arith, common_steps)
+
+pub returns-else-is_some-clause-slow : goal.returns-else-is_some-clause-slow
+returns-else-is_some-clause-slow c = grind (arith, common_steps)

@@ -9,6 +9,8 @@ use Rattle.pres_lines.proofs.Firsts.{none_removed}
 use Rattle.pres_lines.proofs.Marks.{removed_fewer}
 use Rattle.pres_lines.proofs.Sends.{parted, parted_fits, put_told}
 use Rattle.pres_lines.proofs.lines.Lines.part.Goals as goal
+use Rattle.std.proofs.Common.{arith}
+use Rattle.std.proofs.lemmas.Grind.{common_steps}
 
 pub returns-in_default-remove-clause-sent : goal.returns-in_default-remove-clause-sent
 returns-in_default-remove-clause-sent c =
@@ -59,3 +61,6 @@ returns-clause-fewer c =
     subst (λ old. unmarked (lines_of c.remove.new.self.entries) ≤ unmarked old) c.self.view_is
     (subst (λ es. unmarked (lines_of es) ≤ unmarked (lines_of c.self.inside.by_session.entries)) (sym c.remove.ensures.entries)
     (removed_fewer (is_at (session_cmp c.in-Some.session.now)) c.self.inside.by_session.entries))
+
+pub invariant_of-self : goal.invariant_of-self
+invariant_of-self c = grind (arith, common_steps)

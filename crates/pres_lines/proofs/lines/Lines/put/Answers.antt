@@ -13,6 +13,8 @@ use Rattle.pres_lines.proofs.Firsts.{none_changed}
 use Rattle.pres_lines.proofs.Marks.{changed_fewer}
 use Rattle.pres_lines.proofs.Sends.{unsent, unsent_fits, sent_one, sent_fits, put_told, none_at}
 use Rattle.pres_lines.proofs.lines.Lines.put.Goals as goal
+use Rattle.std.proofs.Common.{arith}
+use Rattle.std.proofs.lemmas.Grind.{common_steps}
 
 pub returns-in_default-get_mut-clause-sent : goal.returns-in_default-get_mut-clause-sent
 returns-in_default-get_mut-clause-sent c s =
@@ -92,3 +94,6 @@ returns-clause-fewer c =
     subst (λ old. unmarked (lines_of n.entries) ≤ unmarked old) c.self.view_is
     (subst (λ new. unmarked (lines_of new) ≤ unmarked (lines_of es)) (sym w.0)
     (changed_fewer (is_at (session_cmp c.in-Some.session.now)) es c.in-Some-get_mut.place.now k (sym c.in-Some-get_mut.ensures.value) (λ h. ap (λ o. not (is_some o)) c.put.ensures.mark ∙ h)))
+
+pub invariant_of-self : goal.invariant_of-self
+invariant_of-self c = grind (arith, common_steps)

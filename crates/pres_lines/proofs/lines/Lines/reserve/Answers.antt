@@ -3,6 +3,8 @@ use Rattle.pres_lines.specs.Lines.{line_at, has_line, kept_or_blank, ChangesAt}
 use Rattle.pres_lines.specs.Places.{line_of, lines_of}
 use Rattle.pres_lines.proofs.Changes.{some_line, stays, kept_line, new_line, changes, own_after}
 use Rattle.pres_lines.proofs.lines.Lines.reserve.Goals as goal
+use Rattle.std.proofs.Common.{arith}
+use Rattle.std.proofs.lemmas.Grind.{common_steps}
 
 pub returns-then-contains_key-clause-new : goal.returns-then-contains_key-clause-new
 returns-then-contains_key-clause-new c =
@@ -38,3 +40,6 @@ returns-clause-line c =
     (subst (λ u. ChangesAt u kept_or_blank (lines_of es) (lines_of n.entries)) c.in_ok-session.ensures
     (changes k c.self.inside.by_session n (Some c.new.result) kept_or_blank c.in_ok-insert.ensures.updates
     (new_line (line_at k (lines_of es)) (line_of c.new.result) (subst (λ u. is_some (line_at u (lines_of es)) ≡ false) (sym c.in_ok-session.ensures) none) c.new.ensures.line)))
+
+pub invariant_of-self : goal.invariant_of-self
+invariant_of-self c = grind (arith, common_steps)

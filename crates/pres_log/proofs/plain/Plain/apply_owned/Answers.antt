@@ -6,6 +6,8 @@ use Rattle.pres_write.specs.Outcomes.{writes_in, resolved}
 use Rattle.pres_write.proofs.Applied.{applied_nothing}
 use Rattle.pres_log.specs.Plains.{PlainState, state_after}
 use Rattle.pres_log.proofs.plain.Plain.apply_owned.Goals as goal
+use Rattle.std.proofs.Common.{arith}
+use Rattle.std.proofs.lemmas.Grind.{common_steps}
 
 pub returns-in-Ok-apply_all-clause-ok : goal.returns-in-Ok-apply_all-clause-ok
 returns-in-Ok-apply_all-clause-ok c =
@@ -34,3 +36,9 @@ returns-in-Stale-clause-ok c =
     ∙ (λ i. record { number = number i; moment = c.max-moment.result; tree = log.tree })
     ∙ ap (λ m. state m log.tree) moment
     ∙ ap (state (max log.moment c.args.now)) (sym (applied_nothing log.tree value) ∙ ap (applied log.tree) none)
+
+pub returns-in-Ok-apply_all-clause-answer : goal.returns-in-Ok-apply_all-clause-answer
+returns-in-Ok-apply_all-clause-answer c = grind (arith, common_steps)
+
+pub returns-in-Stale-clause-answer : goal.returns-in-Stale-clause-answer
+returns-in-Stale-clause-answer c = grind (arith, common_steps)

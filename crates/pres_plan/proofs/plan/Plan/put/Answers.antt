@@ -4,6 +4,8 @@ use Rattle.pres_plan.specs.declared.row.PlanRow.{PlanRow}
 use Rattle.pres_plan.specs.Plans.{plan_of, puts}
 use Rattle.pres_plan.proofs.Steps.{is_plan, puts_done, is_full, few_rows, not_refused, out_of_memory}
 use Rattle.pres_plan.proofs.plan.Plan.put.Goals as goal
+use Rattle.std.proofs.Common.{arith}
+use Rattle.std.proofs.lemmas.Grind.{common_steps}
 
 pub returns-then-not-may_update-clause-full : goal.returns-then-not-may_update-clause-full
 returns-then-not-may_update-clause-full c =
@@ -46,3 +48,6 @@ returns-clause-ok c = done c
 
 pub returns-clause-full : goal.returns-clause-full
 returns-clause-full c = not_refused (length (plan_of (c.args.self.now ++ puts c.args.q (c.args.placement ∷ [])))) (few c)
+
+pub invariant_of-self : goal.invariant_of-self
+invariant_of-self c = grind (arith, common_steps)

@@ -1,3 +1,5 @@
+use Rattle.std.proofs.Common.{arith}
+use Rattle.std.proofs.lemmas.Grind.{common_steps}
 -- one more row is the client's own alone, and keeps the numbers in turn
 use Rattle.std.proofs.Common.{◌+◌, length, sym, ◌∙◌, ap, subst}
 use Rattle.pres_retry.specs.Tables.{AreNumbered, row, rows_of, table_of, with_row}
@@ -20,3 +22,6 @@ pub returns-clause-others : goal.returns-clause-others
 returns-clause-others c other differs =
     let own = row c.args.done c.args.kept in
     ap (rows_of other) (c.in_ok-push.ensures.pushed ∙ ap (with_row c.args.client own) c.self.view_is) ∙ other_rows c.args.client own c.args.self.now other differs
+
+pub invariant_of-self : goal.invariant_of-self
+invariant_of-self c = grind (arith, common_steps)

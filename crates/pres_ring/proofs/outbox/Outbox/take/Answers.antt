@@ -2,6 +2,8 @@ use Rattle.std.proofs.Common.{sym}
 use Rattle.rtrb.specs.Ring.{received, known_items}
 use Rattle.pres_ring.proofs.Begins.{told_taken, starts_taken, begins_front}
 use Rattle.pres_ring.proofs.outbox.Outbox.take.Goals as goal
+use Rattle.std.proofs.Common.{arith}
+use Rattle.std.proofs.lemmas.Grind.{common_steps}
 
 pub invariant_of-self-2 : goal.invariant_of-self-2
 invariant_of-self-2 c =
@@ -16,3 +18,9 @@ returns-clause-told c = rw (sym c.self.view_is) (invariant_of-self-2 c).0
 pub returns-clause-begins : goal.returns-clause-begins
 returns-clause-begins c =
     rw (sym c.self.view_is) (begins_front c.self.inside.session (received c.pop.new.self) (known_items c.pop.new.self) (invariant_of-self-2 c).1)
+
+pub returns-clause-took : goal.returns-clause-took
+returns-clause-took c = grind (arith, common_steps)
+
+pub invariant_of-self : goal.invariant_of-self
+invariant_of-self c = grind (arith, common_steps)

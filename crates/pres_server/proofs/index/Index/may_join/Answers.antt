@@ -2,6 +2,7 @@ use Rattle.std.proofs.Common.{◌≡◌, ◌<◌, ◌≤◌, ap, sym, subst, Lis
 use Rattle.std.specs.Prelude.{IfOk}
 use Rattle.pres_server.specs.Follows.{MayJoinOn}
 use Rattle.pres_server.proofs.index.Index.may_join.Goals as goal
+use Rattle.std.proofs.lemmas.Grind.{common_steps}
 
 one_item : {A : Type 0} (xs : List A) (x : A) → 1 ≤ length xs → length xs < 2 → x ≡ get_or xs 0 x → xs ≡ x ∷ []
 one_item [] x a b e = absurd (omega arith)
@@ -23,3 +24,9 @@ pub returns-in-len2 : goal.returns-in-len2
 returns-in-len2 c =
     subst (λ es. IfOk c.may_supersede.result (λ may. IsTrue may ↔ MayJoinOn c.args.self.now c.args.now es))
     (sym (two_items c.args.entries.now c.ended-item.result c.opened-item.result c.in-len2.len_at_least c.in-len2.len_below c.ended-item.is c.opened-item.is)) c.may_supersede.ensures
+
+pub returns-in_default : goal.returns-in_default
+returns-in_default c = grind (arith, common_steps)
+
+pub returns-in_default-2 : goal.returns-in_default-2
+returns-in_default-2 c = grind (arith, common_steps)

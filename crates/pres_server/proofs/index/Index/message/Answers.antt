@@ -2,6 +2,7 @@ use Rattle.std.proofs.Common.{subst, sym}
 use Rattle.pres_server.specs.declared.input.Input.TheVariants as input
 use Rattle.pres_server.specs.Index.{DecidesOn}
 use Rattle.pres_server.proofs.index.Index.message.Goals as goal
+use Rattle.std.proofs.Common.{arith}
 
 pub returns-in-Hello : goal.returns-in-Hello
 returns-in-Hello c = subst (λ m. DecidesOn c.args.self.now c.args.now (input.Up m) c.making.result) (sym c.in-Hello.is) (c.making.ensures _ _ c.hello.ensures)
@@ -23,3 +24,6 @@ returns-in-On c = subst (λ m. DecidesOn c.args.self.now c.args.now (input.Up m)
 
 pub returns-in-Off : goal.returns-in-Off
 returns-in-Off c = subst (λ m. DecidesOn c.args.self.now c.args.now (input.Up m) c.off_message.result) (sym c.in-Off.is) c.off_message.ensures
+
+pub returns-in-Beat : goal.returns-in-Beat
+returns-in-Beat c = grind arith

@@ -5,6 +5,8 @@ use Rattle.pres_server.specs.LegalLog.{MayFollow}
 use Rattle.pres_server.specs.Replays.{IsNotAdded}
 use Rattle.pres_server.proofs.Replayed.{one_further, legal_further, not_added}
 use Rattle.pres_server.proofs.server.Server.replay.Goals as goal
+use Rattle.std.proofs.Common.{arith}
+use Rattle.std.proofs.lemmas.Grind.{common_steps}
 
 pub returns-in-Err-clause-refused : goal.returns-in-Err-clause-refused
 returns-in-Err-clause-refused c =
@@ -22,3 +24,9 @@ loop-batch-preserved c =
       c.in_default-add.ensures.added ∙ (λ j. c.loop-batch.invariant.0 j ++ c.in-Ok.ensures j ∷ []) ∙ sym (one_further bs i b c.loop-batch-test.true c.batch-item.is),
       legal_further bs i b c.loop-batch-test.true c.batch-item.is c.loop-batch.invariant.1 follows,
     )
+
+pub returns-clause-server : goal.returns-clause-server
+returns-clause-server c = grind (arith, common_steps)
+
+pub returns-clause-legal : goal.returns-clause-legal
+returns-clause-legal c = grind (arith, common_steps)

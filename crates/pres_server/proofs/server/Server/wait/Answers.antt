@@ -5,6 +5,8 @@ use Rattle.pres_server.specs.Heard.{State}
 use Rattle.pres_log.specs.Logs.{entries}
 use Rattle.pres_server.proofs.Whole.{legal_after, held_together}
 use Rattle.pres_server.proofs.server.Server.wait.Goals as goal
+use Rattle.std.proofs.Common.{arith}
+use Rattle.std.proofs.lemmas.Grind.{common_steps}
 
 pub new-batch-requires : goal.new-batch-requires
 new-batch-requires c = held_together (entries c.args.self.log) c.args.moment c.args.entries c.requires.allowed
@@ -19,3 +21,12 @@ invariant_of-result c =
       follows = g;
       legal = legal_after log c.new-batch.result (subst (λ (s : State). IsLegal s.log) c.self.view_is c.self.invariant.legal) g;
     }
+
+pub returns : goal.returns
+returns c = grind (arith, common_steps)
+
+pub overflow_add-len : goal.overflow_add-len
+overflow_add-len c = grind (arith, common_steps)
+
+pub unreachable-requires : goal.unreachable-requires
+unreachable-requires c = grind (arith, common_steps)

@@ -6,6 +6,8 @@ use Rattle.pres_tree.specs.Stores.{seen, IsSound}
 use Rattle.pres_tree.specs.declared.children.Store.TheVariants.{Few}
 use Rattle.pres_tree.proofs.Places.{within, up_to, found_insert, found_old, missing_value, sets, puts, joins, new_insert}
 use Rattle.pres_tree.proofs.children.Store.insert.Goals as goal
+use Rattle.std.proofs.Common.{arith}
+use Rattle.std.proofs.lemmas.Grind.{common_steps}
 
 pub set_at-requires : goal.set_at-requires
 set_at-requires g c =
@@ -91,3 +93,15 @@ pub returns-in_ok-insert-in-Many-clause-updates : goal.returns-in_ok-insert-in-M
 returns-in_ok-insert-in-Many-clause-updates g c =
     let k = c.args.key in
     subst (λ s. Updates key_cmp (seen s) c.insert.new.self k (Some c.args.value)) (sym c.in-Many.is) c.in_ok-insert-in-Many.ensures.updates
+
+pub returns-in_ok-many-in-Err-clause-entries : goal.returns-in_ok-many-in-Err-clause-entries
+returns-in_ok-many-in-Err-clause-entries g c = grind (arith, common_steps)
+
+pub returns-in_ok-many-in-Err-clause-ordered : goal.returns-in_ok-many-in-Err-clause-ordered
+returns-in_ok-many-in-Err-clause-ordered g c = grind (arith, common_steps)
+
+pub returns-in_ok-insert-in-Many-clause-entries : goal.returns-in_ok-insert-in-Many-clause-entries
+returns-in_ok-insert-in-Many-clause-entries g c = grind (arith, common_steps)
+
+pub returns-in_ok-insert-in-Many-clause-old : goal.returns-in_ok-insert-in-Many-clause-old
+returns-in_ok-insert-in-Many-clause-old g c = grind arith

@@ -10,6 +10,7 @@ use Rattle.pres_tree.proofs.Found.{Children-set, Children-remove, null_is_empty,
 use Rattle.pres_tree.proofs.Nodes.{at_object, at_other, no_keys, object_write, empty_write, rows_at_some, view_order}
 use Rattle.pres_tree.proofs.nested.Nested.+clear.Goals as goal
 use Rattle.pres_tree.proofs.nested.Nested.+clear.Goals.{in-Leaf-2, in-Object-2, in-Empty-2}
+use Rattle.std.proofs.lemmas.Grind.{common_steps}
 
 pub returns-in_default : goal.returns-in_default
 returns-in_default g t c =
@@ -88,3 +89,6 @@ returns-else-is_empty g t c =
 pub returns-in_default-node : goal.returns-in_default-node
 returns-in_default-node g t c =
     c.self.view_is ∙ write_absent c.in-Some.key.now c.in-Some.rest.now c.args.self.now [] (view_order c.self.inside.node _ c.self.view_is) (at_other c.self.inside.node _ c.self.view_is c.in_default-node.not-Object) refl ∙ ap (λ q. set_at q [] c.args.self.now) (sym c.in-Some.ensures.cases.0)
+
+pub invariant_of-self-in_default-get_mut : goal.invariant_of-self-in_default-get_mut
+invariant_of-self-in_default-get_mut g t c = grind (arith, common_steps)

@@ -13,6 +13,7 @@ use Rattle.pres_tree.proofs.Found.{HasChildren, in_order, object_children, objec
 use Rattle.pres_tree.proofs.Values.{value_after}
 use Rattle.pres_tree.proofs.Nodes.{view_order, at_object, at_other, no_keys, object_write, rows_at_some, rows_at_none}
 use Rattle.pres_tree.proofs.nested.Nested.+put.Goals as goal
+use Rattle.std.proofs.lemmas.Grind.{common_steps}
 
 pub returns-in_default-clause-ok : goal.returns-in_default-clause-ok
 returns-in_default-clause-ok g t c =
@@ -144,3 +145,51 @@ returns g t c =
           (ap is_null c.in_ok-branch.ensures ∙ write_not_null c.args.keys.now c.args.value [] c.requires.some)));
       err = tt;
     }
+
+pub returns-in_err-copy-clause-err : goal.returns-in_err-copy-clause-err
+returns-in_err-copy-clause-err g t c = grind (arith, common_steps)
+
+pub invariant_of-self-in_err-branch : goal.invariant_of-self-in_err-branch
+invariant_of-self-in_err-branch g t c = grind (arith, common_steps)
+
+pub returns-in_err-copy-clause-back : goal.returns-in_err-copy-clause-back
+returns-in_err-copy-clause-back g t c = grind (arith, common_steps)
+
+pub invariant_of-self-in_err-insert : goal.invariant_of-self-in_err-insert
+invariant_of-self-in_err-insert g t c = grind (arith, common_steps)
+
+pub returns-in_err-insert-clause-ok : goal.returns-in_err-insert-clause-ok
+returns-in_err-insert-clause-ok g t c = grind (arith, common_steps)
+
+pub returns-in_err-copy-clause-ok : goal.returns-in_err-copy-clause-ok
+returns-in_err-copy-clause-ok g t c = grind (arith, common_steps)
+
+pub returns-in_err-child-clause-err : goal.returns-in_err-child-clause-err
+returns-in_err-child-clause-err g t c = grind (arith, common_steps)
+
+pub returns-in_err-insert-clause-back : goal.returns-in_err-insert-clause-back
+returns-in_err-insert-clause-back g t c = grind (arith, common_steps)
+
+pub overflow_add-result : goal.overflow_add-result
+overflow_add-result g t c = grind (arith, common_steps)
+
+pub invariant_of-self-2 : goal.invariant_of-self-2
+invariant_of-self-2 g t c = grind (arith, common_steps)
+
+pub invariant_of-self-in_err-child : goal.invariant_of-self-in_err-child
+invariant_of-self-in_err-child g t c = grind (arith, common_steps)
+
+pub returns-in-Some-get_mut-clause-depth : goal.returns-in-Some-get_mut-clause-depth
+returns-in-Some-get_mut-clause-depth g t c = grind (arith, common_steps)
+
+pub returns-in-Object-clause-depth : goal.returns-in-Object-clause-depth
+returns-in-Object-clause-depth g t c = grind (arith, common_steps)
+
+pub invariant_of-self-in_err-copy : goal.invariant_of-self-in_err-copy
+invariant_of-self-in_err-copy g t c = grind (arith, common_steps)
+
+pub branch-alloc-requires-clause-fits : goal.branch-alloc-requires-clause-fits
+branch-alloc-requires-clause-fits g t c = grind (arith, common_steps)
+
+pub returns-in_err-insert-clause-err : goal.returns-in_err-insert-clause-err
+returns-in_err-insert-clause-err g t c = grind (arith, common_steps)

@@ -6,6 +6,7 @@ use Rattle.pres_tree.proofs.Found.{Children-at, Children-set, write_root, write_
 use Rattle.pres_tree.proofs.Nodes.{at_object, in_order-value_at, no_keys, object_write, rows_at_some, value_at_absent, value_at_child}
 use Rattle.pres_tree.proofs.Values.{value_after}
 use Rattle.pres_tree.proofs.nested.Nested.+put_over.Goals as goal
+use Rattle.std.proofs.lemmas.Grind.{common_steps}
 
 pub returns-in_default : goal.returns-in_default
 returns-in_default g t c =
@@ -55,3 +56,9 @@ returns g t c =
     object_write c.args.keys.now c.in-Some.key.now c.in-Some.rest.now c.args.value c.args.self.now c.in-Object.children.entries _ (Some c.put_over.new.self) c.in-Some.ensures.cases.0 at.has at.root written.4
     (written.3 (subst IsSome c.in-Some-get_mut.ensures.value refl)).0
     (c.put_over.ensures ∙ ap (set_at c.in-Some.rest.now c.args.value) (rows_at_some c.in-Some.key.now c.in-Object.children.entries _ c.in-Some-get_mut.ensures.value))
+
+pub returns-in_default-node : goal.returns-in_default-node
+returns-in_default-node g t c = grind (arith, common_steps)
+
+pub invariant_of-self-in_default-get_mut : goal.invariant_of-self-in_default-get_mut
+invariant_of-self-in_default-get_mut g t c = grind (arith, common_steps)

@@ -7,6 +7,7 @@ use Rattle.std.proofs.lemmas.Result.{err_from_is_err_and}
 use Rattle.pres_tree.proofs.Texts.{Parsed, has_bytes, pieces, parsed_empty, parsed_push, parsed_deep, parsed_fault, parsed_too_deep, parsed_end}
 use Rattle.pres_tree.proofs.path.Path.parse.Goals as goal
 use Rattle.pres_tree.proofs.path.Path.parse.Goals.{In-Some, In-None}
+use Rattle.std.proofs.lemmas.Grind.{common_steps}
 
 -- the pieces that are left begin with this turn's
 turn : (c : In-Some) → Parsed (pieces c.args.text.now) (c.in-Some.piece.now ∷ drop (length (c.loop-piece.yielded ++ c.in-Some.piece ∷ [])) (pieces c.args.text.now)) c.loop-piece.keys.items c.loop-piece.is_deep
@@ -82,3 +83,6 @@ pub returns : goal.returns
 returns c =
     let parsed = parsed_end c.args.text.now c.if-is_deep.false (end (goal.at.returns c).In-None) in
     record { path = (parsed.is, parsed.good) }
+
+pub loop-piece-init : goal.loop-piece-init
+loop-piece-init c = grind (arith, common_steps)

@@ -11,6 +11,8 @@ use Rattle.pres_write.specs.Drafts.{slot_reading, slot_printing}
 use Rattle.pres_write.proofs.Depths.{fits_height}
 use Rattle.pres_write.proofs.Printed.{reads_put}
 use Rattle.pres_write.proofs.placement.Placement.write_set.Goals as goal
+use Rattle.std.proofs.Common.{arith}
+use Rattle.std.proofs.lemmas.Grind.{common_steps}
 
 -- six tokens, those of a value, and one more
 seven : {E : Type 0} (r : Result (Unit {0}) E) (t t₁ t₂ t₃ t₄ t₅ t₆ t₇ t₈ body : List Token) (a b c d e f z : Token)
@@ -38,3 +40,15 @@ returns-clause-reads_back c =
     (reads_put placement.0 placement.1 (json_of slot_printing placement.1) (segments-path_text placement.0 keys) (path_fault-path_text placement.0 keys)
     (subst (λ (v : Rows Slot). ReadsBack slot_reading v (json_of slot_printing v)) draft c.in_ok-write.ensures.reads_back)
     (fits_height placement.0 placement.1 c.path.ensures.fits))
+
+pub returns-clause-plain : goal.returns-clause-plain
+returns-clause-plain c = grind (arith, common_steps)
+
+pub returns-clause-before : goal.returns-clause-before
+returns-clause-before c = grind (arith, common_steps)
+
+pub returns-in_err-key-3-clause-before : goal.returns-in_err-key-3-clause-before
+returns-in_err-key-3-clause-before c = grind (arith, common_steps)
+
+pub returns-in_err-write-clause-before : goal.returns-in_err-write-clause-before
+returns-in_err-write-clause-before c = grind (arith, common_steps)

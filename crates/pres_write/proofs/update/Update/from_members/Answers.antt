@@ -16,6 +16,7 @@ use Rattle.pres_write.specs.Updates.{PlacesBelow, most_places}
 use Rattle.pres_write.proofs.Members.{Read, read_start, read_more, read_again, length-members, read_many, read_bad, read_overlap, read_all, read_few, refused_as}
 use Rattle.pres_write.proofs.update.Update.from_members.Goals as goal
 use Rattle.pres_write.proofs.update.Update.from_members.Goals.{In-Some, In-None, then-is_twice-via-then-is_twice, then-is_twice-via-else-is_twice+then-overlaps}
+use Rattle.std.proofs.lemmas.Grind.{common_steps}
 
 -- the next member is that of this turn
 turn : (c : In-Some) → Read c.args.path (members_view c.args.members.now.entries) (member (string_bytes c.in-Some.name.now) (view c.in-Some.value.now) (members_view c.next.new.self)) c.loop-name.is_twice c.loop-name.places.entries
@@ -127,3 +128,6 @@ pub returns : goal.returns
 returns c =
     let t = (goal.at.returns c).In-None in
     read_all c.args.path (members_view c.args.members.now.entries) c.loop-name.is_twice c.loop-name.places.entries (end t) c.if-is_twice.false (sym c.overlaps.ensures ∙ c.if-overlaps.false) (few t)
+
+pub returns-in_err-earlier : goal.returns-in_err-earlier
+returns-in_err-earlier c = grind (arith, common_steps)

@@ -9,6 +9,8 @@ use Rattle.pres_write.specs.Drafts.{settled}
 use Rattle.pres_write.specs.Updates.{update_writes}
 use Rattle.pres_write.proofs.Overlaps.{overlap-joined, paths_of_writes, writes_more}
 use Rattle.pres_write.proofs.update.Update.into_writes.Goals as goal
+use Rattle.std.proofs.Common.{arith}
+use Rattle.std.proofs.lemmas.Grind.{common_steps}
 
 pub loop-place-preserved : goal.loop-place-preserved
 loop-place-preserved c =
@@ -41,3 +43,6 @@ returns-clause-apart c =
     ∙ ap overlap (paths_of_writes p c.args.moment places)
     ∙ overlap-joined p (keys_of places)
     ∙ subst (λ u. overlap (keys_of u.places) ≡ false) c.self.view_is c.self.invariant.apart
+
+pub loop-place-init : goal.loop-place-init
+loop-place-init c = grind (arith, common_steps)

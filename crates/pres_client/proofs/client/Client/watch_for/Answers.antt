@@ -1,0 +1,12 @@
+use Rattle.std.proofs.Common.{arith}
+use Rattle.std.proofs.lemmas.Grind.{common_steps}
+use Rattle.pres_client.proofs.client.Client.watch_for.Goals as goal
+
+pub returns-then-not-is_online-clause-ok : goal.returns-then-not-is_online-clause-ok
+returns-then-not-is_online-clause-ok c = grind (arith, common_steps)
+
+pub returns-then-not-is_online-clause-err : goal.returns-then-not-is_online-clause-err
+returns-then-not-is_online-clause-err c = grind (arith, common_steps)
+
+pub returns-clause-ok : goal.returns-clause-ok
+returns-clause-ok c = grind (arith, common_steps)
