@@ -1,4 +1,4 @@
-use Rattle.std.proofs.Common.{◌≡◌, [], ◌∷◌, ◌++◌, sym, ap, ◌∙◌, subst, append_assoc, arith, length}
+use Rattle.std.proofs.Common.{◌≡◌, [], ◌∷◌, ◌++◌, sym, ap, ◌∙◌, subst, append_assoc, arith, length, rules}
 use Rattle.std.specs.List.Sorted.{IsStrictlySortedBy}
 use Rattle.std.specs.Map.{keys_of}
 use Rattle.std.specs.BTreeMap.{insert_entry}
@@ -64,7 +64,7 @@ pub changed_children-loop-key-preserved-derived : goal.changed_children-loop-key
 changed_children-loop-key-preserved-derived g t c = grind (arith, common_steps)
 
 pub changed_children-loop-key-init : goal.changed_children-loop-key-init
-changed_children-loop-key-init g t c = grind (arith, common_steps)
+changed_children-loop-key-init g t c = ([], search rules, search rules, search rules)
 
 pub changed_children-returns-in_err-insert-clause-entries : goal.changed_children-returns-in_err-insert-clause-entries
 changed_children-returns-in_err-insert-clause-entries g t c = grind (arith, common_steps)
