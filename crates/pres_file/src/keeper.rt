@@ -13,7 +13,7 @@ ghost use Rattle.pres_table.specs.Schemas.{no_schema};
 ghost use Rattle.pres_table.specs.Saved.{shown_rows};
 ghost use Rattle.pres_saved.specs.Saved.{saved_log};
 ghost use Rattle.pres_saved.specs.Keeps.{IsReady, KeepsLog};
-ghost use Rattle.pres_file.specs.Found.{KeepsWhatWasFound};
+ghost use Rattle.pres_file.specs.Found.{KeepsWhatIsThere, KeepsWhatWasFound};
 
 use crate::open::connect;
 use pres_saved::{SavedFault, SqlKeeper};
@@ -145,6 +145,23 @@ fn found<S: Alter + Drop>(
     }
 }
 
+// The keeper over the database, which is let go where it is refused.
+fn keeper_for<S: Alter + Drop>(
+    alloc: Global,
+    connection: Connection<S>,
+) -> Result<Opened<S>, SavedFault>
+    requires { connection.in_transaction ≡ false }
+    ensures keeps { IfOk result (λ it. KeepsWhatIsThere S.Store connection it.is_new it.keeper) }
+{
+    match keeper_over(alloc, connection) {
+        Ok(opened) => Ok(opened),
+        Err((fault, connection)) => {
+            drop(connection);
+            Err(fault)
+        }
+    }
+}
+
 /// The keeper over the file at the path, which is made where it is absent or holds no database yet,
 /// with small pages. Database where it can't be opened, or is no database.
 ///
@@ -158,13 +175,7 @@ pub fn keeper_from<S: Start>(
         → KeepsWhatWasFound over_files (image_at S.Start) it.is_new it.keeper) }
 {
     let connection = connect(host, path, start)?;
-    match keeper_over(host.alloc(), connection) {
-        Ok(opened) => Ok(opened),
-        Err((fault, connection)) => {
-            drop(connection);
-            Err(fault)
-        }
-    }
+    keeper_for(host.alloc(), connection)
 }
 
 /// The same at the type that stands for whatever the files hold. By its meaning in the kit nothing is

@@ -1,15 +1,18 @@
 //! The files of a server, opened: an empty database is made where there is none yet.
 
-ghost use Rattle.std.specs.Prelude.{◌≡◌, false, IsTrue, IfOk};
-ghost use Rattle.sqlite.specs.State.{HasCleanDisk};
+ghost use Rattle.std.specs.Prelude.{◌≡◌, ◌≤◌, false, IsTrue, IfOk};
+ghost use Rattle.sqlite.specs.Held.{state};
+ghost use Rattle.sqlite.specs.State.{HasCleanDisk, IsLive, Opens};
+ghost use Rattle.sqlite.specs.Steps.{IsFresh};
 ghost use Rattle.sqlite.specs.Files.{file_state, image_of, HoldsDatabase, IsEmpty, IsOpened};
 ghost use Rattle.sqlite_trees.specs.Tree.{Trees};
+ghost use Rattle.sqlite_trees.specs.View.{doubt, IsClean};
 ghost use Rattle.sqlite_wal.specs.Files.{image_at};
 ghost use Rattle.sqlite_wal.specs.Reads.{AreClean};
 ghost use Rattle.pres_file.specs.Found.{Finds};
 
 use pres_saved::SavedFault;
-use sqlite::{Connection, FileFrom, FileStore, Files, Options, Start};
+use sqlite::{Alter, Connection, FileFrom, FileStore, Files, Options, Start};
 use sqlite_disk::Disk;
 use sqlite_pager::Pager;
 use sqlite_pool::probe_blank;
@@ -127,11 +130,24 @@ fn make<D: Disk + Drop>(
 {
     let pager = Pager::new(alloc, files, size, options)?;
     let unopened = Unopened::new(alloc, pager, &[])?;
-    let store = match unopened.create() {
-        Ok(store) => store,
-        Err((sqlite_store::OpenError::OutOfMemory, _left)) => return Err(SavedFault::Memory),
-        Err((_, _left)) => return Err(SavedFault::Database),
-    };
+    match unopened.create() {
+        Ok(store) => connection_over(alloc, store),
+        Err((sqlite_store::OpenError::OutOfMemory, _left)) => Err(SavedFault::Memory),
+        Err((_, _left)) => Err(SavedFault::Database),
+    }
+}
+
+// A connection over the store, which is let go where it is refused.
+fn connection_over<S: Alter + Drop>(alloc: Global, store: S) -> Result<Connection<S>, SavedFault>
+    requires fresh { IsClean (S.Store.view store) → IsFresh (S.Store.view store) }
+    ensures mode { IfOk result (λ c. c.in_transaction ≡ false) }
+    ensures clean { IfOk result (λ c. doubt (S.Store.view store).is_clean
+        ≤ doubt (state S.Store c).is_clean) }
+    ensures opens { IfOk result (λ c. HasCleanDisk (state S.Store c)
+        → Opens (state S.Store c) × IsLive (state S.Store c)) }
+    ensures trees { IfOk result (λ c. HasCleanDisk (state S.Store c)
+        → (state S.Store c).now.trees ≡ (S.Store.view store).trees) }
+{
     match Connection::over(alloc, store) {
         Ok(connection) => Ok(connection),
         Err((error, left)) => {

@@ -1,5 +1,6 @@
 //! The connections of the machine: TCP streams whose waiting reads a bell ends, a thread for each
-//! connection of a hub, and one that looks each second which sessions are to end.
+//! connection of a hub, and one that looks each second which sessions are to end. It hands on the names
+//! of a hub that whoever serves one needs.
 #![tactic(auto)]
 
 mod alarm;

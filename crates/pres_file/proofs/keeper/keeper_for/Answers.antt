@@ -1,0 +1,15 @@
+use Rattle.std.proofs.Common.{inl, inr}
+use Rattle.pres_file.proofs.keeper.keeper_for.Goals as goal
+
+pub returns-in-Ok : goal.returns-in-Ok
+returns-in-Ok g c = record {
+  keeps =
+      let it = c.in-Ok.ensures in
+      record {
+        clean = it.clean;
+        new = it.new;
+        ready = λ cause. elim cause [ inl new ↦ it.made new | inr ours ↦ it.ready ours ];
+        empty = λ new now. it.empty new now;
+        found = λ log old now ours saved. it.found log old now ours saved;
+      };
+}

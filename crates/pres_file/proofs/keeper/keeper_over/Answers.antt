@@ -1,0 +1,70 @@
+use Rattle.std.proofs.Common.{arith}
+use Rattle.std.proofs.lemmas.Grind.{common_steps}
+use Rattle.pres_file.proofs.Successes.{from_refusal}
+use Rattle.pres_file.proofs.keeper.keeper_over.Goals as goal
+
+pub returns-then-is_blank-clause-new : goal.returns-then-is_blank-clause-new
+returns-then-is_blank-clause-new g c = grind (arith, common_steps)
+
+pub returns-then-is_blank-clause-made : goal.returns-then-is_blank-clause-made
+returns-then-is_blank-clause-made g c = grind (arith, common_steps)
+
+pub returns-then-is_blank-clause-empty : goal.returns-then-is_blank-clause-empty
+returns-then-is_blank-clause-empty g c = grind (arith, common_steps)
+
+pub returns-then-is_blank-clause-ready : goal.returns-then-is_blank-clause-ready
+returns-then-is_blank-clause-ready g c = grind (arith, common_steps)
+
+pub returns-then-is_blank-clause-clean : goal.returns-then-is_blank-clause-clean
+returns-then-is_blank-clause-clean g c = grind (arith, common_steps)
+
+pub returns-then-is_blank-clause-format : goal.returns-then-is_blank-clause-format
+returns-then-is_blank-clause-format g c = grind (arith, common_steps)
+
+pub returns-then-is_blank-clause-found : goal.returns-then-is_blank-clause-found
+returns-then-is_blank-clause-found g c = grind (arith, common_steps)
+
+pub returns-then-is_blank-clause-unmade : goal.returns-then-is_blank-clause-unmade
+returns-then-is_blank-clause-unmade g c = grind (arith, common_steps)
+
+pub returns-then-is_blank-clause-unfound : goal.returns-then-is_blank-clause-unfound
+returns-then-is_blank-clause-unfound g c = grind (arith, common_steps)
+
+pub returns-then-is_blank-clause-blank_stays : goal.returns-then-is_blank-clause-blank_stays
+returns-then-is_blank-clause-blank_stays g c = grind (arith, common_steps)
+
+pub returns-then-is_blank-clause-left : goal.returns-then-is_blank-clause-left
+returns-then-is_blank-clause-left g c = grind (arith, common_steps)
+
+pub returns-else-is_blank-clause-new : goal.returns-else-is_blank-clause-new
+returns-else-is_blank-clause-new g c = grind (arith, common_steps)
+
+pub returns-else-is_blank-clause-made : goal.returns-else-is_blank-clause-made
+returns-else-is_blank-clause-made g c = grind (arith, common_steps)
+
+pub returns-else-is_blank-clause-empty : goal.returns-else-is_blank-clause-empty
+returns-else-is_blank-clause-empty g c = grind (arith, common_steps)
+
+pub returns-else-is_blank-clause-ready : goal.returns-else-is_blank-clause-ready
+returns-else-is_blank-clause-ready g c = grind (arith, common_steps)
+
+pub returns-else-is_blank-clause-clean : goal.returns-else-is_blank-clause-clean
+returns-else-is_blank-clause-clean g c = grind (arith, common_steps)
+
+pub returns-else-is_blank-clause-format : goal.returns-else-is_blank-clause-format
+returns-else-is_blank-clause-format g c = grind (arith, common_steps)
+
+pub returns-else-is_blank-clause-found : goal.returns-else-is_blank-clause-found
+returns-else-is_blank-clause-found g c = grind (arith, common_steps)
+
+pub returns-else-is_blank-clause-unmade : goal.returns-else-is_blank-clause-unmade
+returns-else-is_blank-clause-unmade g c = grind (arith, common_steps)
+
+pub returns-else-is_blank-clause-unfound : goal.returns-else-is_blank-clause-unfound
+returns-else-is_blank-clause-unfound g c = from_refusal c.found.result (λ e unfound _ clean. unfound clean) c.found.ensures.unfound
+
+pub returns-else-is_blank-clause-blank_stays : goal.returns-else-is_blank-clause-blank_stays
+returns-else-is_blank-clause-blank_stays g c = grind (arith, common_steps)
+
+pub returns-else-is_blank-clause-left : goal.returns-else-is_blank-clause-left
+returns-else-is_blank-clause-left g c = grind (arith, common_steps)
