@@ -11,6 +11,7 @@ ghost use Rattle.pres_log.specs.declared.entry.Entry.TheVariants as entry;
 
 use crate::list::list_value;
 use crate::part::{number_value, outcome_value, puts_value};
+use pres_ids::session_value;
 use pres_log::Entry;
 use pres_tree::Path;
 use pres_wire::part::op_value;
@@ -33,7 +34,7 @@ fn entry_value(
     ensures reads_back { IfOk result (λ _.
         session_of (session_json session.now) ≡ Some session.now) }
 {
-    let Ok(session) = session.to_value(alloc) else {
+    let Ok(session) = session_value(alloc, session) else {
         drop(form);
         return Err(AllocError);
     };

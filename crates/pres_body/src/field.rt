@@ -9,9 +9,10 @@ ghost use Rattle.pres_body.specs.Reads.{session_field, number_field, path_field,
 
 use crate::list::read_list;
 use crate::part::{read_number, read_op, read_outcome, read_puts};
+use pres_ids::{read_session, read_why};
 use pres_tree::Path;
 use pres_wire::part::path_of;
-use pres_wire::{Limit, Number, SessionId, Why};
+use pres_wire::{Limit, Number, SessionId, Why, read_limit};
 use pres_write::{Basic, Items, Op, Outcome, Puts};
 use serde_json::Value;
 use std::alloc::{AllocError, Global};
@@ -21,7 +22,7 @@ pub(crate) fn session_field(alloc: Global, entry: &Value) -> Result<Option<Sessi
     ensures { IfOk result (λ found. found ≡ session_field (view entry.now)) }
 {
     match entry.get("s") {
-        Some(value) => SessionId::from_value(alloc, value),
+        Some(value) => read_session(alloc, value),
         None => Ok(None),
     }
 }
@@ -30,7 +31,7 @@ pub(crate) fn session_field(alloc: Global, entry: &Value) -> Result<Option<Sessi
 pub(crate) fn number_field(entry: &Value, name: &str) -> Option<Number>
     ensures { result ≡ number_field name.now (view entry.now) }
 {
-    Number::from_value(entry.get(name)?)
+    pres_ids::read_number(entry.get(name)?)
 }
 
 // The number of a message, or none of null.
@@ -44,14 +45,14 @@ pub(crate) fn number_or_null_field(entry: &Value) -> Option<Option<Number>>
 pub(crate) fn why_field(entry: &Value) -> Option<Why>
     ensures { result ≡ field_of why_in (codes "why") (view entry.now) }
 {
-    Why::from_value(entry.get("why")?)
+    read_why(entry.get("why")?)
 }
 
 // The limit that a message met.
 pub(crate) fn limit_field(entry: &Value) -> Option<Limit>
     ensures { result ≡ field_of limit_in (codes "why") (view entry.now) }
 {
-    Limit::from_value(entry.get("why")?)
+    read_limit(entry.get("why")?)
 }
 
 // The path of an entry.

@@ -12,29 +12,36 @@ ghost use Rattle.pres_body.specs.Reads.{rows_below, row_of, write_in, op_in, out
 use crate::list::{Saved, list_value, read_list};
 use json::Writer;
 use pres_ids::{Number, pair_of};
-use pres_tree::{Leaf, Nested, Path, Tree, TreeFault};
+use pres_tree::{
+    Form, Nested, Path, PrintedForm, Scalar, ScalarForm, Tree, TreeFault, from_value_below,
+    to_value, write_value,
+};
 use pres_wire::part::{held_of, held_value, path_of, tree_of};
-use pres_write::{Basic, Op, Outcome, Placement, Puts, WriteFault};
+use pres_write::{Basic, Op, Outcome, Placement, Puts, Slot, SlotForm, WriteFault};
 use serde_json::{Value, json};
 use std::alloc::{AllocError, Global};
 
 // The JSON value of a path and what is there: `[path,value]`. It is read again as both.
-fn row_value<L: Leaf>(alloc: Global, path: &Path, rows: &Nested<L>) -> Result<Value, AllocError>
+fn row_value<L, P: PrintedForm<L>>(
+    alloc: Global,
+    path: &Path,
+    rows: &Nested<L>,
+) -> Result<Value, AllocError>
     requires { Fits path.now rows.now }
     ensures json { IfOk result (λ made.
-        view made ≡ row_json path.now (json_of L.printing rows.now)) }
+        view made ≡ row_json path.now (json_of P.printing rows.now)) }
     ensures path { IfOk result (λ _. path_of (path_json path.now) ≡ Some path.now) }
     ensures rows { IfOk result (λ _.
-        rows_below L.reading path.now (json_of L.printing rows.now) ≡ Some rows.now) }
+        rows_below P.reading path.now (json_of P.printing rows.now) ≡ Some rows.now) }
 {
     let mut pair = Vec::new(alloc);
     pair.push(Value::String(path.text(alloc)?))?;
-    pair.push(rows.to_value(alloc)?)?;
+    pair.push(to_value::<L, P>(alloc, rows)?)?;
     Ok(Value::Array(pair))
 }
 
 // Writes a path and what is there: `[path,value]`. It is read again as both.
-fn write_row<L: Leaf>(
+fn write_row<L, P: PrintedForm<L>>(
     alloc: Global,
     out: &mut Writer,
     path: &Path,
@@ -42,17 +49,17 @@ fn write_row<L: Leaf>(
 ) -> Result<(), AllocError>
     requires { Fits path.now rows.now }
     ensures ok { OnOk result (out.new.tokens ≡ out.old.tokens
-        ++ tokens_of (row_json path.now (json_of L.printing rows.now))) }
+        ++ tokens_of (row_json path.now (json_of P.printing rows.now))) }
     ensures before { out.new.before ≡ out.old.before }
-    ensures plain { OnOk result (IsPlain (row_json path.now (json_of L.printing rows.now))) }
+    ensures plain { OnOk result (IsPlain (row_json path.now (json_of P.printing rows.now))) }
     ensures path { OnOk result (path_of (path_json path.now) ≡ Some path.now) }
     ensures rows { OnOk result
-        (rows_below L.reading path.now (json_of L.printing rows.now) ≡ Some rows.now) }
+        (rows_below P.reading path.now (json_of P.printing rows.now) ≡ Some rows.now) }
 {
     let text = path.text(alloc)?;
     out.begin_array()?;
     out.string(text.as_str())?;
-    rows.write(out)?;
+    write_value::<L, P>(rows, out)?;
     out.end_array()
 }
 
@@ -67,15 +74,18 @@ pub(crate) fn write_write(alloc: Global, out: &mut Writer, write: &Basic) -> Res
 {
     let null = Tree::empty();
     let value = write.value().unwrap_or(&null);
-    let made = write_row(alloc, out, write.path(), value);
+    let made = write_row::<Scalar, ScalarForm>(alloc, out, write.path(), value);
     drop(null);
     made
 }
 
 // The path and the value of a row, none where it isn't a list of both, or the value may not stand
 // at the path.
-fn read_row<L: Leaf>(alloc: Global, value: &Value) -> Result<Option<(Path, Nested<L>)>, AllocError>
-    ensures found { IfOk result (λ found. found ≡ row_of L.reading (view value.now)) }
+fn read_row<L: Drop, P: Form<L>>(
+    alloc: Global,
+    value: &Value,
+) -> Result<Option<(Path, Nested<L>)>, AllocError>
+    ensures found { IfOk result (λ found. found ≡ row_of P.reading (view value.now)) }
     ensures fits { IfOk result (λ found. IfSome found (λ row. Fits row.0 row.1)) }
 {
     let Some((path, value)) = pair_of(value) else {
@@ -84,7 +94,7 @@ fn read_row<L: Leaf>(alloc: Global, value: &Value) -> Result<Option<(Path, Neste
     let Some(path) = path_of(alloc, path)? else {
         return Ok(None);
     };
-    match Nested::from_value_below(alloc, value, &path) {
+    match from_value_below::<L, P>(alloc, value, &path) {
         Ok(rows) => Ok(Some((path, rows))),
         Err(TreeFault::Memory) => Err(AllocError),
         Err(_) => Ok(None),
@@ -106,13 +116,13 @@ impl Saved for Basic {
     fn to_json(&self, alloc: Global) -> Result<Value, AllocError> {
         let null = Tree::empty();
         let value = self.value().unwrap_or(&null);
-        let made = row_value(alloc, self.path(), value);
+        let made = row_value::<Scalar, ScalarForm>(alloc, self.path(), value);
         drop(null);
         made
     }
 
     fn from_json(alloc: Global, value: &Value) -> Result<Option<Basic>, AllocError> {
-        match read_row(alloc, value)? {
+        match read_row::<Scalar, ScalarForm>(alloc, value)? {
             Some((path, tree)) => Ok(Some(Basic::fitting(path, tree))),
             None => Ok(None),
         }
@@ -132,11 +142,11 @@ impl Saved for Placement {
     ghost levels = { 34 };
 
     fn to_json(&self, alloc: Global) -> Result<Value, AllocError> {
-        row_value(alloc, self.path(), self.draft())
+        row_value::<Slot, SlotForm>(alloc, self.path(), self.draft())
     }
 
     fn from_json(alloc: Global, value: &Value) -> Result<Option<Placement>, AllocError> {
-        match read_row(alloc, value)? {
+        match read_row::<Slot, SlotForm>(alloc, value)? {
             Some((path, draft)) => Ok(Some(Placement::fitting(path, draft))),
             None => Ok(None),
         }
@@ -211,7 +221,7 @@ pub(crate) fn read_outcome(alloc: Global, value: &Value) -> Result<Option<Outcom
 pub(crate) fn read_op(alloc: Global, value: &Value) -> Result<Option<Op>, AllocError>
     ensures { IfOk result (λ found. found ≡ op_in (view value.now)) }
 {
-    match Op::from_value(alloc, value) {
+    match pres_write::read_op(alloc, value) {
         Ok(op) => Ok(Some(op)),
         Err(WriteFault::Tree(TreeFault::Memory)) => Err(AllocError),
         Err(_) => Ok(None),
@@ -237,5 +247,5 @@ pub(crate) fn read_number(value: &Value) -> Option<Option<Number>>
     if value.is_null() {
         return Some(None);
     }
-    Some(Some(Number::from_value(value)?))
+    Some(Some(pres_ids::read_number(value)?))
 }

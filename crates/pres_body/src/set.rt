@@ -19,7 +19,7 @@ use json::Writer;
 use pres_tree::text_of;
 use pres_wire::field_text::{number_field, session_field, text_field};
 use pres_wire::{Number, SessionId};
-use pres_write::{Basic, Placement};
+use pres_write::{Basic, Placement, write_set};
 use std::alloc::{AllocError, Global};
 
 // How many bytes most texts have at most.
@@ -35,7 +35,7 @@ fn op_field(alloc: Global, out: &mut Writer, placement: &Placement) -> Result<()
         (op_read (op_json (op.Set placement.now)) ≡ Ok (op.Set placement.now)) }
 {
     out.key("op")?;
-    placement.write_set(alloc, out)
+    write_set(alloc, placement, out)
 }
 
 // Writes the list of the one write.

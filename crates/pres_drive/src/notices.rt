@@ -4,7 +4,7 @@ ghost use Rattle.std.specs.Prelude.{◌≡◌, IfOk, option_map, string_bytes};
 ghost use Rattle.pres_drive.specs.Printed.{place_text, words_of, value_in, notice_text, line_of};
 
 use pres_client::Notice;
-use pres_tree::{Path, Tree};
+use pres_tree::{Path, Tree, TreeJson};
 use pres_wire::Number;
 use std::alloc::{AllocError, Global};
 

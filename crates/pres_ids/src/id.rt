@@ -1,18 +1,13 @@
 //! Clients, their sessions, and why a session ended.
 
-ghost use Rattle.std.specs.Prelude.{◌≡◌, ◌++◌, IsTrue, IfOk, OnOk, MatchResult, Some, if◌then◌else◌};
+ghost use Rattle.std.specs.Prelude.{◌≡◌, IsTrue, IfOk, MatchResult, Some, if◌then◌else◌};
 ghost use Rattle.std.specs.List.{list_all};
-ghost use Rattle.serde_json.specs.View.{view};
-ghost use Rattle.pres_tree.specs.Printing.{tokens_of, IsPlain};
-ghost use Rattle.pres_ids.specs.Forms.{stamp_json, session_json, session_of, stamp_in, why_word, why_of, why_in};
+ghost use Rattle.pres_ids.specs.Forms.{why_word, why_of};
 ghost use Rattle.pres_ids.specs.Ids.{is_id_byte, is_client_id, is_earlier, stamp_of};
 ghost use Rattle.pres_ids.specs.declared.id.IdFault.TheVariants.{Memory, NotAnId};
 
 use crate::number::Number;
-use crate::pair::pair_of;
-use json::Writer;
 use pres_tree::Text;
-use serde_json::{Value, json};
 use std::alloc::{AllocError, Global};
 use std::fmt;
 use std::marker::Model;
@@ -136,25 +131,6 @@ impl Stamp {
     {
         self < other
     }
-
-    /// Its JSON value: `[incarnation,attempt]`.
-    pub fn to_value(&self, alloc: Global) -> Result<Value, AllocError>
-        ensures json { IfOk result (λ made. view made ≡ stamp_json self.now) }
-        ensures reads_back { IfOk result (λ made. stamp_in (view made) ≡ Some self.now) }
-    {
-        json!(in alloc; [self.incarnation.get(), self.attempt.get()])
-    }
-
-    /// The stamp of a JSON value, none where it isn't the value of one.
-    pub fn from_value(value: &Value) -> Option<Stamp>
-        ensures { result ≡ stamp_in (view value.now) }
-    {
-        let (incarnation, attempt) = pair_of(value)?;
-        Some(Stamp {
-            incarnation: Number::from_value(incarnation)?,
-            attempt: Number::from_value(attempt)?,
-        })
-    }
 }
 
 /// The incarnation and the attempt, as `1.2`.
@@ -201,59 +177,6 @@ impl SessionId {
     {
         Ok(SessionId::of(self.client.copy(alloc)?, self.stamp()))
     }
-
-    /// Its JSON value: `[client,incarnation,attempt]`. It is read again as this session.
-    pub fn to_value(&self, alloc: Global) -> Result<Value, AllocError>
-        ensures json { IfOk result (λ made. view made ≡ session_json self.now) }
-        ensures reads_back { IfOk result (λ made. session_of (view made) ≡ Some self.now) }
-    {
-        json!(in alloc; [self.client.text(), self.incarnation.get(), self.attempt.get()])
-    }
-
-    /// Writes its JSON value, which is read again as this session.
-    pub fn write(&self, out: &mut Writer) -> Result<(), AllocError>
-        ensures ok { OnOk result
-            (out.new.tokens ≡ out.old.tokens ++ tokens_of (session_json self.now)) }
-        ensures before { out.new.before ≡ out.old.before }
-        ensures plain { OnOk result (IsPlain (session_json self.now)) }
-        ensures reads_back { OnOk result (session_of (session_json self.now) ≡ Some self.now) }
-    {
-        out.begin_array()?;
-        out.string(self.client.text())?;
-        self.incarnation.write(out)?;
-        self.attempt.write(out)?;
-        out.end_array()
-    }
-
-    /// The session of a JSON value, none where it isn't the value of one.
-    pub fn from_value(alloc: Global, value: &Value) -> Result<Option<SessionId>, AllocError>
-        ensures { IfOk result (λ found. found ≡ session_of (view value.now)) }
-    {
-        let Some(items) = value.as_array() else {
-            return Ok(None);
-        };
-        let [client, incarnation, attempt] = items.as_slice() else {
-            return Ok(None);
-        };
-        let Some(text) = client.as_str() else {
-            return Ok(None);
-        };
-        let Some(incarnation) = Number::from_value(incarnation) else {
-            return Ok(None);
-        };
-        let Some(attempt) = Number::from_value(attempt) else {
-            return Ok(None);
-        };
-        match ClientId::parse(alloc, text) {
-            Ok(client) => Ok(Some(SessionId {
-                client,
-                incarnation,
-                attempt,
-            })),
-            Err(IdFault::NotAnId) => Ok(None),
-            Err(IdFault::Memory) => Err(AllocError),
-        }
-    }
 }
 
 /// The client and the stamp, as `alice/1.2`.
@@ -294,27 +217,5 @@ impl Why {
             Why::Slow => "slow",
             Why::Restart => "restart",
         }
-    }
-
-    // The one that the word is for.
-    fn of_word(word: &str) -> Option<Why>
-        ensures { result ≡ why_of word.now }
-    {
-        match word {
-            "bye" => Some(Why::Bye),
-            "lost" => Some(Why::Lost),
-            "lease" => Some(Why::Lease),
-            "superseded" => Some(Why::Superseded),
-            "slow" => Some(Why::Slow),
-            "restart" => Some(Why::Restart),
-            _ => None,
-        }
-    }
-
-    /// The one whose word a JSON value is, none where it is no such word.
-    pub fn from_value(value: &Value) -> Option<Why>
-        ensures { result ≡ why_in (view value.now) }
-    {
-        Why::of_word(value.as_str()?)
     }
 }

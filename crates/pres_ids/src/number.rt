@@ -1,16 +1,10 @@
 //! Numbers that messages carry.
 
-ghost use Rattle.std.specs.Prelude.{◌≡◌, ◌+◌, ◌<◌, ◌≤◌, ◌++◌, Some, OnOk, MatchOption};
+ghost use Rattle.std.specs.Prelude.{◌≡◌, ◌+◌, ◌<◌, ◌≤◌, MatchOption};
 ghost use Rattle.std.specs.Option.{SomeIff};
-ghost use Rattle.serde_json.specs.View.{view};
-ghost use Rattle.pres_tree.specs.Printing.{tokens_of, IsPlain};
-ghost use Rattle.pres_ids.specs.Forms.{whole, message_number, message_count};
 ghost use Rattle.pres_ids.specs.Numbers.{greatest_number, IsNumber};
 
-use json::Writer;
 use pres_write::MAX_SAFE_INTEGER;
-use serde_json::Value;
-use std::alloc::AllocError;
 use std::fmt;
 use std::marker::Model;
 
@@ -59,16 +53,6 @@ impl Number {
         self.value
     }
 
-    /// Writes its JSON value, which is read again as this number.
-    pub fn write(self, out: &mut Writer) -> Result<(), AllocError>
-        ensures ok { OnOk result (out.new.tokens ≡ out.old.tokens ++ tokens_of (whole self)) }
-        ensures before { out.new.before ≡ out.old.before }
-        ensures plain { OnOk result (IsPlain (whole self)) }
-        ensures reads_back { message_number (whole self) ≡ Some self }
-    {
-        out.u64(self.get())
-    }
-
     /// The number after it, none after 2^53 - 1.
     pub fn next(self) -> Option<Number>
         ensures { MatchOption result
@@ -76,13 +60,6 @@ impl Number {
             (λ n. (self < greatest_number) × (n ≡ self + 1)) }
     {
         Count::up_to(self).next()
-    }
-
-    /// The number of a JSON value, none where it isn't the value of one.
-    pub fn from_value(value: &Value) -> Option<Number>
-        ensures { result ≡ message_number (view value.now) }
-    {
-        Number::new(value.as_u64()?)
     }
 }
 
@@ -156,13 +133,6 @@ impl Count {
         Some(Number {
             value: self.value + 1,
         })
-    }
-
-    /// The count of a JSON value, none where it isn't the value of one.
-    pub fn from_value(value: &Value) -> Option<Count>
-        ensures { result ≡ message_count (view value.now) }
-    {
-        Count::new(value.as_u64()?)
     }
 }
 

@@ -14,7 +14,7 @@ ghost use Rattle.pres_service.specs.Lines.{Said, said, draft_in, draft_read, pla
 use pres_client::{Answer, Call};
 use pres_drive::Line;
 use pres_tree::{Path, TreeFault};
-use pres_write::Draft;
+use pres_write::{Draft, DraftJson};
 use serde_json::{Map, Value};
 use std::alloc::{AllocError, AllocFailed, Global};
 

@@ -9,7 +9,7 @@ use pres_client::{Call, Client, ClientFault, Notice};
 use pres_drive::notice_line;
 use pres_ids::ClientId;
 use pres_service::{ServiceFault, bytes_of, texts_of};
-use pres_tree::{Path, Tree};
+use pres_tree::{Path, Tree, TreeJson};
 use pres_wire::{Down, Up};
 use pres_world::{Event, World, WorldFault};
 use std::alloc::{AllocError, Global};

@@ -4,6 +4,7 @@
 //! holds one, in path order. Null is the empty list.
 #![tactic(auto)]
 
+mod as_json;
 mod children;
 mod equal;
 mod fault;
@@ -16,13 +17,14 @@ mod read;
 mod scalar;
 mod text;
 
+pub use as_json::{OfTree, TreeJson};
 pub use fault::TreeFault;
 pub use key::Key;
 pub use nested::{Change, Leaf, Nested};
 pub use path::{MAX_DEPTH, Path};
-pub use print::text_of;
-pub use read::Form;
-pub use scalar::Scalar;
+pub use print::{PrintedForm, text_of, to_value, write_value};
+pub use read::{Form, from_value, from_value_below, from_value_under};
+pub use scalar::{Scalar, ScalarForm};
 pub use text::Text;
 
 /// A value: null, a scalar, or an object of values under keys.

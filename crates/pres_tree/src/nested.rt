@@ -13,22 +13,14 @@ use crate::children::Children;
 use crate::fault::TreeFault;
 use crate::key::Key;
 use crate::path::Path;
-use crate::read::Form;
-use json::Writer;
-use serde_json::Value;
 use std::alloc::{AllocError, Global};
 use std::marker::Model;
 use std::mem::replace;
 
-/// What may stand at a place of a value, and how JSON tells it: a leaf is a form of its own.
-pub trait Leaf: Form<Self> + Drop {
-    ghost use Rattle.std.specs.Prelude.{◌≡◌, ◌↔◌, ◌++◌, IsTrue, IfOk, OnOk};
-    ghost use Rattle.serde_json.specs.Data.{Data, Members, null, object};
-    ghost use Rattle.serde_json.specs.View.{view};
-    ghost use Rattle.pres_tree.specs.Printing.{tokens_of, IsPlain};
-    ghost use Rattle.pres_tree.specs.Reading.{HasKeys, branch, leaf};
-
-    ghost printing: { Self → Data };
+/// What may stand at a place of a value. How JSON tells it is said by a form of its own, so that
+/// what names no JSON needn't know it.
+pub trait Leaf: Drop {
+    ghost use Rattle.std.specs.Prelude.{◌≡◌, ◌↔◌, IsTrue, IfOk};
 
     /// An equal leaf.
     fn copy(&self, alloc: Global) -> Result<Self, AllocError>
@@ -37,25 +29,6 @@ pub trait Leaf: Form<Self> + Drop {
     /// Whether both are the same leaf.
     fn equal(&self, other: &Self) -> bool
         ensures { IsTrue result ↔ (self.now ≡ other.now) };
-
-    /// The JSON value of the leaf.
-    fn print(&self, alloc: Global) -> Result<Value, AllocError>
-        ensures json { IfOk result (λ made. view made ≡ printing self.now) }
-        ensures reads_back { IfOk result (λ made. Self.reading (view made) ≡ leaf self.now) };
-
-    /// Writes the JSON value of the leaf.
-    fn write(&self, out: &mut Writer) -> Result<(), AllocError>
-        ensures ok { OnOk result
-            (out.new.tokens ≡ out.old.tokens ++ tokens_of (printing self.now)) }
-        ensures before { out.new.before ≡ out.old.before }
-        ensures plain { OnOk result (IsPlain (printing self.now)) }
-        ensures reads_back { OnOk result (Self.reading (printing self.now) ≡ leaf self.now) };
-
-    // Null is no leaf, and neither is an object whose names are keys.
-    ghost null_is_branch: { Self.reading null ≡ branch };
-
-    ghost object_is_branch: { (members : Members) → HasKeys members
-        → Self.reading (object members) ≡ branch };
 }
 
 /// A value over leaves of the type `L`: null, one leaf, or values under keys. Null has one form:

@@ -10,7 +10,7 @@ ghost use Rattle.pres_tree.specs.Reading.{levels_below, rows_of, fault_of, items
 use crate::children::Children;
 use crate::fault::TreeFault;
 use crate::key::Key;
-use crate::nested::{Leaf, Nested};
+use crate::nested::Nested;
 use crate::path::{MAX_DEPTH, Path};
 use serde_json::{Map, Value};
 use std::alloc::Global;
@@ -21,7 +21,7 @@ const LEVELS: usize = MAX_DEPTH + 1;
 // A fault, and the key of the item that has it.
 type KeyedFault = (Key, TreeFault);
 
-/// How JSON tells the leaves of a value.
+/// How JSON tells the leaves of a value. A type of its own stands for each form.
 pub trait Form<L> {
     ghost use Rattle.std.specs.Prelude.{◌≡◌, ◌⊎◌, true, MatchResult};
     ghost use Rattle.serde_json.specs.Data.{Data};
@@ -43,69 +43,50 @@ pub trait Form<L> {
             (λ e. (e ≡ Memory) ⊎ (reading (view value.now) ≡ bad e)) };
 }
 
-impl<L: Leaf> Nested<L> {
-    /// The value of a JSON value: arrays under their indexes, nulls and objects without
-    /// children left out. The first fault of a depth-first walk in byte order of keys is
-    /// answered: at a key EmptyKey, LongKey, BadKey, at a leaf TooDeep, NotWhole, Range.
-    pub fn from_value(alloc: Global, value: &Value) -> Result<Nested<L>, TreeFault>
-        ensures { MatchResult result
-            (λ t. (fault_of L.reading (max_depth + 1) (view value.now) ≡ None)
-            × (t ≡ rows_of L.reading (view value.now)))
-            (λ e. (e ≡ Memory) ⊎ (fault_of L.reading (max_depth + 1) (view value.now) ≡ Some e)) }
-    {
-        read_at::<L, L>(alloc, value, LEVELS)
-    }
-
-    /// The same for a value that is to stand at the path, whose keys count as depth.
-    pub fn from_value_below(
-        alloc: Global,
-        value: &Value,
-        path: &Path,
-    ) -> Result<Nested<L>, TreeFault>
-        ensures read { MatchResult result
-            (λ t. (fault_of L.reading (levels_below path.now) (view value.now) ≡ None)
-            × (t ≡ rows_of L.reading (view value.now)))
-            (λ e. (e ≡ Memory)
-            ⊎ (fault_of L.reading (levels_below path.now) (view value.now) ≡ Some e)) }
-        ensures fits { IfOk result (λ t. Fits path.now t) }
-    {
-        Nested::from_value_as::<L>(alloc, value, path)
-    }
-
-    /// The same for a value that is to stand below so many keys.
-    pub fn from_value_under(
-        alloc: Global,
-        value: &Value,
-        depth: usize,
-    ) -> Result<Nested<L>, TreeFault>
-        requires { depth ≤ max_depth }
-        ensures read { MatchResult result
-            (λ t. (fault_of L.reading (max_depth + 1 - depth) (view value.now) ≡ None)
-            × (t ≡ rows_of L.reading (view value.now)))
-            (λ e. (e ≡ Memory)
-            ⊎ (fault_of L.reading (max_depth + 1 - depth) (view value.now) ≡ Some e)) }
-        ensures shallow { IfOk result (λ t. Shallow (max_depth + 1 - depth) t) }
-    {
-        read_at::<L, L>(alloc, value, LEVELS - depth)
-    }
+/// The value of a JSON value: arrays under their indexes, nulls and objects without
+/// children left out. The first fault of a depth-first walk in byte order of keys is
+/// answered: at a key EmptyKey, LongKey, BadKey, at a leaf TooDeep and then what its form
+/// refuses.
+pub fn from_value<L: Drop, F: Form<L>>(alloc: Global, value: &Value) -> Result<Nested<L>, TreeFault>
+    ensures { MatchResult result
+        (λ t. (fault_of F.reading (max_depth + 1) (view value.now) ≡ None)
+        × (t ≡ rows_of F.reading (view value.now)))
+        (λ e. (e ≡ Memory) ⊎ (fault_of F.reading (max_depth + 1) (view value.now) ≡ Some e)) }
+{
+    read_at::<L, F>(alloc, value, LEVELS)
 }
 
-impl<L: Drop> Nested<L> {
-    /// The same where JSON tells the leaves in the given form.
-    pub fn from_value_as<F: Form<L>>(
-        alloc: Global,
-        value: &Value,
-        path: &Path,
-    ) -> Result<Nested<L>, TreeFault>
-        ensures read { MatchResult result
-            (λ t. (fault_of F.reading (levels_below path.now) (view value.now) ≡ None)
-            × (t ≡ rows_of F.reading (view value.now)))
-            (λ e. (e ≡ Memory)
-            ⊎ (fault_of F.reading (levels_below path.now) (view value.now) ≡ Some e)) }
-        ensures fits { IfOk result (λ t. Fits path.now t) }
-    {
-        read_at::<L, F>(alloc, value, LEVELS - path.len())
-    }
+/// The same for a value that is to stand at the path, whose keys count as depth.
+pub fn from_value_below<L: Drop, F: Form<L>>(
+    alloc: Global,
+    value: &Value,
+    path: &Path,
+) -> Result<Nested<L>, TreeFault>
+    ensures read { MatchResult result
+        (λ t. (fault_of F.reading (levels_below path.now) (view value.now) ≡ None)
+        × (t ≡ rows_of F.reading (view value.now)))
+        (λ e. (e ≡ Memory)
+        ⊎ (fault_of F.reading (levels_below path.now) (view value.now) ≡ Some e)) }
+    ensures fits { IfOk result (λ t. Fits path.now t) }
+{
+    read_at::<L, F>(alloc, value, LEVELS - path.len())
+}
+
+/// The same for a value that is to stand below so many keys.
+pub fn from_value_under<L: Drop, F: Form<L>>(
+    alloc: Global,
+    value: &Value,
+    depth: usize,
+) -> Result<Nested<L>, TreeFault>
+    requires { depth ≤ max_depth }
+    ensures read { MatchResult result
+        (λ t. (fault_of F.reading (max_depth + 1 - depth) (view value.now) ≡ None)
+        × (t ≡ rows_of F.reading (view value.now)))
+        (λ e. (e ≡ Memory)
+        ⊎ (fault_of F.reading (max_depth + 1 - depth) (view value.now) ≡ Some e)) }
+    ensures shallow { IfOk result (λ t. Shallow (max_depth + 1 - depth) t) }
+{
+    read_at::<L, F>(alloc, value, LEVELS - depth)
 }
 
 // The value, with so many levels left for its leaves.

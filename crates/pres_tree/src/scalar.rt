@@ -2,6 +2,7 @@
 
 use crate::fault::TreeFault;
 use crate::nested::Leaf;
+use crate::print::PrintedForm;
 use crate::read::Form;
 use crate::text::Text;
 use json::Writer;
@@ -16,7 +17,29 @@ pub enum Scalar {
     Text(Text),
 }
 
-impl Form<Scalar> for Scalar {
+impl Leaf for Scalar {
+    fn copy(&self, alloc: Global) -> Result<Scalar, AllocError> {
+        match self {
+            Scalar::Bool(truth) => Ok(Scalar::Bool(*truth)),
+            Scalar::Int(number) => Ok(Scalar::Int(*number)),
+            Scalar::Text(text) => Ok(Scalar::Text(text.copy(alloc)?)),
+        }
+    }
+
+    fn equal(&self, other: &Scalar) -> bool {
+        match (self, other) {
+            (Scalar::Bool(truth), Scalar::Bool(other)) => truth == other,
+            (Scalar::Int(number), Scalar::Int(other)) => number == other,
+            (Scalar::Text(text), Scalar::Text(other)) => text == other,
+            _ => false,
+        }
+    }
+}
+
+/// The form of scalars: truths, whole numbers and texts are themselves.
+pub struct ScalarForm {}
+
+impl Form<Scalar> for ScalarForm {
     ghost use Rattle.pres_tree.specs.Scalars.{scalar_reading};
 
     ghost reading = { scalar_reading };
@@ -44,38 +67,21 @@ impl Form<Scalar> for Scalar {
     }
 }
 
-impl Leaf for Scalar {
+impl PrintedForm<Scalar> for ScalarForm {
     ghost use Rattle.pres_tree.specs.Scalars.{scalar_printing};
 
     ghost printing = { scalar_printing };
 
-    fn copy(&self, alloc: Global) -> Result<Scalar, AllocError> {
-        match self {
-            Scalar::Bool(truth) => Ok(Scalar::Bool(*truth)),
-            Scalar::Int(number) => Ok(Scalar::Int(*number)),
-            Scalar::Text(text) => Ok(Scalar::Text(text.copy(alloc)?)),
-        }
-    }
-
-    fn equal(&self, other: &Scalar) -> bool {
-        match (self, other) {
-            (Scalar::Bool(truth), Scalar::Bool(other)) => truth == other,
-            (Scalar::Int(number), Scalar::Int(other)) => number == other,
-            (Scalar::Text(text), Scalar::Text(other)) => text == other,
-            _ => false,
-        }
-    }
-
-    fn print(&self, alloc: Global) -> Result<Value, AllocError> {
-        match self {
+    fn print(alloc: Global, scalar: &Scalar) -> Result<Value, AllocError> {
+        match scalar {
             Scalar::Bool(truth) => Ok(Value::Bool(*truth)),
             Scalar::Int(number) => Ok(Value::from(*number)),
             Scalar::Text(text) => Ok(Value::String(String::from_str(alloc, text.as_str())?)),
         }
     }
 
-    fn write(&self, out: &mut Writer) -> Result<(), AllocError> {
-        match self {
+    fn write(scalar: &Scalar, out: &mut Writer) -> Result<(), AllocError> {
+        match scalar {
             Scalar::Bool(truth) => out.boolean(*truth),
             Scalar::Int(number) => out.i64(*number),
             Scalar::Text(text) => out.string(text.as_str()),

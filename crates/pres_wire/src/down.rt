@@ -18,7 +18,7 @@ use crate::down_read::read_down;
 use crate::down_text::{push_text, reply_text, snap_text};
 use crate::fault::WireFault;
 use crate::values::Values;
-use pres_ids::{Count, Number, SessionId, Stamp, Why};
+use pres_ids::{Count, Number, SessionId, Stamp, Why, read_number};
 use pres_tree::{Path, Tree};
 use pres_write::Kept;
 use serde_json::Value;
@@ -168,13 +168,13 @@ impl Limit {
             _ => None,
         }
     }
+}
 
-    /// The limit whose number a JSON value is, none where it is no such number.
-    pub fn from_value(value: &Value) -> Option<Limit>
-        ensures { result ≡ limit_in (view value.now) }
-    {
-        Limit::of_number(Number::from_value(value)?)
-    }
+/// The limit whose number a JSON value is, none where it is no such number.
+pub fn read_limit(value: &Value) -> Option<Limit>
+    ensures { result ≡ limit_in (view value.now) }
+{
+    Limit::of_number(read_number(value)?)
 }
 
 impl Down {

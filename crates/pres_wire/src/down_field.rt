@@ -5,12 +5,14 @@ ghost use Rattle.serde_json.specs.View.{view};
 ghost use Rattle.pres_wire.specs.DownReads.{out_of, session_or_none, ops_field, out_field, why_field, limit_field, value_field, values_field, session_or_null_field, last_field, code_of, code_field};
 ghost use Rattle.pres_wire.specs.declared.fault.WireFault.TheVariants.{Memory};
 
-use crate::down::{Code, Limit};
+use crate::down::{Code, Limit, read_limit};
 use crate::fault::{Field, WireFault};
 use crate::field::number_field;
 use crate::part::{held_of, tree_of};
 use crate::values::Values;
-use pres_ids::{Count, Number, SessionId, Stamp, Why};
+use pres_ids::{
+    Count, Number, SessionId, Stamp, Why, read_count, read_session, read_stamp, read_why,
+};
 use pres_tree::Tree;
 use pres_write::Kept;
 use serde_json::Value;
@@ -22,7 +24,7 @@ pub(crate) fn ops_field(message: &Value) -> Result<Count, WireFault>
 {
     message
         .get(Field::Ops.name())
-        .and_then(Count::from_value)
+        .and_then(|value| read_count(value))
         .ok_or(WireFault::Field(Field::Ops))
 }
 
@@ -32,7 +34,7 @@ pub(crate) fn why_field(message: &Value) -> Result<Why, WireFault>
 {
     message
         .get(Field::Why.name())
-        .and_then(Why::from_value)
+        .and_then(|value| read_why(value))
         .ok_or(WireFault::Field(Field::Why))
 }
 
@@ -42,7 +44,7 @@ pub(crate) fn limit_field(message: &Value) -> Result<Limit, WireFault>
 {
     message
         .get(Field::Why.name())
-        .and_then(Limit::from_value)
+        .and_then(|value| read_limit(value))
         .ok_or(WireFault::Field(Field::Why))
 }
 
@@ -52,7 +54,7 @@ fn last_field(message: &Value) -> Result<Stamp, WireFault>
 {
     message
         .get(Field::Last.name())
-        .and_then(Stamp::from_value)
+        .and_then(|value| read_stamp(value))
         .ok_or(WireFault::Field(Field::Last))
 }
 
@@ -88,7 +90,7 @@ fn session_or_none(alloc: Global, value: &Value) -> Result<Option<Option<Session
     if value.is_null() {
         return Ok(Some(None));
     }
-    match SessionId::from_value(alloc, value)? {
+    match read_session(alloc, value)? {
         Some(session) => Ok(Some(Some(session))),
         None => Ok(None),
     }

@@ -14,7 +14,7 @@ use crate::down::{Code, Down, Limit};
 use crate::form::Form;
 use crate::part::{held_value, tree_value};
 use crate::values::Values;
-use pres_ids::{Count, Number, SessionId, Stamp, Why};
+use pres_ids::{Count, Number, SessionId, Stamp, Why, session_value, stamp_value};
 use pres_tree::{Path, Tree};
 use pres_write::Kept;
 use serde_json::{Value, json};
@@ -97,7 +97,7 @@ fn session_or_null(alloc: Global, session: &Option<SessionId>) -> Result<Value, 
     ensures low { IfOk result (λ _. depth (session_or_null session.now) ≤ 1) }
 {
     match session {
-        Some(session) => session.to_value(alloc),
+        Some(session) => session_value(alloc, session),
         None => Ok(Value::Null),
     }
 }
@@ -131,7 +131,7 @@ fn old_fault(
     ensures low { IfOk result (λ _. depth (session_or_null session.now) ≤ 1) }
     ensures last { IfOk result (λ _. stamp_in (stamp_json last) ≡ Some last) }
 {
-    let last = last.to_value(alloc)?;
+    let last = stamp_value(alloc, last)?;
     let form = Form::new(alloc).value(alloc, "last", last)?;
     let form = form.value(alloc, "code", Value::from(number))?;
     let session = session_or_null(alloc, session)?;

@@ -8,9 +8,9 @@ ghost use Rattle.pres_wire.specs.UpForms.{session_field, number_field, op_field,
 ghost use Rattle.pres_wire.specs.declared.fault.WireFault.TheVariants.{Memory};
 
 use crate::fault::{Field, WireFault};
-use pres_ids::{Number, SessionId};
+use pres_ids::{Number, SessionId, read_number, read_session};
 use pres_tree::{Path, TreeFault};
-use pres_write::{Op, Unconditional, WriteFault};
+use pres_write::{Op, Unconditional, WriteFault, read_op, read_unconditional};
 use serde_json::Value;
 use std::alloc::Global;
 
@@ -23,7 +23,7 @@ pub(crate) fn session_field(alloc: Global, message: &Value) -> Result<SessionId,
     let Some(value) = message.get(Field::Session.name()) else {
         return Err(WireFault::Field(Field::Session));
     };
-    match SessionId::from_value(alloc, value)? {
+    match read_session(alloc, value)? {
         Some(session) => Ok(session),
         None => Err(WireFault::Field(Field::Session)),
     }
@@ -35,7 +35,7 @@ pub(crate) fn number_field(message: &Value, field: Field) -> Result<Number, Wire
 {
     message
         .get(field.name())
-        .and_then(Number::from_value)
+        .and_then(|value| read_number(value))
         .ok_or(WireFault::Field(field))
 }
 
@@ -68,7 +68,7 @@ pub(crate) fn op_field(alloc: Global, message: &Value) -> Result<Op, WireFault>
         (λ e. (e ≡ Memory) ⊎ (op_field (view message.now) ≡ Err e)) }
 {
     let value = op_value(message)?;
-    match Op::from_value(alloc, value) {
+    match read_op(alloc, value) {
         Ok(op) => Ok(op),
         Err(fault) => Err(refusal(fault)),
     }
@@ -81,7 +81,7 @@ pub(crate) fn left_field(alloc: Global, message: &Value) -> Result<Unconditional
         (λ e. (e ≡ Memory) ⊎ (left_field (view message.now) ≡ Err e)) }
 {
     let value = op_value(message)?;
-    match Unconditional::from_value(alloc, value) {
+    match read_unconditional(alloc, value) {
         Ok(Some(op)) => Ok(op),
         Ok(None) => Err(WireFault::Field(Field::Op)),
         Err(fault) => Err(refusal(fault)),

@@ -6,7 +6,7 @@ ghost use Rattle.pres_tree.specs.Printing.{tokens_of, IsPlain};
 ghost use Rattle.pres_ids.specs.Forms.{whole, session_json, message_number, session_of};
 
 use json::Writer;
-use pres_ids::{Number, SessionId};
+use pres_ids::{Number, SessionId, write_number, write_session};
 use std::alloc::AllocError;
 
 /// Writes the number under the name.
@@ -18,7 +18,7 @@ pub fn number_field(out: &mut Writer, name: &str, number: Number) -> Result<(), 
     ensures reads_back { message_number (whole number) ≡ Some number }
 {
     out.key(name)?;
-    number.write(out)
+    write_number(number, out)
 }
 
 /// Writes the text under the name.
@@ -40,5 +40,5 @@ pub fn session_field(out: &mut Writer, session: &SessionId) -> Result<(), AllocE
     ensures reads_back { OnOk result (session_of (session_json session.now) ≡ Some session.now) }
 {
     out.key("s")?;
-    session.write(out)
+    write_session(session, out)
 }

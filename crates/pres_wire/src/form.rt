@@ -5,7 +5,7 @@ ghost use Rattle.serde_json.specs.Data.{object, string, no_members, put as with_
 ghost use Rattle.serde_json.specs.View.{view, members_view};
 ghost use Rattle.pres_ids.specs.Forms.{whole, session_json, message_number, session_of};
 
-use pres_ids::{Number, SessionId};
+use pres_ids::{Number, SessionId, session_value};
 use serde_json::{Map, Value};
 use std::alloc::{AllocError, Global};
 
@@ -76,7 +76,7 @@ impl Form {
         ensures reads_back { IfOk result (λ _.
             session_of (session_json session.now) ≡ Some session.now) }
     {
-        let session = session.to_value(alloc)?;
+        let session = session_value(alloc, session)?;
         let form = self.value(alloc, "s", session)?;
         form.done(alloc, word)
     }

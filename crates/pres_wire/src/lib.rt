@@ -14,7 +14,7 @@ pub mod part;
 mod up;
 mod values;
 
-pub use down::{Code, Down, Limit};
+pub use down::{Code, Down, Limit, read_limit};
 pub use fault::{Field, WireFault};
 pub use form::Form;
 pub use pres_ids::{ClientId, Count, IdFault, Number, SessionId, Stamp, Why};

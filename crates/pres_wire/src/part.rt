@@ -11,7 +11,7 @@ ghost use Rattle.pres_wire.specs.Fields.{path_in, path_of};
 ghost use Rattle.pres_wire.specs.DownReads.{value_of};
 
 use json::Writer;
-use pres_tree::{Path, Tree, TreeFault};
+use pres_tree::{Path, Scalar, ScalarForm, Tree, TreeFault, from_value, to_value, write_value};
 use pres_write::Op;
 use serde_json::Value;
 use std::alloc::{AllocError, Global};
@@ -41,7 +41,7 @@ pub fn path_of(alloc: Global, value: &Value) -> Result<Option<Path>, AllocError>
 pub fn tree_of(alloc: Global, value: &Value) -> Result<Option<Tree>, AllocError>
     ensures { IfOk result (λ found. found ≡ value_of (view value.now)) }
 {
-    match Tree::from_value(alloc, value) {
+    match from_value::<Scalar, ScalarForm>(alloc, value) {
         Ok(tree) => Ok(Some(tree)),
         Err(TreeFault::Memory) => Err(AllocError),
         Err(_) => Ok(None),
@@ -57,7 +57,7 @@ pub fn tree_value(alloc: Global, tree: &Tree) -> Result<Value, AllocError>
 {
     // it ensures that the tree is a value
     let _ = tree.depth();
-    tree.to_value(alloc)
+    to_value::<Scalar, ScalarForm>(alloc, tree)
 }
 
 /// Writes the JSON value of a tree, which is read as the tree, and nests few levels. At AllocError
@@ -73,7 +73,7 @@ pub fn write_tree(out: &mut Writer, tree: &Tree) -> Result<(), AllocError>
 {
     // it ensures that the tree is a value
     let _ = tree.depth();
-    tree.write(out)
+    write_value::<Scalar, ScalarForm>(tree, out)
 }
 
 /// A place's value, none where nothing stands there.
@@ -102,5 +102,5 @@ pub fn op_value(alloc: Global, op: &Op) -> Result<Value, AllocError>
     ensures reads_back { IfOk result (λ _. op_read (op_json op.now) ≡ Ok op.now) }
     ensures low { IfOk result (λ _. depth (op_json op.now) ≤ 64) }
 {
-    op.to_value(alloc)
+    pres_write::op_value(alloc, op)
 }

@@ -417,5 +417,5 @@ fn unconditional_value(alloc: Global, op: &Unconditional) -> Result<Value, Alloc
         unconditional_read (op_json (as_op op.now)) ≡ Ok (Some op.now)) }
     ensures low { IfOk result (λ _. depth (op_json (as_op op.now)) ≤ 64) }
 {
-    op.to_value(alloc)
+    pres_write::unconditional_value(alloc, op)
 }

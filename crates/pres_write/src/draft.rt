@@ -7,7 +7,7 @@ ghost use Rattle.pres_write.specs.Drafts.{is_timestamp, settled, slot_printing};
 
 use crate::moment::Moment;
 use json::Writer;
-use pres_tree::{Change, Form, Leaf, Nested, Scalar, Tree, TreeFault};
+use pres_tree::{Change, Form, Leaf, Nested, PrintedForm, Scalar, ScalarForm, Tree, TreeFault};
 use serde_json::{Value, json};
 use std::alloc::{AllocError, Global};
 
@@ -57,7 +57,27 @@ fn write_timestamp(out: &mut Writer) -> Result<(), AllocError>
     out.end_object()
 }
 
-impl Form<Slot> for Slot {
+impl Leaf for Slot {
+    fn copy(&self, alloc: Global) -> Result<Slot, AllocError> {
+        match self {
+            Slot::Fixed(scalar) => Ok(Slot::Fixed(scalar.copy(alloc)?)),
+            Slot::Timestamp => Ok(Slot::Timestamp),
+        }
+    }
+
+    fn equal(&self, other: &Slot) -> bool {
+        match (self, other) {
+            (Slot::Fixed(scalar), Slot::Fixed(other)) => scalar.equal(other),
+            (Slot::Timestamp, Slot::Timestamp) => true,
+            _ => false,
+        }
+    }
+}
+
+/// The form of drafts: scalars are themselves, and a placeholder is an object of one member.
+pub struct SlotForm {}
+
+impl Form<Slot> for SlotForm {
     ghost use Rattle.pres_write.specs.Drafts.{slot_reading};
 
     ghost reading = { slot_reading };
@@ -65,7 +85,7 @@ impl Form<Slot> for Slot {
     fn is_leaf(value: &Value) -> bool {
         match value {
             Value::Object(_) => value.get(PLACEHOLDER).is_some(),
-            _ => Scalar::is_leaf(value),
+            _ => ScalarForm::is_leaf(value),
         }
     }
 
@@ -81,41 +101,26 @@ impl Form<Slot> for Slot {
                 }
                 None => unreachable!(),
             },
-            _ => Ok(Slot::Fixed(Scalar::read(alloc, value)?)),
+            _ => Ok(Slot::Fixed(ScalarForm::read(alloc, value)?)),
         }
     }
 }
 
-impl Leaf for Slot {
+impl PrintedForm<Slot> for SlotForm {
     ghost use Rattle.pres_write.specs.Drafts.{slot_printing};
 
     ghost printing = { slot_printing };
 
-    fn copy(&self, alloc: Global) -> Result<Slot, AllocError> {
-        match self {
-            Slot::Fixed(scalar) => Ok(Slot::Fixed(scalar.copy(alloc)?)),
-            Slot::Timestamp => Ok(Slot::Timestamp),
-        }
-    }
-
-    fn equal(&self, other: &Slot) -> bool {
-        match (self, other) {
-            (Slot::Fixed(scalar), Slot::Fixed(other)) => scalar.equal(other),
-            (Slot::Timestamp, Slot::Timestamp) => true,
-            _ => false,
-        }
-    }
-
-    fn print(&self, alloc: Global) -> Result<Value, AllocError> {
-        match self {
-            Slot::Fixed(scalar) => scalar.print(alloc),
+    fn print(alloc: Global, slot: &Slot) -> Result<Value, AllocError> {
+        match slot {
+            Slot::Fixed(scalar) => ScalarForm::print(alloc, scalar),
             Slot::Timestamp => timestamp(alloc),
         }
     }
 
-    fn write(&self, out: &mut Writer) -> Result<(), AllocError> {
-        match self {
-            Slot::Fixed(scalar) => scalar.write(out),
+    fn write(slot: &Slot, out: &mut Writer) -> Result<(), AllocError> {
+        match slot {
+            Slot::Fixed(scalar) => ScalarForm::write(scalar, out),
             Slot::Timestamp => write_timestamp(out),
         }
     }
@@ -139,14 +144,14 @@ impl Form<Scalar> for FixedForm {
     fn is_leaf(value: &Value) -> bool {
         match value {
             Value::Object(_) => value.get(PLACEHOLDER).is_some(),
-            _ => Scalar::is_leaf(value),
+            _ => ScalarForm::is_leaf(value),
         }
     }
 
     fn read(alloc: Global, value: &Value) -> Result<Scalar, TreeFault> {
         match value {
             Value::Object(_) => Err(TreeFault::Placeholder),
-            _ => Scalar::read(alloc, value),
+            _ => ScalarForm::read(alloc, value),
         }
     }
 }

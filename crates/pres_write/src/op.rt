@@ -1,9 +1,10 @@
 //! Operations, in code and in JSON, and what they come to.
 
-ghost use Rattle.std.specs.Prelude.{◌≡◌, [], IfOk, IfErr, Ok, Err, MatchResult, codes, string_bytes};
+ghost use Rattle.std.specs.Prelude.{◌≡◌, ◌++◌, [], IfOk, IfErr, OnOk, Ok, Err, MatchResult, codes, string_bytes};
 ghost use Rattle.std.specs.Option.{option_and_then};
 ghost use Rattle.serde_json.specs.Data.{null, object, string, put as with_member};
 ghost use Rattle.serde_json.specs.View.{view, members_view};
+ghost use Rattle.pres_tree.specs.Printing.{tokens_of, IsPlain};
 ghost use Rattle.pres_tree.specs.declared.fault.TreeFault.TheVariants.{Memory};
 ghost use Rattle.serde_json.specs.Find.{as_object, get};
 ghost use Rattle.pres_write.specs.Basics.{Apart};
@@ -11,14 +12,15 @@ ghost use Rattle.pres_write.specs.Outcomes.{resolved, writes_in};
 ghost use Rattle.pres_write.specs.OpForms.{op_read, form_read, set_read, update_read, tx_read, with_part, IsRefusal, op_json, set_form, update_form, tx_form};
 ghost use Rattle.pres_write.specs.declared.fault.WriteFault.TheVariants.{Tree as TreeRefused};
 
-use crate::draft::{Draft, FixedForm};
+use crate::draft::{FixedForm, Slot, SlotForm};
 use crate::fault::WriteFault;
 use crate::moment::Moment;
 use crate::outcome::{Outcome, one_moved, one_write};
 use crate::placement::Placement;
 use crate::transaction::Transaction;
 use crate::update::Update;
-use pres_tree::{Path, Tree};
+use json::Writer;
+use pres_tree::{Path, Scalar, ScalarForm, Tree, from_value_below, to_value, write_value};
 use serde_json::{Map, Value};
 use std::alloc::{AllocError, Global};
 
@@ -97,8 +99,8 @@ fn tx_value(alloc: Global, tx: &Transaction) -> Result<Value, AllocError>
     ensures reads_back { IfOk result (λ made. op_read (view made) ≡ Ok (Op.Tx tx.now)) }
 {
     let path = tx.path().text(alloc)?;
-    let expect = tx.expect().to_value(alloc)?;
-    let Ok(value) = tx.draft().to_value(alloc) else {
+    let expect = to_value::<Scalar, ScalarForm>(alloc, tx.expect())?;
+    let Ok(value) = to_value::<Slot, SlotForm>(alloc, tx.draft()) else {
         drop(expect);
         return Err(AllocError);
     };
@@ -111,7 +113,7 @@ pub(crate) fn set_value(alloc: Global, placement: &Placement) -> Result<Value, A
     ensures reads_back { IfOk result (λ made. op_read (view made) ≡ Ok (Op.Set placement.now)) }
 {
     let path = placement.path().text(alloc)?;
-    let value = placement.draft().to_value(alloc)?;
+    let value = to_value::<Slot, SlotForm>(alloc, placement.draft())?;
     set_form(alloc, path, value)
 }
 
@@ -122,7 +124,7 @@ fn read_set(alloc: Global, text: &str, value: &Value) -> Result<Op, WriteFault>
         (λ e. IsRefusal (set_read text.now (view value.now)) e) }
 {
     let path = Path::parse(alloc, text)?;
-    let draft = Draft::from_value_below(alloc, value, &path)?;
+    let draft = from_value_below::<Slot, SlotForm>(alloc, value, &path)?;
     Ok(Op::Set(Placement::fitting(path, draft)))
 }
 
@@ -174,8 +176,8 @@ fn read_comparison(
         (λ e. IsRefusal (tx_read text.now (view expect.now) (view value.now)) e) }
 {
     let path = Path::parse(alloc, text)?;
-    let expect = Tree::from_value_as::<FixedForm>(alloc, expect, &path)?;
-    match Draft::from_value_below(alloc, value, &path) {
+    let expect = from_value_below::<Scalar, FixedForm>(alloc, expect, &path)?;
+    match from_value_below::<Slot, SlotForm>(alloc, value, &path) {
         Ok(new) => Ok(Op::Tx(Transaction::fitting(path, expect, new))),
         Err(fault) => {
             drop(expect);
@@ -216,38 +218,59 @@ fn read_form(alloc: Global, value: &Value, word: &str, text: &str) -> Result<Op,
     }
 }
 
+/// The operation of a JSON value. Names that no form has are ignored. Refused, in this order:
+/// Shape; what the path is refused for; of a set what the value is refused for below that
+/// path, of an update ManyPaths, then in byte order of the names what each name as a path and
+/// its value are refused for, then Overlap, of a transaction what the expected value and then
+/// the new one are refused for. Memory comes only where it isn't Shape.
+pub fn read_op(alloc: Global, value: &Value) -> Result<Op, WriteFault>
+    ensures { MatchResult result
+        (λ op. op_read (view value.now) ≡ Ok op)
+        (λ e. IsRefusal (op_read (view value.now)) e) }
+{
+    let Some(word) = value.get("op").and_then(Value::as_str) else {
+        return Err(WriteFault::Shape);
+    };
+    let Some(text) = value.get("path").and_then(Value::as_str) else {
+        return Err(WriteFault::Shape);
+    };
+    read_form(alloc, value, word, text)
+}
+
+/// The JSON value of the operation. Read again, it is an equal operation.
+pub fn op_value(alloc: Global, op: &Op) -> Result<Value, AllocError>
+    ensures json { IfOk result (λ made. view made ≡ op_json op.now) }
+    ensures reads_back { IfOk result (λ made. op_read (view made) ≡ Ok op.now) }
+{
+    match op {
+        Op::Set(placement) => set_value(alloc, placement),
+        Op::Update(update) => update_value(alloc, update),
+        Op::Tx(tx) => tx_value(alloc, tx),
+    }
+}
+
+/// Writes the JSON value of the set of a draft at its path. Read again, it is an equal operation.
+/// At AllocError some of it may have been written.
+pub fn write_set(alloc: Global, placement: &Placement, out: &mut Writer) -> Result<(), AllocError>
+    ensures ok { OnOk result
+        (out.new.tokens ≡ out.old.tokens ++ tokens_of (op_json (Op.Set placement.now))) }
+    ensures before { out.new.before ≡ out.old.before }
+    ensures plain { OnOk result (IsPlain (op_json (Op.Set placement.now))) }
+    ensures reads_back { OnOk result (op_read (op_json (Op.Set placement.now)) ≡ Ok (Op.Set placement.now)) }
+{
+    // it ensures that the draft fits at the path
+    let text = placement.path().text(alloc)?;
+    out.begin_object()?;
+    out.key("op")?;
+    out.string("set")?;
+    out.key("path")?;
+    out.string(text.as_str())?;
+    out.key("value")?;
+    write_value::<Slot, SlotForm>(placement.draft(), out)?;
+    out.end_object()
+}
+
 impl Op {
-    /// The operation of a JSON value. Names that no form has are ignored. Refused, in this order:
-    /// Shape; what the path is refused for; of a set what the value is refused for below that
-    /// path, of an update ManyPaths, then in byte order of the names what each name as a path and
-    /// its value are refused for, then Overlap, of a transaction what the expected value and then
-    /// the new one are refused for. Memory comes only where it isn't Shape.
-    pub fn from_value(alloc: Global, value: &Value) -> Result<Op, WriteFault>
-        ensures { MatchResult result
-            (λ op. op_read (view value.now) ≡ Ok op)
-            (λ e. IsRefusal (op_read (view value.now)) e) }
-    {
-        let Some(word) = value.get("op").and_then(Value::as_str) else {
-            return Err(WriteFault::Shape);
-        };
-        let Some(text) = value.get("path").and_then(Value::as_str) else {
-            return Err(WriteFault::Shape);
-        };
-        read_form(alloc, value, word, text)
-    }
-
-    /// The JSON value of the operation. Read again, it is an equal operation.
-    pub fn to_value(&self, alloc: Global) -> Result<Value, AllocError>
-        ensures json { IfOk result (λ made. view made ≡ op_json self.now) }
-        ensures reads_back { IfOk result (λ made. op_read (view made) ≡ Ok self.now) }
-    {
-        match self {
-            Op::Set(placement) => set_value(alloc, placement),
-            Op::Update(update) => update_value(alloc, update),
-            Op::Tx(tx) => tx_value(alloc, tx),
-        }
-    }
-
     /// What the operation comes to on the tree at the moment. Memory is the one refusal.
     pub fn resolve(&self, alloc: Global, tree: &Tree, moment: Moment) -> Result<Outcome, WriteFault>
         ensures outcome { IfOk result (λ outcome. outcome ≡ resolved tree.now moment self.now) }

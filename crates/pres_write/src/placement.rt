@@ -1,14 +1,10 @@
 //! Drafts at their paths.
 
-ghost use Rattle.std.specs.Prelude.{◌≡◌, ◌+◌, ◌<◌, ◌++◌, length, Ok, IfOk, OnOk, MatchResult};
+ghost use Rattle.std.specs.Prelude.{◌≡◌, ◌+◌, ◌<◌, length, IfOk, MatchResult};
 ghost use Rattle.pres_tree.specs.Paths.{IsPath, max_depth};
 ghost use Rattle.pres_tree.specs.Rows.{Fits, depth_of};
-ghost use Rattle.pres_tree.specs.Printing.{tokens_of, IsPlain};
-ghost use Rattle.pres_write.specs.OpForms.{op_json, op_read};
-ghost use Rattle.pres_write.specs.declared.op.Op.TheVariants as op;
 
 use crate::draft::Draft;
-use json::Writer;
 use pres_tree::{MAX_DEPTH, Path, TreeFault};
 use std::alloc::{AllocError, Global};
 use std::marker::Model;
@@ -87,27 +83,6 @@ impl Placement {
     {
         let Placement { path, draft } = self;
         (path, draft)
-    }
-
-    /// Writes the JSON value of the set of the draft at the path. Read again, it is an equal operation.
-    /// At AllocError some of it may have been written.
-    pub fn write_set(&self, alloc: Global, out: &mut Writer) -> Result<(), AllocError>
-        ensures ok { OnOk result
-            (out.new.tokens ≡ out.old.tokens ++ tokens_of (op_json (op.Set self.now))) }
-        ensures before { out.new.before ≡ out.old.before }
-        ensures plain { OnOk result (IsPlain (op_json (op.Set self.now))) }
-        ensures reads_back { OnOk result (op_read (op_json (op.Set self.now)) ≡ Ok (op.Set self.now)) }
-    {
-        // it ensures that the draft fits at the path
-        let text = self.path().text(alloc)?;
-        out.begin_object()?;
-        out.key("op")?;
-        out.string("set")?;
-        out.key("path")?;
-        out.string(text.as_str())?;
-        out.key("value")?;
-        self.draft.write(out)?;
-        out.end_object()
     }
 
     /// An equal placement.

@@ -6,7 +6,7 @@ ghost use Rattle.pres_write.specs.OpForms.{IsRefusal, is_tx, op_json, op_read};
 ghost use Rattle.pres_write.specs.Unconditionals.{as_op, puts_of, unconditional_of, unconditional_read};
 
 use crate::fault::WriteFault;
-use crate::op::{Op, set_value, update_value};
+use crate::op::{Op, read_op, set_value, update_value};
 use crate::placement::Placement;
 use crate::puts::Puts;
 use crate::update::Update;
@@ -33,21 +33,34 @@ fn is_tx(value: &Value) -> bool
     }
 }
 
-impl Unconditional {
-    /// The operation of a JSON value, none for a transaction: an object whose `op` is the text
-    /// "tx", whatever else it holds. Refused as `Op::from_value` refuses.
-    pub fn from_value(alloc: Global, value: &Value) -> Result<Option<Unconditional>, WriteFault>
-        ensures { MatchResult result
-            (λ found. unconditional_read (view value.now) ≡ Ok found)
-            (λ e. IsRefusal (unconditional_read (view value.now)) e) }
-    {
-        if is_tx(value) {
-            return Ok(None);
-        }
-        let op = Op::from_value(alloc, value)?;
-        Ok(Unconditional::of(op))
+/// The operation of a JSON value, none for a transaction: an object whose `op` is the text
+/// "tx", whatever else it holds. Refused as `read_op` refuses.
+pub fn read_unconditional(alloc: Global, value: &Value) -> Result<Option<Unconditional>, WriteFault>
+    ensures { MatchResult result
+        (λ found. unconditional_read (view value.now) ≡ Ok found)
+        (λ e. IsRefusal (unconditional_read (view value.now)) e) }
+{
+    if is_tx(value) {
+        return Ok(None);
     }
+    let op = read_op(alloc, value)?;
+    Ok(Unconditional::of(op))
+}
 
+/// The JSON value of the operation. Read again, it is an equal one.
+pub fn unconditional_value(alloc: Global, op: &Unconditional) -> Result<Value, AllocError>
+    ensures json { IfOk result (λ made. view made ≡ op_json (as_op op.now)) }
+    ensures reads_back { IfOk result (λ made. op_read (view made) ≡ Ok (as_op op.now)) }
+    ensures reads_so { IfOk result (λ made.
+        unconditional_read (view made) ≡ Ok (Some op.now)) }
+{
+    match op {
+        Unconditional::Set(placement) => set_value(alloc, placement),
+        Unconditional::Update(update) => update_value(alloc, update),
+    }
+}
+
+impl Unconditional {
     /// The operation, which is moved; none where it is a transaction.
     pub fn of(op: Op) -> Option<Unconditional>
         ensures { result ≡ unconditional_of op }
@@ -59,19 +72,6 @@ impl Unconditional {
                 drop(tx);
                 None
             }
-        }
-    }
-
-    /// The JSON value of the operation. Read again, it is an equal one.
-    pub fn to_value(&self, alloc: Global) -> Result<Value, AllocError>
-        ensures json { IfOk result (λ made. view made ≡ op_json (as_op self.now)) }
-        ensures reads_back { IfOk result (λ made. op_read (view made) ≡ Ok (as_op self.now)) }
-        ensures reads_so { IfOk result (λ made.
-            unconditional_read (view made) ≡ Ok (Some self.now)) }
-    {
-        match self {
-            Unconditional::Set(placement) => set_value(alloc, placement),
-            Unconditional::Update(update) => update_value(alloc, update),
         }
     }
 

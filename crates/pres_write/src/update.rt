@@ -16,13 +16,13 @@ ghost use Rattle.pres_write.specs.Updates.{FitsBelow, most_places, is_deep_below
 ghost use Rattle.pres_write.specs.declared.fault.WriteFault.TheVariants.{Tree as TreeRefused};
 
 use crate::basic::{Basic, moved_write, settled_write};
-use crate::draft::Draft;
+use crate::draft::{Draft, Slot, SlotForm};
 use crate::fault::WriteFault;
 use crate::items::Items;
 use crate::moment::Moment;
 use crate::placement::Placement;
 use crate::puts::Puts;
-use pres_tree::{MAX_DEPTH, Path, TreeFault};
+use pres_tree::{MAX_DEPTH, Path, TreeFault, from_value_under, to_value};
 use serde_json::{Map, Value};
 use std::alloc::{AllocError, Global};
 use std::collections::BTreeMap;
@@ -112,11 +112,11 @@ fn in_order(
 }
 
 impl Update {
-    /// The update of the drafts under their names, path texts below the path. Refused, in this
-    /// order: ManyPaths, then in byte order of the names what a name is refused for as a path,
-    /// TooDeep, what its draft is refused for, and at last Overlap. Memory comes only where
-    /// the names are not too many.
-    pub fn from_members(
+    // The update of the drafts under their names, path texts below the path. Refused, in this
+    // order: ManyPaths, then in byte order of the names what a name is refused for as a path,
+    // TooDeep, what its draft is refused for, and at last Overlap. Memory comes only where
+    // the names are not too many.
+    pub(crate) fn from_members(
         alloc: Global,
         path: Path,
         members: &Map<String, Value>,
@@ -177,8 +177,8 @@ impl Update {
         &self.path
     }
 
-    /// The JSON object of the drafts under their names. Read again, it is the same update.
-    pub fn values(&self, alloc: Global) -> Result<Map<String, Value>, AllocError>
+    // The JSON object of the drafts under their names. Read again, it is the same update.
+    pub(crate) fn values(&self, alloc: Global) -> Result<Map<String, Value>, AllocError>
         ensures json { IfOk result (λ made.
             members_view made.entries ≡ values_json self.now.places) }
         ensures reads_back { IfOk result (λ made.
@@ -187,7 +187,8 @@ impl Update {
         let mut values = Map::new(alloc);
         for (place, draft) in self.places.iter() {
             let name = place.name(alloc)?;
-            drop(values.insert(name, draft.to_value(alloc)?)?);
+            let value = to_value::<Slot, SlotForm>(alloc, draft)?;
+            drop(values.insert(name, value)?);
         }
         Ok(values)
     }
@@ -271,7 +272,7 @@ fn read_place(
     if depth > MAX_DEPTH {
         return Err(TreeFault::TooDeep);
     }
-    let draft = Draft::from_value_under(alloc, value, depth)?;
+    let draft = from_value_under::<Slot, SlotForm>(alloc, value, depth)?;
     Ok((place, draft))
 }
 

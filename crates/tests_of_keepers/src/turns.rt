@@ -6,6 +6,7 @@ use pres_keeper::{Keeper, Unsettled, settle};
 use pres_server::{
     Batch, Busy, ClientId, Down, Fault, Input, Moment, Path, ReplayFault, Server, Turn, Up,
 };
+use pres_tree::TreeJson;
 use std::alloc::Global;
 use std::process::Abort;
 

@@ -3,8 +3,9 @@
 
 use crate::said::expect_text;
 use pres_log::{Batch, Entry, Fault, Log, Plain};
+use pres_tree::TreeJson;
 use pres_wire::{ClientId, Number, SessionId, Stamp, Why};
-use pres_write::{Items, Kept, Moment, Op};
+use pres_write::{Items, Kept, Moment, Op, OpJson};
 use serde_json::Value;
 use std::alloc::Global;
 use std::process::Abort;

@@ -9,9 +9,9 @@ ghost use Rattle.pres_tree.specs.Paths.{overlap};
 
 use crate::said::{expect_said, expect_text};
 use pres_plan::{Action, Plan, PlanFault};
-use pres_tree::{Path, Tree};
+use pres_tree::{Path, Tree, TreeJson};
 use pres_wire::Number;
-use pres_write::{Basic, Draft, Items, Moment, Placement, apply};
+use pres_write::{Basic, Draft, DraftJson, Items, Moment, Placement, apply};
 use serde_json::Value;
 use std::alloc::Global;
 use std::process::Abort;

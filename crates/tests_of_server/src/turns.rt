@@ -12,6 +12,7 @@ use pres_server::{
     Batch, Busy, ClientId, Count, Down, Entry, Fault, Input, Limit, Log, Moment, Number, Outcome,
     Path, Row, Server, SessionId, Turn, Up, Why,
 };
+use pres_tree::TreeJson;
 use std::alloc::Global;
 use std::process::Abort;
 

@@ -10,7 +10,8 @@ use pres_client::{Answer, Call, Client, ClientFault, Notice};
 use pres_server::{
     ClientId, Down, Input, Items, Moment, Number, Path, Server, SessionId, Tree, Turn, Up,
 };
-use pres_write::Draft;
+use pres_tree::TreeJson;
+use pres_write::{Draft, DraftJson};
 use serde_json::Value;
 use std::alloc::Global;
 use std::process::Abort;

@@ -7,7 +7,7 @@ use pres_drive::{Line, drive_client};
 use pres_ids::{ClientId, Number};
 use pres_tree::Path;
 use pres_websocket::SockFault;
-use pres_write::Draft;
+use pres_write::{Draft, DraftJson};
 use rtrb::{Consumer, Producer, RingBuffer};
 use serde_json::Value;
 use std::alloc::{AllocError, Global};

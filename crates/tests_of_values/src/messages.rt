@@ -2,6 +2,7 @@
 //! lines, each a case and what it must answer. Each helper holds one message at most.
 
 use crate::said::{expect_said, expect_text};
+use pres_ids::{read_session, session_value, stamp_value};
 use pres_tree::{Path, Scalar, Tree};
 use pres_wire::{
     ClientId, Code, Count, Down, Field, IdFault, Limit, MAX_TEXT_BYTES, Number, PathValue,
@@ -101,7 +102,7 @@ fn sessions_are_copied(rt: HostRuntime) {
 
 fn session_in(rt: &impl Abort, alloc: Global, text: &str) -> Option<SessionId> {
     let value = Value::from_str(alloc, text).expect(rt, "JSON");
-    let session = SessionId::from_value(alloc, &value);
+    let session = read_session(alloc, &value);
     drop(value);
     session.expect(rt, "a session")
 }
@@ -114,11 +115,15 @@ fn json_text(rt: &impl Abort, alloc: Global, value: Value) -> String {
 
 // The JSON of the session and of its stamp.
 fn session_json(rt: &impl Abort, alloc: Global, session: &SessionId) -> String {
-    let whole = json_text(rt, alloc, session.to_value(alloc).expect(rt, "memory"));
+    let whole = json_text(
+        rt,
+        alloc,
+        session_value(alloc, session).expect(rt, "memory"),
+    );
     let stamp = json_text(
         rt,
         alloc,
-        session.stamp().to_value(alloc).expect(rt, "memory"),
+        stamp_value(alloc, session.stamp()).expect(rt, "memory"),
     );
     format!(in alloc; "{whole} {stamp}").expect(rt, "memory")
 }

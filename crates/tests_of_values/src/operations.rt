@@ -5,10 +5,11 @@ ghost use Rattle.pres_write.specs.Basics.{Apart};
 ghost use Rattle.pres_write.specs.Outcomes.{writes_in};
 
 use crate::said::{expect_said, expect_text};
-use pres_tree::{Path, Scalar, Tree, TreeFault};
+use pres_tree::{Path, Scalar, Tree, TreeFault, TreeJson, to_value};
 use pres_write::{
-    Basic, Draft, Items, Kept, Moment, Op, Outcome, Placement, Puts, Transaction, Unconditional,
-    WriteFault, apply, apply_all, copy_writes,
+    Basic, Draft, DraftJson, Items, Kept, Moment, Op, OpJson, Outcome, Placement, Puts, Slot,
+    SlotForm, Transaction, Unconditional, WriteFault, apply, apply_all, copy_writes,
+    read_unconditional, unconditional_value,
 };
 use serde_json::Value;
 use std::alloc::Global;
@@ -337,17 +338,17 @@ fn tx_form(rt: &impl Abort, alloc: Global, case: &str) -> String {
 
 fn unconditional_of(rt: &impl Abort, alloc: Global, text: &str) -> Option<Unconditional> {
     let value = value_of(rt, alloc, text);
-    let op = Unconditional::from_value(alloc, &value);
+    let op = read_unconditional(alloc, &value);
     drop(value);
     op.expect(rt, "an operation")
 }
 
 // The same, printed and read again.
 fn read_again(rt: &impl Abort, alloc: Global, op: Unconditional) -> Unconditional {
-    let value = op.to_value(alloc);
+    let value = unconditional_value(alloc, &op);
     drop(op);
     let value = value.expect(rt, "memory");
-    let again = Unconditional::from_value(alloc, &value);
+    let again = read_unconditional(alloc, &value);
     drop(value);
     again.expect(rt, "an operation").expect(rt, "a transaction")
 }
@@ -374,7 +375,7 @@ fn puts_of(rt: &impl Abort, alloc: Global, op: Unconditional) -> Puts {
 
 fn put_text(rt: &impl Abort, alloc: Global, put: &Placement) -> String {
     let path = put.path().text(alloc).expect(rt, "memory");
-    let value = put.draft().to_value(alloc).expect(rt, "memory");
+    let value = to_value::<Slot, SlotForm>(alloc, put.draft()).expect(rt, "memory");
     format!(in alloc; " {path} {value}").expect(rt, "memory")
 }
 

@@ -4,7 +4,9 @@
 ghost use Rattle.pres_tree.specs.Rows.{Fits};
 
 use crate::said::{expect_said, expect_text};
-use pres_tree::{Key, MAX_DEPTH, Path, Scalar, Text, Tree, TreeFault};
+use pres_tree::{
+    Key, MAX_DEPTH, Path, Scalar, ScalarForm, Text, Tree, TreeFault, TreeJson, from_value_below,
+};
 use serde_json::Value;
 use std::alloc::Global;
 use std::cmp::Ordering;
@@ -245,7 +247,7 @@ fn value_below(rt: &impl Abort, alloc: Global, path: &Path, text: &str) -> Tree
     ensures fits { Fits path.now result }
 {
     let value = Value::from_str(alloc, text).expect(rt, "JSON");
-    let tree = Tree::from_value_below(alloc, &value, path);
+    let tree = from_value_below::<Scalar, ScalarForm>(alloc, &value, path);
     drop(value);
     tree.expect(rt, "a tree")
 }

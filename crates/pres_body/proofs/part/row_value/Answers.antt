@@ -8,7 +8,7 @@ use Rattle.std.proofs.lemmas.Grind.{common_steps}
 pub returns-clause-rows : goal.returns-clause-rows
 returns-clause-rows g c =
     let v = c.args.rows.now in
-    below_read g.L.Form.reading c.args.path.now v (view c.in_ok-to_value.field-0) (json_of g.L.Leaf.printing v) c.requires c.in_ok-to_value.ensures.json c.in_ok-to_value.ensures.reads_back
+    below_read g.P.Form.reading c.args.path.now v (view c.in_ok-to_value.field-0) (json_of g.P.PrintedForm.printing v) c.requires c.in_ok-to_value.ensures.json c.in_ok-to_value.ensures.reads_back
 
 pub returns-clause-path : goal.returns-clause-path
 returns-clause-path g c = grind (arith, common_steps)

@@ -9,8 +9,8 @@ use Rattle.std.proofs.lemmas.Grind.{common_steps}
 pub returns-clause-rows : goal.returns-clause-rows
 returns-clause-rows g c =
     let v = c.args.rows.now in
-    let d = json_of g.L.Leaf.printing v in
-    on_any c.end_array.result (below_read g.L.Form.reading c.args.path.now v d d c.requires refl c.in_ok-write.ensures.reads_back)
+    let d = json_of g.P.PrintedForm.printing v in
+    on_any c.end_array.result (below_read g.P.Form.reading c.args.path.now v d d c.requires refl c.in_ok-write_value.ensures.reads_back)
 
 pub returns-clause-ok : goal.returns-clause-ok
 returns-clause-ok g c = grind (arith, common_steps)

@@ -3,4 +3,4 @@ use Rattle.pres_wire.proofs.OpNesting.{made_low}
 use Rattle.pres_wire.proofs.up.unconditional_value.Goals as goal
 
 pub returns-clause-low : goal.returns-clause-low
-returns-clause-low c = made_low c.to_value.result (as_op c.args.op.now) c.to_value.ensures.json c.to_value.ensures.reads_back
+returns-clause-low c = made_low c.unconditional_value.result (as_op c.args.op.now) c.unconditional_value.ensures.json c.unconditional_value.ensures.reads_back

@@ -27,10 +27,10 @@ loop-place-preserved c =
       done ++ e ∷ [],
       all ∙ sym (append_assoc done (e ∷ []) left),
       ap pairs c.in_ok-insert.ensures.entries
-          ∙ pairs-more u.path l.values.entries c.in_ok-name.name c.in_ok-to_value.field-0 done e left l.invariant.2 c.in_ok-name.ensures.name c.in_ok-to_value.ensures.json
+          ∙ pairs-more u.path l.values.entries c.in_ok-name.name c.in_ok-value.value done e left l.invariant.2 c.in_ok-name.ensures.name c.in_ok-value.ensures.json
           (subst (λ es. IsStrictlySortedBy path_cmp (keys_of es)) all held.in_order)
           (subst (All (FitsBelow u.path)) all held.fit),
-      reads-append done e l.invariant.3 (subst (ReadsBack slot_reading e.1) c.in_ok-to_value.ensures.json c.in_ok-to_value.ensures.reads_back),
+      reads-append done e l.invariant.3 (subst (ReadsBack slot_reading e.1) c.in_ok-value.ensures.json c.in_ok-value.ensures.reads_back),
     )
 
 -- all places are printed

@@ -3,8 +3,8 @@ use Rattle.serde_json.specs.Find.{as_array}
 use Rattle.serde_json.specs.View.{view, items_view}
 use Rattle.pres_ids.specs.Forms.{session_in_items}
 use Rattle.pres_ids.proofs.Sessions.{too_few, too_many}
-use Rattle.pres_ids.proofs.id.SessionId.from_value.Goals as goal
-use Rattle.pres_ids.proofs.id.SessionId.from_value.Goals.{in_default-as_slice-via-then-as_slice-lt3, in_default-as_slice-via-else-as_slice-lt3+else-this-lt4}
+use Rattle.pres_ids.proofs.as_json.read_session.Goals as goal
+use Rattle.pres_ids.proofs.as_json.read_session.Goals.{in_default-as_slice-via-then-as_slice-lt3, in_default-as_slice-via-else-as_slice-lt3+else-this-lt4}
 use Rattle.std.proofs.Common.{arith}
 use Rattle.std.proofs.lemmas.Grind.{common_steps}
 
@@ -21,11 +21,11 @@ returns-in_default-as_slice c =
 pub returns-in_default-as_str : goal.returns-in_default-as_str
 returns-in_default-as_str c = grind (arith, common_steps)
 
-pub returns-in_default-from_value : goal.returns-in_default-from_value
-returns-in_default-from_value c = grind (arith, common_steps)
+pub returns-in_default-read_number : goal.returns-in_default-read_number
+returns-in_default-read_number c = grind (arith, common_steps)
 
-pub returns-in_default-from_value-2 : goal.returns-in_default-from_value-2
-returns-in_default-from_value-2 c = grind (arith, common_steps)
+pub returns-in_default-read_number-2 : goal.returns-in_default-read_number-2
+returns-in_default-read_number-2 c = grind (arith, common_steps)
 
 pub returns-in-Ok : goal.returns-in-Ok
 returns-in-Ok c = grind (arith, common_steps)

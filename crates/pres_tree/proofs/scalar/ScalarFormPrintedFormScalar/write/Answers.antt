@@ -6,7 +6,7 @@ use Rattle.std.specs.Prelude.{option_map}
 use Rattle.pres_tree.specs.Printing.{IsPlain}
 use Rattle.pres_tree.specs.Scalars.{scalar_printing}
 use Rattle.pres_tree.proofs.Printing.{on_any}
-use Rattle.pres_tree.proofs.scalar.ScalarLeaf.write.Goals as goal
+use Rattle.pres_tree.proofs.scalar.ScalarFormPrintedFormScalar.write.Goals as goal
 
 whole_plain : (z : ℤ) → FitsSigned w64 z → IsPlain (number (of_integer z))
 whole_plain (pos n) h = ap (option_map number) (number_of-decimal n (omega (arith, h)))

@@ -3,8 +3,8 @@ use Rattle.serde_json.proofs.Views.{view-Object}
 use Rattle.serde_json.specs.View.{view, members_view}
 use Rattle.pres_write.specs.Drafts.{is_timestamp}
 use Rattle.pres_write.proofs.Slots.{one_member, not_one_member, reads_sv, and_false}
-use Rattle.pres_write.proofs.draft.SlotForm.read.Goals as goal
-use Rattle.pres_write.proofs.draft.SlotForm.read.Goals.{else-len-eq-ALONE-via-then-len-eq-ALONE+else-is_timestamp, else-len-eq-ALONE-via-else-len-eq-ALONE}
+use Rattle.pres_write.proofs.draft.SlotFormFormSlot.read.Goals as goal
+use Rattle.pres_write.proofs.draft.SlotFormFormSlot.read.Goals.{else-len-eq-ALONE-via-then-len-eq-ALONE+else-is_timestamp, else-len-eq-ALONE-via-else-len-eq-ALONE}
 
 pub returns-then-is_timestamp : goal.returns-then-is_timestamp
 returns-then-is_timestamp c =
