@@ -1,10 +1,10 @@
 //! The words of the command line.
 
-ghost use Rattle.std.specs.Prelude.{◌≡◌, Some, IfErr, IfOk, IfSome, MatchResult, codes, map};
-ghost use Rattle.clap.specs.Words.{app_of, found_of, kind_of, rows_of, subcommand_of};
+ghost use Rattle.std.specs.Prelude.{◌≡◌, Some, IfErr, IfOk, IfSome, MatchResult, codes, false, map};
+ghost use Rattle.clap.specs.Words.{app_of, found_of, kind_of, new_rule, rows_of, rule_of, subcommand_of, with_subcommand};
 ghost use Rattle.clap.specs.declared.error.kind.ErrorKind.TheVariants.{OutOfMemory};
 ghost use Rattle.pres_command.specs.Words.{AreTaken, AsksApply, HasNoGlobals, IsAskedBy, IsCalled, IsMistake, IsServed};
-ghost use Rattle.pres_command.specs.Words.{apply_shape, client_shape, program, serve_shape, sim_shape};
+ghost use Rattle.pres_command.specs.Words.{apply_shape, client_shape, needed, program, serve_shape, sim_shape, up_to};
 
 use clap::builder::ValueParser;
 use clap::error::ErrorKind;
@@ -58,63 +58,102 @@ fn sim_command<'a>(alloc: Global) -> Command<'a>
     )
 }
 
+// An argument that has to be given.
+fn needed_argument<'a>(alloc: Global, name: &'a str, help: &'a str) -> Arg<'a>
+    ensures rule { rule_of result ≡ needed name.entry.now }
+    ensures local { result.global ≡ false }
+{
+    Arg::new(alloc, name).required(true).help(help)
+}
+
 fn serve_command<'a>(alloc: Global) -> Result<Command<'a>, AllocError>
     ensures app { IfOk result (λ made. app_of made ≡ serve_shape) }
     ensures local { IfOk result (λ made. HasNoGlobals made) }
 {
-    let address = Arg::new(alloc, "ADDRESS")
-        .required(true)
-        .help("Where it listens, as 127.0.0.1:9000");
-    let file = Arg::new(alloc, "FILE").required(true).help(
-        "The file that keeps the tree's history; made where there is none",
-    );
-    let connections = Arg::new(alloc, "connections")
+    let address = "Where it listens, as 127.0.0.1:9000";
+    let file = "The file that keeps the tree's history; made where there is none";
+    Command::new(alloc, "serve")
+        .about("Serves connections over WebSocket")
+        .arg(needed_argument(alloc, "ADDRESS", address))?
+        .arg(needed_argument(alloc, "FILE", file))?
+        .arg(connections_argument(alloc))
+}
+
+// After how many connections a server ends.
+fn connections_argument<'a>(alloc: Global) -> Arg<'a>
+    ensures rule { rule_of result ≡ up_to 1024 (record (new_rule (codes "connections"))
+        { long = Some (codes "connections"); value_names = 1 }) }
+    ensures local { result.global ≡ false }
+{
+    Arg::new(alloc, "connections")
         .long("connections")
         .value_name("N")
         .value_parser(ValueParser::unsigned(1, MOST_CONNECTIONS))
-        .help("Ends once so many connections have ended");
-    Command::new(alloc, "serve")
-        .about("Serves connections over WebSocket")
-        .arg(address)?
-        .arg(file)?
-        .arg(connections)
+        .help("Ends once so many connections have ended")
 }
 
 fn client_command<'a>(alloc: Global) -> Result<Command<'a>, AllocError>
     ensures app { IfOk result (λ made. app_of made ≡ client_shape) }
     ensures local { IfOk result (λ made. HasNoGlobals made) }
 {
-    let address = Arg::new(alloc, "ADDRESS")
-        .required(true)
-        .help("Where the server listens");
-    let id = Arg::new(alloc, "ID")
-        .required(true)
-        .help("The client's name: 1 to 128 of A-Z, a-z, 0-9, _ and -");
-    let incarnation = Arg::new(alloc, "INCARNATION")
-        .required(true)
-        .value_parser(ValueParser::unsigned(1, MOST_INCARNATIONS))
-        .help("Which start of the client this is: a greater number each time");
+    let id = "The client's name: 1 to 128 of A-Z, a-z, 0-9, _ and -";
     Command::new(alloc, "client")
         .about("Makes the calls that the input's lines say, and prints what it is told")
-        .arg(address)?
-        .arg(id)?
-        .arg(incarnation)
+        .arg(needed_argument(alloc, "ADDRESS", "Where the server listens"))?
+        .arg(needed_argument(alloc, "ID", id))?
+        .arg(incarnation_argument(alloc))
+}
+
+// Which start of the client it is.
+fn incarnation_argument<'a>(alloc: Global) -> Arg<'a>
+    ensures rule { rule_of result ≡ up_to 9007199254740991 (needed (codes "INCARNATION")) }
+    ensures local { result.global ≡ false }
+{
+    Arg::new(alloc, "INCARNATION")
+        .required(true)
+        .value_parser(ValueParser::unsigned(1, MOST_INCARNATIONS))
+        .help("Which start of the client this is: a greater number each time")
+}
+
+// The command with the one that makes a server.
+fn with_serve<'a>(alloc: Global, command: Command<'a>) -> Result<Command<'a>, AllocError>
+    ensures { IfOk result (λ made.
+        app_of made ≡ with_subcommand (app_of command.entry) serve_shape.top) }
+{
+    match serve_command(alloc) {
+        Ok(serve) => command.subcommand(serve),
+        Err(refused) => {
+            drop(command);
+            Err(refused)
+        }
+    }
+}
+
+// The command with the one that makes a client.
+fn with_client<'a>(alloc: Global, command: Command<'a>) -> Result<Command<'a>, AllocError>
+    ensures { IfOk result (λ made.
+        app_of made ≡ with_subcommand (app_of command.entry) client_shape.top) }
+{
+    match client_command(alloc) {
+        Ok(client) => command.subcommand(client),
+        Err(refused) => {
+            drop(command);
+            Err(refused)
+        }
+    }
 }
 
 fn command<'a>(alloc: Global) -> Result<Command<'a>, AllocError>
     ensures { IfOk result (λ made. app_of made ≡ program) }
 {
-    let serve = serve_command(alloc)?;
-    let client = client_command(alloc)?;
-    Command::new(alloc, "presence")
+    let command = Command::new(alloc, "presence")
         .version("0.1.0")
         .about("A presence server: one shared JSON tree, with actions at disconnection")
         .subcommand_required(true)
         .disable_help_subcommand(true)
         .subcommand(apply_command(alloc))?
-        .subcommand(sim_command(alloc))?
-        .subcommand(serve)?
-        .subcommand(client)
+        .subcommand(sim_command(alloc))?;
+    with_client(alloc, with_serve(alloc, command)?)
 }
 
 /// Reads the words of the command line, the program's name first.

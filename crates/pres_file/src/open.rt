@@ -132,8 +132,18 @@ fn make<D: Disk + Drop>(
     let unopened = Unopened::new(alloc, pager, &[])?;
     match unopened.create() {
         Ok(store) => connection_over(alloc, store),
-        Err((sqlite_store::OpenError::OutOfMemory, _left)) => Err(SavedFault::Memory),
-        Err((_, _left)) => Err(SavedFault::Database),
+        Err((error, left)) => {
+            drop(left);
+            Err(creation_fault(error))
+        }
+    }
+}
+
+// Why an empty database is not made.
+fn creation_fault(error: sqlite_store::OpenError) -> SavedFault {
+    match error {
+        sqlite_store::OpenError::OutOfMemory => SavedFault::Memory,
+        _ => SavedFault::Database,
     }
 }
 

@@ -6,8 +6,6 @@ mod fault;
 mod report;
 mod seat;
 mod tally;
-#[cfg(test)]
-mod tests;
 
 pub use fault::HubFault;
 pub use report::Report;

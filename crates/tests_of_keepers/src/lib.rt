@@ -1,5 +1,5 @@
-//! Tests of saved rows, of keepers, of engines and hubs over them, and of hubs with many callers, over
-//! public calls. They stand in a crate of their own, since a crate with tests is proved twice.
+//! Tests of saved rows, of keepers, of engines and hubs over them, of seats, and of hubs with many
+//! callers, over public calls. They stand in a crate of their own, since a crate with tests is proved twice.
 #![tactic(auto)]
 
 #[cfg(test)]
@@ -16,6 +16,8 @@ mod rows;
 mod runs;
 #[cfg(test)]
 mod scene;
+#[cfg(test)]
+mod seats;
 #[cfg(test)]
 mod stops;
 #[cfg(test)]

@@ -1,7 +1,7 @@
 use Rattle.std.proofs.Common.{rules, ap, ap₂, ◌∙◌, ◌≡◌, codes}
 use Rattle.std.proofs.lemmas.Result.{IfOk-weaker}
 use Rattle.clap.specs.Words.{App, app_of, new_app, with_subcommand}
-use Rattle.pres_command.specs.Words.{apply_shape, on_top, serve_shape, sim_shape}
+use Rattle.pres_command.specs.Words.{apply_shape, client_shape, on_top, serve_shape, sim_shape}
 use Rattle.pres_command.proofs.words.command.Goals as goal
 
 abbrev base : App
@@ -12,8 +12,8 @@ returns c =
     let base_is : app_of c.disable_help_subcommand.result ≡ base = search rules in
     let one : app_of c.in_ok-subcommand.field-0 ≡ with_subcommand base apply_shape.top =
     c.in_ok-subcommand.ensures.shape c.apply_command.ensures.local ∙ ap₂ with_subcommand base_is (ap (λ (a : App). a.top) c.apply_command.ensures.app) in
-    let two : app_of c.in_ok-subcommand-2.field-0 ≡ with_subcommand (with_subcommand base apply_shape.top) sim_shape.top =
-    c.in_ok-subcommand-2.ensures.shape c.sim_command.ensures.local ∙ ap₂ with_subcommand one (ap (λ (a : App). a.top) c.sim_command.ensures.app) in
-    let three : app_of c.in_ok-subcommand-3.field-0 ≡ with_subcommand (with_subcommand (with_subcommand base apply_shape.top) sim_shape.top) serve_shape.top =
-    c.in_ok-subcommand-3.ensures.shape c.in_ok-serve.ensures.local ∙ ap₂ with_subcommand two (ap (λ (a : App). a.top) c.in_ok-serve.ensures.app) in
-    IfOk-weaker c.subcommand-4.result _ _ (λ made adds. adds.shape c.in_ok-client.ensures.local ∙ ap₂ with_subcommand three (ap (λ (a : App). a.top) c.in_ok-client.ensures.app)) c.subcommand-4.ensures
+    let two : app_of c.in_ok-command.command ≡ with_subcommand (with_subcommand base apply_shape.top) sim_shape.top =
+    c.in_ok-command.ensures.shape c.sim_command.ensures.local ∙ ap₂ with_subcommand one (ap (λ (a : App). a.top) c.sim_command.ensures.app) in
+    let three : app_of c.in_ok-with_serve.field-0 ≡ with_subcommand (with_subcommand (with_subcommand base apply_shape.top) sim_shape.top) serve_shape.top =
+    c.in_ok-with_serve.ensures ∙ ap (λ a. with_subcommand a serve_shape.top) two in
+    IfOk-weaker c.with_client.result _ _ (λ made adds. adds ∙ ap (λ a. with_subcommand a client_shape.top) three) c.with_client.ensures

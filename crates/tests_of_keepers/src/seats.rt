@@ -2,16 +2,19 @@
 
 ghost use Rattle.std.specs.Prelude.{◌≡◌, ◌^◌, IfSome};
 
-use crate::{HubFault, Seat, Tally};
+use crate::scene::session;
+use crate::words::expect_text;
 use pres_engine::EngineFault;
-use pres_server::{ClientId, Count, Number, SessionId, Stamp};
+use pres_hub::{HubFault, Seat};
+use pres_seats::Tally;
+use pres_server::{Count, Number, SessionId, Stamp};
 use std::alloc::Global;
 use std::marker::Brand;
+use std::process::Abort;
 use std::sync::ledger::{Blank, Ledger};
-use std::test::Fail;
 
 // What a run of two seats came to.
-#[derive(Drop)]
+#[derive(Clone, Copy)]
 struct Ended {
     stamp: Stamp,
     q: Count,
@@ -85,61 +88,54 @@ fn run<L: Ledger>(blank: Blank, first: SessionId, second: SessionId, is_turned: 
     }
 }
 
-fn session(alloc: Global, client: &str) -> Result<SessionId, Fail> {
-    let stamp = Stamp {
-        incarnation: Number::first(),
-        attempt: Number::first(),
-    };
-    Ok(SessionId::of(ClientId::parse(alloc, client)?, stamp))
-}
-
 // A run of alice and bob.
-fn run_two(alloc: Global, is_turned: bool) -> Result<Ended, Fail> {
-    let first = session(alloc, "alice")?;
-    let second = session(alloc, "bob")?;
-    Ok(run::<Brand>(Blank::new(1 << 53), first, second, is_turned))
+fn run_two(rt: &impl Abort, alloc: Global, is_turned: bool) -> Ended {
+    let (first, second) = (session(rt, alloc, "alice"), session(rt, alloc, "bob"));
+    run::<Brand>(Blank::new(1 << 53), first, second, is_turned)
+}
+
+// What was accepted is what the seats made, whichever is gathered first.
+fn check_sums(rt: &impl Abort, ended: Ended) {
+    let sums = (ended.made, ended.accepted, ended.total_of_one, ended.total);
+    assert_eq!(rt; sums, ((4, 3), 7, None, Some(7)));
 }
 
 #[test]
-fn what_was_accepted_is_what_the_seats_made(rt: HostRuntime) -> Result<(), Fail> {
-    for is_turned in [false, true] {
-        let ended = run_two(rt.alloc(), is_turned)?;
-        assert_eq!(rt; ended.made, (4, 3));
-        assert_eq!(rt; ended.accepted, 7);
-        assert_eq!(rt; ended.total_of_one, None);
-        assert_eq!(rt; ended.total, Some(7));
-    }
-    Ok(())
+fn what_was_accepted_is_what_the_seats_made(rt: HostRuntime) {
+    check_sums(&rt, run_two(&rt, rt.alloc(), false));
+    check_sums(&rt, run_two(&rt, rt.alloc(), true));
 }
 
 #[test]
-fn a_seat_is_out_until_it_is_taken(rt: HostRuntime) -> Result<(), Fail> {
-    let ended = run_two(rt.alloc(), false)?;
-    assert_eq!(rt; ended.out, 1);
-    assert_eq!(rt; ended.seats_out, 0);
+fn a_seat_is_out_until_it_is_taken(rt: HostRuntime) {
+    let ended = run_two(&rt, rt.alloc(), false);
+    assert_eq!(rt; (ended.out, ended.seats_out), (1, 0));
     assert_eq!(rt; ended.refused, (false, true));
     assert_eq!(rt; (ended.number, ended.keeper), (7, 100));
-    Ok(())
 }
 
 #[test]
-fn a_seat_knows_how_far_it_is(rt: HostRuntime) -> Result<(), Fail> {
-    let ended = run_two(rt.alloc(), false)?;
+fn a_seat_knows_how_far_it_is(rt: HostRuntime) {
+    let ended = run_two(&rt, rt.alloc(), false);
     assert_eq!(rt; ended.stamp.attempt, Number::first());
-    assert_eq!(rt; ended.q.get(), 3);
-    assert_eq!(rt; ended.seen, 5);
-    Ok(())
+    assert_eq!(rt; (ended.q.get(), ended.seen), (3, 5));
+}
+
+// The fault in words.
+fn check_fault(rt: &impl Abort, alloc: Global, fault: HubFault, wanted: &str) {
+    let text = fault.to_string(alloc);
+    drop(fault);
+    expect_text(rt, text.expect(rt, "memory"), wanted);
 }
 
 #[test]
-fn an_engine_that_is_down_is_a_hub_that_is_down(rt: HostRuntime) -> Result<(), Fail> {
-    let text = format!(in rt.alloc(); "{}", HubFault::from(EngineFault::Down))?;
-    assert_eq!(rt; text.as_str(), "down");
+fn an_engine_that_is_down_is_a_hub_that_is_down(rt: HostRuntime) {
     let behind = HubFault::Behind { have: 1, seen: 2 };
-    let text = format!(in rt.alloc(); "{behind}")?;
-    assert_eq!(rt;
-        text.as_str(),
-        "the server has 1 entries, and the seat was told of 2"
+    check_fault(&rt, rt.alloc(), HubFault::from(EngineFault::Down), "down");
+    check_fault(
+        &rt,
+        rt.alloc(),
+        behind,
+        "the server has 1 entries, and the seat was told of 2",
     );
-    Ok(())
 }
