@@ -26,11 +26,11 @@ value /
 => {"u":{"a":9,"b":2}}
 
 log
-=> 1 open ["alice",1,1] q None n None opened
-2 op ["alice",1,1] q Some(1) n Some(1) wrote
-3 left ["alice",1,1] q Some(2) n None armed
-4 cancelled ["alice",1,1] q Some(3) n None armed
-5 ended ["alice",1,1] q None n None Lost"#;
+=> 1 1000 [{"e":"open","s":["alice",1,1]}]
+2 1000 [{"e":"op","n":1,"op":{"op":"set","path":"/u","value":{"a":9,"c":3}},"out":{"wrote":[["/u",{"a":9,"c":3}]]},"q":1,"s":["alice",1,1]}]
+3 1000 [{"e":"left","q":2,"rows":[["/u",{"a":1,"b":2}]],"s":["alice",1,1]}]
+4 1000 [{"e":"cancelled","path":"/u/a","q":3,"s":["alice",1,1]}]
+5 2000 [{"e":"ended","q":null,"rows":[["/u",{"a":1,"b":2}],["/u/a",9]],"s":["alice",1,1],"why":"lost"}]"#;
 
 const CANCELLED_BELOW_A_SCALAR: &str = r#"1000 {"m":"hello","s":["alice",1,1]}
 => {"m":"welcome","ops":0,"s":["alice",1,1],"z":1}

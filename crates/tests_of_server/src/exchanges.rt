@@ -4,8 +4,8 @@ ghost use Rattle.std.specs.Prelude.{◌≡◌, false};
 ghost use Rattle.pres_exchange.specs.Exchanges.{is_hello};
 ghost use Rattle.pres_server.specs.declared.input.Input.TheVariants.{Up as Message};
 
-use crate::rings::{ALICE, BOB, session, set};
 use crate::said::expect_text;
+use crate::turns::{ALICE, BOB, session};
 use pres_exchange::{Bell, Exchange, Input, Keeper, MemKeeper, Moment, Outbox, Up, Why};
 use std::alloc::Global;
 use std::ops::Range;
@@ -59,6 +59,13 @@ fn say<K: Keeper + Drop>(
     let turned = exchange.turn(Input::Up(up), now());
     exchange.end_slow(alloc, now());
     turned.expect(rt, "a turn");
+}
+
+// Bob's write number n.
+fn set(rt: &impl Abort, alloc: Global, n: u32) -> String {
+    format!(in alloc;
+        r#"{{"m":"op","n":{n},"op":{{"op":"set","path":"/a","value":{n}}},"q":{n},"s":{BOB}}}"#
+    ).expect(rt, "memory")
 }
 
 // Alice listens and takes nothing, and Bob writes so often where she listens: the number behind it.

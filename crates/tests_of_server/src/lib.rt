@@ -1,11 +1,9 @@
-//! Tests of sessions, plans, listeners, kept answers, logs and the server, and of what sessions are
-//! sent: of their rings, their lines and an engine with lines, and of two clients and a server, over
-//! the public calls of the crates from `pres_session` to `pres_exchange`. They stand in a crate of
-//! their own, since a crate with tests is proved twice.
+//! Tests of sessions, plans, listeners, logs and the server, with the answers that it keeps, and of what
+//! sessions are sent: of their lines and an engine with lines, over the public calls of the crates
+//! from `pres_session` to `pres_exchange`. They stand in a crate of their own, since a crate with tests
+//! is proved twice.
 #![tactic(auto)]
 
-#[cfg(test)]
-mod answers;
 #[cfg(test)]
 mod disconnections;
 #[cfg(test)]
@@ -23,16 +21,8 @@ mod pushes;
 #[cfg(test)]
 mod replays;
 #[cfg(test)]
-mod rings;
-#[cfg(test)]
-mod run;
-#[cfg(test)]
-mod runs;
-#[cfg(test)]
 mod said;
 #[cfg(test)]
 mod sessions;
 #[cfg(test)]
 mod turns;
-#[cfg(test)]
-mod world;

@@ -1,6 +1,6 @@
 //! Tests of lines that have no ring yet.
 
-use crate::rings::{ALICE, BOB, session};
+use crate::turns::{ALICE, BOB, session};
 use pres_lines::Lines;
 use pres_server::{SessionId, Why};
 use std::alloc::Global;

@@ -31,13 +31,13 @@ value /
 => {"last":9000}
 
 log
-=> 1 open ["alice",1,1] q None n None opened
-2 open ["bob",1,1] q None n None opened
-3 on ["bob",1,1] q Some(1) n None listens
-4 on ["bob",1,1] q Some(2) n None listens
-5 left ["alice",1,1] q Some(1) n None armed
-6 op ["alice",1,1] q Some(2) n Some(1) wrote
-7 ended ["alice",1,1] q None n None Lost"#;
+=> 1 1000 [{"e":"open","s":["alice",1,1]}]
+2 1000 [{"e":"open","s":["bob",1,1]}]
+3 1000 [{"e":"on","path":"/last","q":1,"s":["bob",1,1]}]
+4 1000 [{"e":"on","path":"/online","q":2,"s":["bob",1,1]}]
+5 1000 [{"e":"left","q":1,"rows":[["/last",{".sv":"timestamp"}],["/online",null]],"s":["alice",1,1]}]
+6 2000 [{"e":"op","n":1,"op":{"op":"set","path":"/online","value":true},"out":{"wrote":[["/online",true]]},"q":2,"s":["alice",1,1]}]
+7 9000 [{"e":"ended","q":null,"rows":[["/last",9000],["/online",null]],"s":["alice",1,1],"why":"lost"}]"#;
 
 const PUSH_BEFORE_REPLY: &str = r#"1000 {"m":"hello","s":["alice",1,1]}
 => {"m":"welcome","ops":0,"s":["alice",1,1],"z":1}

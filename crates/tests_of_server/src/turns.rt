@@ -8,16 +8,21 @@
 
 use crate::replays::{ordered, replayed};
 use crate::said::expect_said;
+use pres_body::print_entries;
 use pres_server::{
-    Batch, Busy, ClientId, Count, Down, Entry, Fault, Input, Limit, Log, Moment, Number, Outcome,
-    Path, Row, Server, SessionId, Turn, Up, Why,
+    Batch, Busy, ClientId, Count, Down, Fault, Input, Log, Moment, Path, Row, Server, SessionId,
+    Turn, Up,
 };
 use pres_tree::TreeJson;
 use std::alloc::Global;
 use std::process::Abort;
 
+pub(crate) const ALICE: &str = r#"["alice",1,1]"#;
+
+pub(crate) const BOB: &str = r#"["bob",1,1]"#;
+
 // The session of `["alice",1,1]`.
-fn session(rt: &impl Abort, alloc: Global, text: &str) -> SessionId {
+pub(crate) fn session(rt: &impl Abort, alloc: Global, text: &str) -> SessionId {
     let hello = format!(in alloc; r#"{{"m":"hello","s":{text}}}"#).expect(rt, "memory");
     let up = Up::decode(alloc, hello.as_str()).expect(rt, "a message");
     up.session().copy(alloc).expect(rt, "memory")
@@ -108,96 +113,14 @@ fn given_back(rt: &impl Abort, alloc: Global, server: Server, case: &str) -> Ser
     }
 }
 
-// What an operation came to.
-fn outcome_word(outcome: &Outcome) -> &'static str {
-    match outcome {
-        Outcome::Wrote(_) => "wrote",
-        Outcome::Stale(_) => "stale",
-    }
-}
-
-// Why a session ended.
-fn why_word(why: Why) -> &'static str {
-    match why {
-        Why::Bye => "Bye",
-        Why::Lost => "Lost",
-        Why::Slow => "Slow",
-        Why::Restart => "Restart",
-        Why::Lease => "Lease",
-        Why::Superseded => "Superseded",
-    }
-}
-
-// The limit that a message met.
-fn limit_word(limit: Limit) -> &'static str {
-    match limit {
-        Limit::Plan => "Plan",
-        Limit::Listens => "Listens",
-    }
-}
-
-// An entry as plain data: its kind, its session, its q and n, and how it came out.
-fn entry_parts(
-    entry: &Entry,
-) -> (
-    &'static str,
-    &SessionId,
-    Option<Number>,
-    Option<Number>,
-    &'static str,
-) {
-    match entry {
-        Entry::Open { session } => ("open", session, None, None, "opened"),
-        Entry::Op {
-            session,
-            q,
-            n,
-            outcome,
-            ..
-        } => ("op", session, Some(*q), Some(*n), outcome_word(outcome)),
-        Entry::Again { session, q, n } => ("again", session, Some(*q), Some(*n), "answered"),
-        Entry::Left { session, q, .. } => ("left", session, Some(*q), None, "armed"),
-        Entry::Cancelled { session, q, .. } => ("cancelled", session, Some(*q), None, "armed"),
-        Entry::On { session, q, .. } => ("on", session, Some(*q), None, "listens"),
-        Entry::Off { session, q, .. } => ("off", session, Some(*q), None, "listens no more"),
-        Entry::Denied { session, q, why } => {
-            ("denied", session, Some(*q), None, limit_word(*why))
-        }
-        Entry::Ended {
-            session,
-            q,
-            why,
-            ..
-        } => ("ended", session, *q, None, why_word(*why)),
-    }
-}
-
-// An entry in words, behind its number.
-fn entry_text(rt: &impl Abort, alloc: Global, number: u64, entry: &Entry) -> String {
-    let (kind, session, q, n, word) = entry_parts(entry);
-    let client = session.client.text();
-    let stamp = session.stamp();
-    let (incarnation, attempt) = (stamp.incarnation.get(), stamp.attempt.get());
-    let (q, n) = (q.map(Number::get), n.map(Number::get));
-    format!(in alloc;
-        r#"{number} {kind} ["{client}",{incarnation},{attempt}] q {q:?} n {n:?} {word}"#
-    ).expect(rt, "memory")
-}
-
-// The entries of a batch in words.
+// The number of the batch's first entry, its moment, and its entries as they are saved.
 fn batch_text(rt: &impl Abort, alloc: Global, batch: &Batch) -> String {
-    let mut text = String::new(alloc);
-    for (number, entry) in (batch.first().get()..).zip(batch.entries()) {
-        if !text.is_empty() {
-            text.push_str(", ").expect(rt, "memory");
-        }
-        text.push_str(entry_text(rt, alloc, number, entry).as_str())
-            .expect(rt, "memory");
-    }
-    text
+    let body = print_entries(alloc, batch.entries()).expect(rt, "memory");
+    let (first, moment) = (batch.first().get(), batch.moment().millis());
+    format!(in alloc; "{first} {moment} {body}").expect(rt, "memory")
 }
 
-// The batches in words, each on a line.
+// The batches, each on a line.
 fn log_text(rt: &impl Abort, alloc: Global, log: &Log) -> String {
     let mut text = String::new(alloc);
     for batch in log.batches() {
@@ -253,7 +176,7 @@ fn heard(rt: &impl Abort, alloc: Global, server: &Server) -> Option<u64> {
 
 // Whether alice's first session is open, and how many of its messages were accepted.
 fn standing(rt: &impl Abort, alloc: Global, server: &Server) -> (bool, Option<u64>) {
-    let session = session(rt, alloc, r#"["alice",1,1]"#);
+    let session = session(rt, alloc, ALICE);
     let open = server.is_open(&session);
     (open, server.count(&session).map(Count::get))
 }
@@ -339,9 +262,9 @@ const SUPERSEDED: &str = r#"1000 {"m":"hello","s":["alice",1,1]}
 => {"done":4,"m":"reply","n":1,"out":"wrote","q":1,"r":1,"s":["alice",1,2],"z":4}
 
 log
-=> 1 open ["alice",1,1] q None n None opened
-2 ended ["alice",1,1] q None n None Superseded, 3 open ["alice",1,2] q None n None opened
-4 op ["alice",1,2] q Some(1) n Some(1) wrote"#;
+=> 1 1000 [{"e":"open","s":["alice",1,1]}]
+2 1000 [{"e":"ended","q":null,"rows":[],"s":["alice",1,1],"why":"superseded"},{"e":"open","s":["alice",1,2]}]
+4 1000 [{"e":"op","n":1,"op":{"op":"set","path":"/a","value":1},"out":{"wrote":[["/a",1]]},"q":1,"s":["alice",1,2]}]"#;
 
 const SENT_AGAIN: &str = r#"1000 {"m":"hello","s":["alice",1,1]}
 => {"m":"welcome","ops":0,"s":["alice",1,1],"z":1}
@@ -359,14 +282,54 @@ const SENT_AGAIN: &str = r#"1000 {"m":"hello","s":["alice",1,1]}
 => {"done":2,"m":"reply","n":1,"out":"wrote","q":1,"r":1,"s":["alice",1,2],"z":5}
 
 log
-=> 1 open ["alice",1,1] q None n None opened
-2 op ["alice",1,1] q Some(1) n Some(1) wrote
-3 ended ["alice",1,1] q None n None Lost
-4 open ["alice",1,2] q None n None opened
-5 again ["alice",1,2] q Some(1) n Some(1) answered
+=> 1 1000 [{"e":"open","s":["alice",1,1]}]
+2 1000 [{"e":"op","n":1,"op":{"op":"set","path":"/a","value":1},"out":{"wrote":[["/a",1]]},"q":1,"s":["alice",1,1]}]
+3 1000 [{"e":"ended","q":null,"rows":[],"s":["alice",1,1],"why":"lost"}]
+4 1000 [{"e":"open","s":["alice",1,2]}]
+5 1000 [{"e":"again","n":1,"q":1,"s":["alice",1,2]}]
 
 history alice
 => [2]"#;
+
+// The writes of two clients, which come in turns and are counted apart.
+const COUNTED_APART: &str = r#"1000 {"m":"hello","s":["alice",1,1]}
+=> {"m":"welcome","ops":0,"s":["alice",1,1],"z":1}
+
+1000 {"m":"hello","s":["bob",1,1]}
+=> {"m":"welcome","ops":0,"s":["bob",1,1],"z":2}
+
+1000 {"m":"op","n":2,"op":{"op":"set","path":"/a","value":1},"q":1,"s":["alice",1,1]}
+=> fault 4
+
+1000 {"m":"op","n":1,"op":{"op":"set","path":"/a","value":1},"q":1,"s":["alice",1,1]}
+=> {"done":3,"m":"reply","n":1,"out":"wrote","q":1,"r":1,"s":["alice",1,1],"z":3}
+
+1000 {"m":"op","n":1,"op":{"op":"set","path":"/b","value":1},"q":1,"s":["bob",1,1]}
+=> {"done":4,"m":"reply","n":1,"out":"wrote","q":1,"r":1,"s":["bob",1,1],"z":4}
+
+1000 {"m":"op","n":2,"op":{"op":"set","path":"/a","value":2},"q":2,"s":["alice",1,1]}
+=> {"done":5,"m":"reply","n":2,"out":"wrote","q":2,"r":2,"s":["alice",1,1],"z":5}
+
+1000 {"m":"op","n":1,"op":{"op":"set","path":"/a","value":9},"q":3,"s":["alice",1,1]}
+=> {"done":3,"m":"reply","n":1,"out":"wrote","q":3,"r":3,"s":["alice",1,1],"z":6}
+
+1000 {"m":"op","n":2,"op":{"op":"set","path":"/b","value":2},"q":2,"s":["bob",1,1]}
+=> {"done":7,"m":"reply","n":2,"out":"wrote","q":2,"r":2,"s":["bob",1,1],"z":7}
+
+1000 {"m":"op","n":4,"op":{"op":"set","path":"/a","value":9},"q":4,"s":["alice",1,1]}
+=> fault 4
+
+value /
+=> {"a":2,"b":2}
+
+history alice
+=> [3, 5]
+
+history bob
+=> [4, 7]
+
+history carol
+=> []"#;
 
 const OLD_STAMPS: &str = r#"1000 {"m":"hello","s":["alice",1,1]}
 => {"m":"welcome","ops":0,"s":["alice",1,1],"z":1}
@@ -400,9 +363,9 @@ const ORDER: &str = r#"1000 {"m":"hello","s":["alice",1,1]}
 => {"m":"gone","r":2,"s":["alice",1,1],"why":"bye","z":3}
 
 log
-=> 1 open ["alice",1,1] q None n None opened
-2 op ["alice",1,1] q Some(1) n Some(1) wrote
-3 ended ["alice",1,1] q Some(2) n None Bye"#;
+=> 1 1000 [{"e":"open","s":["alice",1,1]}]
+2 1000 [{"e":"op","n":1,"op":{"op":"set","path":"/a","value":1},"out":{"wrote":[["/a",1]]},"q":1,"s":["alice",1,1]}]
+3 1000 [{"e":"ended","q":2,"rows":[],"s":["alice",1,1],"why":"bye"}]"#;
 
 const ABANDONED: &str = r#"1000 {"m":"hello","s":["alice",1,1]}
 => {"m":"welcome","ops":0,"s":["alice",1,1],"z":1}
@@ -514,7 +477,7 @@ seen
 => 1026 entries, false None, heard None, null"#;
 
 // A run in which alice's session ends for this reason, by the line with that word.
-fn end(rt: &impl Abort, alloc: Global, line: &str, why: &str, name: &str) -> String {
+fn end(rt: &impl Abort, alloc: Global, line: &str, why: &str) -> String {
     format!(in alloc;
         r#"1000 {line}
 => quiet
@@ -538,8 +501,8 @@ fn end(rt: &impl Abort, alloc: Global, line: &str, why: &str, name: &str) -> Str
 => quiet
 
 log
-=> 1 open ["alice",1,1] q None n None opened
-2 ended ["alice",1,1] q None n None {name}"#
+=> 1 1000 [{{"e":"open","s":["alice",1,1]}}]
+2 1000 [{{"e":"ended","q":null,"rows":[],"s":["alice",1,1],"why":"{why}"}}]"#
     )
     .expect(rt, "memory")
 }
@@ -567,8 +530,8 @@ fn openings(rt: &impl Abort, alloc: Global, clients: u64) -> String {
 }
 
 // A run in which alice's session ends for this reason has to say what it must.
-fn check_end(rt: &impl Abort, alloc: Global, line: &str, why: &str, name: &str) {
-    check(rt, alloc, end(rt, alloc, line, why, name).as_str());
+fn check_end(rt: &impl Abort, alloc: Global, line: &str, why: &str) {
+    check(rt, alloc, end(rt, alloc, line, why).as_str());
 }
 
 #[test]
@@ -576,6 +539,7 @@ fn runs_say_what_they_must(rt: HostRuntime) {
     let alloc = rt.alloc();
     check(&rt, alloc, SUPERSEDED);
     check(&rt, alloc, SENT_AGAIN);
+    check(&rt, alloc, COUNTED_APART);
     check(&rt, alloc, OLD_STAMPS);
     check(&rt, alloc, ORDER);
     check(&rt, alloc, ABANDONED);
@@ -586,17 +550,17 @@ fn runs_say_what_they_must(rt: HostRuntime) {
 
 #[test]
 fn a_lost_session_ends(rt: HostRuntime) {
-    check_end(&rt, rt.alloc(), r#"lost ["alice",1,1]"#, "lost", "Lost");
+    check_end(&rt, rt.alloc(), r#"lost ["alice",1,1]"#, "lost");
 }
 
 #[test]
 fn a_slow_session_ends(rt: HostRuntime) {
-    check_end(&rt, rt.alloc(), r#"slow ["alice",1,1]"#, "slow", "Slow");
+    check_end(&rt, rt.alloc(), r#"slow ["alice",1,1]"#, "slow");
 }
 
 #[test]
 fn a_restart_ends_the_session(rt: HostRuntime) {
-    check_end(&rt, rt.alloc(), "restart alice", "restart", "Restart");
+    check_end(&rt, rt.alloc(), "restart alice", "restart");
 }
 
 #[test]

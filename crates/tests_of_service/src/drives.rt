@@ -1,15 +1,13 @@
 //! What a client says, and what it tells.
 
-use crate::script::{Fails, NONE, Script, said, script_of, server_frame};
+use crate::script::{NONE, said, script_of, server_frame};
 use crate::texts::expect_text;
-use pres_client::{Call, Client};
+use pres_client::Client;
 use pres_drive::{Line, drive_client};
 use pres_ids::{ClientId, Number};
-use pres_tree::Path;
+use pres_service::line_of;
 use pres_websocket::SockFault;
-use pres_write::{Draft, DraftJson};
 use rtrb::{Consumer, Producer, RingBuffer};
-use serde_json::Value;
 use std::alloc::{AllocError, Global};
 use std::io;
 use std::io::{ErrorKind, Write};
@@ -78,32 +76,20 @@ fn pieces(rt: &impl Abort, alloc: Global, lines: &str) -> Vec<Vec<u8>> {
     pieces
 }
 
-// The path of the text.
-fn path(rt: &impl Abort, alloc: Global, text: &str) -> Path {
-    Path::parse(alloc, text).expect(rt, "a path")
-}
-
-// The whole number as a draft.
-fn draft(rt: &impl Abort, alloc: Global, text: &str) -> Draft {
-    let value = Value::from_str(alloc, text).expect(rt, "JSON");
-    let draft = Draft::from_value(alloc, &value);
-    drop(value);
-    draft.expect(rt, "a value")
-}
-
-/// The lines `listen /a`, one whose path was refused, and `set /a 1`.
-pub(crate) fn lines(rt: &impl Abort, alloc: Global) -> Vec<Line> {
+/// What the lines of a client's input say.
+pub(crate) fn lines_in(rt: &impl Abort, alloc: Global, text: &str) -> Vec<Line> {
     let mut lines = Vec::new(alloc);
-    lines
-        .push(Line::Call(Call::Listen(path(rt, alloc, "/a"))))
-        .expect(rt, "memory");
-    lines.push(Line::Refused).expect(rt, "memory");
-    let draft = draft(rt, alloc, "1");
-    lines
-        .push(Line::Call(Call::Set(path(rt, alloc, "/a"), draft)))
-        .expect(rt, "memory");
+    for line in text.lines() {
+        let line = line_of(alloc, line).expect(rt, "memory");
+        lines.push(line.expect(rt, "a line")).expect(rt, "memory");
+    }
     lines
 }
+
+/// Lines of an input, one of which is a call whose path is refused.
+pub(crate) const LINES: &str = "listen /a
+set /x.y 1
+set /a 1";
 
 /// The end in words.
 pub(crate) fn end_text(ended: Result<Client, (SockFault, Client)>) -> &'static str {
@@ -117,24 +103,34 @@ pub(crate) fn end_text(ended: Result<Client, (SockFault, Client)>) -> &'static s
     }
 }
 
-// What Alice's client says and tells over the stream, and how it ends.
+// What Alice's client says and tells that does the lines, where this is what it is served, and how it
+// ends.
 fn driven(
     rt: &impl Abort,
     alloc: Global,
+    lines: &str,
     served: &str,
-    fails: Fails,
 ) -> (String, String, &'static str) {
-    let (stream, sent) = script_of(rt, alloc, pieces(rt, alloc, served), fails);
+    let (stream, sent) = script_of(rt, alloc, pieces(rt, alloc, served), NONE);
     let (output, told) = RingBuffer::new(alloc, 1 << 12).expect(rt, "memory");
     let client = Client::new(
         alloc,
         ClientId::parse(alloc, "alice").expect(rt, "a client's name"),
         Number::first(),
     );
-    let lines = lines(rt, alloc);
+    let lines = lines_in(rt, alloc, lines);
     let ended = drive_client(alloc, client, stream, Zeros, lines, &mut Sheet { output });
     let ended = end_text(ended);
     (said(rt, alloc, sent), text_of(rt, alloc, told), ended)
+}
+
+// Alice's client that does the lines has to say and to tell this, and to be done, where this is what
+// it is served.
+fn check(rt: &impl Abort, alloc: Global, lines: &str, served: &str, says: &str, tells: &str) {
+    let (said, told, ended) = driven(rt, alloc, lines, served);
+    expect_text(rt, said, says);
+    expect_text(rt, told, tells);
+    assert_eq!(rt; ended, "done");
 }
 
 const SERVED: &str = r#"{"m":"welcome","ops":0,"s":["alice",1,1],"z":1}
@@ -160,8 +156,149 @@ connected false
 
 #[test]
 fn a_client_tells_its_notices(rt: HostRuntime) {
-    let (said, told, ended) = driven(&rt, rt.alloc(), SERVED, NONE);
-    expect_text(&rt, said, SAID);
-    expect_text(&rt, told, TOLD);
+    check(&rt, rt.alloc(), LINES, SERVED, SAID, TOLD);
+}
+
+// Denials and faults, a session that is closed, one that is refused, and answers that fit nothing.
+const REFUSED: &str = "listen /a
+od-set /b 1
+od-cancel /c
+online
+online
+online
+listen /a";
+
+const REFUSED_SERVED: &str = r#"{"m":"welcome","ops":1,"s":["alice",1,1],"z":2}
+{"m":"denied","q":1,"r":1,"s":["alice",1,1],"why":2,"z":3}
+{"m":"denied","q":2,"r":2,"s":["alice",1,1],"why":1,"z":4}
+{"code":6,"m":"fault","s":["alice",1,1]}
+{"code":1,"m":"fault","s":null}
+{"code":3,"m":"fault","s":["alice",1,1]}
+{"code":5,"m":"fault","s":["alice",1,2]}
+{"m":"welcome","ops":0,"s":["alice",1,3],"z":9}
+{"m":"welcome","ops":1,"s":["alice",1,4],"z":9}
+{"m":"armed","q":1,"r":1,"s":["alice",1,4],"z":10}"#;
+
+const REFUSED_SAID: &str = r#"{"m":"hello","s":["alice",1,1]}
+{"m":"on","path":"/a","q":1,"s":["alice",1,1]}
+{"m":"left","op":{"op":"set","path":"/b","value":1},"q":2,"s":["alice",1,1]}
+{"m":"cancel","path":"/c","q":3,"s":["alice",1,1]}
+{"m":"hello","s":["alice",1,2]}
+{"m":"hello","s":["alice",1,3]}
+{"m":"hello","s":["alice",1,4]}
+{"m":"on","path":"/a","q":1,"s":["alice",1,4]}
+close
+"#;
+
+const REFUSED_TOLD: &str = "connected true
+denied 1 2
+denied 2 1
+faulted 6
+faulted 1
+connected false
+lost 3
+faulted 3
+faulted 5
+faulted 1
+connected true
+connected false
+faulted 1
+";
+
+#[test]
+fn refusals_are_told(rt: HostRuntime) {
+    let (says, tells) = (REFUSED_SAID, REFUSED_TOLD);
+    check(&rt, rt.alloc(), REFUSED, REFUSED_SERVED, says, tells);
+}
+
+// A server's answer to the client's try with the number, which is stale: its number is what stands
+// there.
+fn stale(rt: &impl Abort, alloc: Global, number: u64) -> String {
+    let z = number.saturating_add(1);
+    let text = format!(in alloc;
+        r#"{{"done":{z},"m":"reply","n":{number},"out":{{"stale":{number}}},"q":{number},"r":{number},"s":["alice",1,1],"z":{z}}}"#
+    );
+    text.expect(rt, "memory")
+}
+
+// A Welcome, and so many such answers.
+fn overtaken(rt: &impl Abort, alloc: Global, tries: u64) -> String {
+    let welcome = r#"{"m":"welcome","ops":0,"s":["alice",1,1],"z":1}"#;
+    let mut served = String::from_str(alloc, welcome).expect(rt, "memory");
+    for number in 1..=tries {
+        served.push('\n').expect(rt, "memory");
+        served
+            .push_str(stale(rt, alloc, number).as_str())
+            .expect(rt, "memory");
+    }
+    served
+}
+
+// A transaction of 25 tries, and one more answer to it.
+const TRIES: &str = "transact /n
+answer 1 0
+answer 1 0
+answer 1 0
+answer 1 0
+answer 1 0
+answer 1 0
+answer 1 0
+answer 1 0
+answer 1 0
+answer 1 0
+answer 1 0
+answer 1 0
+answer 1 0
+answer 1 0
+answer 1 0
+answer 1 0
+answer 1 0
+answer 1 0
+answer 1 0
+answer 1 0
+answer 1 0
+answer 1 0
+answer 1 0
+answer 1 0
+answer 1 0
+answer 1 0";
+
+const TRIES_TOLD: &str = "connected true
+ask 1 1 null
+ask 1 2 1
+ask 1 3 2
+ask 1 4 3
+ask 1 5 4
+ask 1 6 5
+ask 1 7 6
+ask 1 8 7
+ask 1 9 8
+ask 1 10 9
+ask 1 11 10
+ask 1 12 11
+ask 1 13 12
+ask 1 14 13
+ask 1 15 14
+ask 1 16 15
+ask 1 17 16
+ask 1 18 17
+ask 1 19 18
+ask 1 20 19
+ask 1 21 20
+ask 1 22 21
+ask 1 23 22
+ask 1 24 23
+ask 1 25 24
+toomany 1
+refused 3
+connected false
+";
+
+// A transaction that is overtaken 25 times is given up.
+#[test]
+fn a_transaction_has_25_tries(rt: HostRuntime) {
+    let served = overtaken(&rt, rt.alloc(), 25);
+    let (_, told, ended) = driven(&rt, rt.alloc(), TRIES, served.as_str());
+    expect_text(&rt, told, TRIES_TOLD);
     assert_eq!(rt; ended, "done");
 }

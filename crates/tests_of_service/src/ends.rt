@@ -2,7 +2,7 @@
 
 ghost use Rattle.std.specs.Prelude.{◌≡◌, ◌^◌};
 
-use crate::drives::{Sheet, TOLD, Zeros, end_text, lines, text_of};
+use crate::drives::{LINES, Sheet, TOLD, Zeros, end_text, lines_in, text_of};
 use crate::texts::expect_text;
 use pres_client::Client;
 use pres_drive::drive_client;
@@ -37,7 +37,7 @@ fn told<R: Net<Listener = TcpListener, Stream = TcpStream> + Abort>(
         ClientId::parse(alloc, "alice").expect(rt, "a client's name"),
         Number::first(),
     );
-    let lines = lines(rt, alloc);
+    let lines = lines_in(rt, alloc, LINES);
     let ended = drive_client(alloc, client, stream, Zeros, lines, &mut Sheet { output });
     let ended = end_text(ended);
     (text_of(rt, alloc, told), ended)

@@ -1,4 +1,6 @@
-//! Scripts of a world, and what each makes. A script is data, so a new one costs no proof.
+//! Scripts of a world, and what each makes. A script is data, so a new one costs no proof. A told
+//! script has, behind each line, what clients note then and why a call is refused, and at its end how
+//! the world is, each line behind `> `; the packets that come of it are left out.
 
 use pres_sim::sim_run;
 use std::alloc::Global;
@@ -145,10 +147,414 @@ const BAD: &[(&str, &str)] = &[
     ),
 ];
 
+// Writes that are made before a session is open go out at its Welcome, and a goodbye carries out
+// what was left for the end.
+const BEFORE_ONLINE: &str = r#"clients alice
+call alice set /a 1
+call alice set /a 2
+call alice od-set /a 3
+> refused 2
+call alice od-cancel /a
+> refused 2
+call alice online
+up 1 1000
+down 1
+> note alice connected true
+up 2 1000
+up 3 1000
+down 2
+> note alice done 1 2
+down 3
+> note alice done 2 3
+call alice od-set /a 3
+up 4 1000
+down 4
+> note alice armed 3
+call alice offline
+> note alice connected false
+up 5 1000
+down 5
+> number 5
+> tree {"a":3}
+> status 0"#;
+
+// A client that starts again goes on behind the writes that the server has. The first Hello of its
+// second start is lost.
+const RESTARTED: &str = r#"clients alice
+call alice set /a 1
+call alice online
+up 1 1000
+down 1
+> note alice connected true
+up 2 1000
+down 2
+> note alice done 1 2
+restart-client alice
+call alice set /a 2
+call alice online
+call alice resend
+up 4 1000
+down 4
+> note alice connected true
+up 5 1000
+down 5
+> note alice done 1 5
+> number 5
+> tree {"a":2}
+> status 0"#;
+
+// A write whose answer was lost is carried out once.
+const LOST_ANSWER: &str = r#"clients alice
+call alice online
+up 1 1000
+down 1
+> note alice connected true
+call alice set /a 1
+up 2 1000
+drop alice 1000
+call alice lost
+> note alice connected false
+call alice online
+up 3 1000
+down 4
+> note alice connected true
+up 4 1000
+down 5
+> note alice done 1 2
+> number 5
+> tree {"a":1}
+> status 0"#;
+
+// What was sent in a session that was left comes late, and its answers are passed over.
+const LATE: &str = r#"clients alice
+call alice online
+up 1 1000
+down 1
+> note alice connected true
+call alice set /a 1
+call alice od-set /b 1
+call alice lost
+> note alice connected false
+> note alice lost 2
+call alice online
+up 2 1000
+up 3 1000
+up 4 1000
+down 2
+down 3
+down 4
+down 5
+> note alice connected true
+up 5 1000
+down 6
+> note alice done 1 2
+> number 6
+> tree {"a":1,"b":1}
+> status 0"#;
+
+// A stamp that was there before is refused, and the next one isn't.
+const OLD: &str = r#"clients alice
+call alice online
+up-stop 1 1000
+restart-server 2000
+call alice resend
+up 2 3000
+down 1
+> note alice faulted 2
+call alice online
+up 3 3000
+down 2
+> note alice connected true
+> number 3
+> tree null
+> status 0"#;
+
+// A path that is listened to again shows the value of its new Snap, and what comes after it.
+const AGAIN: &str = r#"clients bob
+call bob online
+call bob listen /a
+up 1 1000
+down 1
+> note bob connected true
+up 2 1000
+down 2
+> note bob value /a 2 null
+call bob unlisten /a
+call bob listen /a
+call bob set /a 1
+up 3 1000
+up 4 1000
+up 5 1000
+down 3
+down 4
+> note bob value /a 4 null
+down 5
+> note bob value /a 5 1
+down 6
+> note bob done 3 5
+> number 5
+> tree {"a":1}
+> view bob /a 5 1
+> status 0"#;
+
+// What a client shows of a path stays over the end of its session.
+const VIEW_STAYS: &str = r#"clients alice bob
+call alice online
+up 1 1000
+down 1
+> note alice connected true
+call bob online
+up 2 1000
+down 2
+> note bob connected true
+call bob listen /a
+up 3 1000
+down 3
+> note bob value /a 3 null
+call alice set /a 1
+up 4 1000
+down 4
+> note bob value /a 4 1
+drop bob 1000
+call bob lost
+> note bob connected false
+call alice set /a 2
+up 5 1000
+> number 6
+> tree {"a":2}
+> view bob /a 4 1
+> status 0"#;
+
+// The next session shows it anew, what was put for the one before is passed over, and a path that
+// isn't listened to any more shows nothing.
+const VIEW_ANEW: &str = r#"clients alice bob
+call alice online
+up 1 1000
+down 1
+> note alice connected true
+call bob online
+call bob listen /a
+up 2 1000
+down 2
+> note bob connected true
+up 3 1000
+down 3
+> note bob value /a 3 null
+call bob lost
+> note bob connected false
+call bob online
+call alice set /a 2
+up 5 1000
+up 4 1000
+down 4
+down 7
+> note bob connected true
+up 6 1000
+down 8
+> note bob value /a 7 2
+call bob unlisten /a
+> number 7
+> tree {"a":2}
+> status 0"#;
+
+// Of two transactions that race the later one asks again.
+const RACE: &str = r#"clients alice bob
+call alice online
+up 1 1000
+down 1
+> note alice connected true
+call bob online
+up 2 1000
+down 2
+> note bob connected true
+call alice transact /n
+> note alice ask 1 1 null
+call bob transact /n
+> note bob ask 1 1 null
+call alice answer 1 1
+call bob answer 1 1
+up 3 1000
+up 4 1000
+down 3
+> note alice done 1 3
+down 4
+> note bob ask 1 2 1
+call bob answer 1 2
+up 5 1000
+down 5
+> note bob done 1 5
+call alice answer 99 1
+> refused 3
+call alice transact /n
+> note alice ask 2 1 null
+call alice abort 2
+> note alice aborted 2
+call alice answer 2 1
+> refused 3
+> number 5
+> tree {"n":2}
+> status 0"#;
+
+// Updates are written all or none, now and at the end of a session.
+const UPDATES: &str = r#"clients alice
+call alice online
+up 1 1000
+down 1
+> note alice connected true
+call alice update /a {"b":1,"c":2}
+call alice od-update /a {"b":3,"d":4}
+call alice od-remove /a/c
+call alice update /a {"b":1,"b/c":2}
+> refused 5
+call alice od-update /a {"b":1,"/b":2}
+> refused 5
+up 2 1000
+up 3 1000
+up 4 1000
+down 2
+> note alice done 1 2
+down 3
+> note alice armed 2
+down 4
+> note alice armed 3
+call alice offline
+> note alice connected false
+up 5 1000
+> number 5
+> tree {"a":{"b":3,"d":4}}
+> status 0"#;
+
+// A message is taken where it is the next, and else passed over.
+const IN_ORDER: &str = r#"clients alice bob
+call alice online
+up 1 1000
+down 1
+> note alice connected true
+call bob online
+up 2 1000
+down 2
+> note bob connected true
+call alice listen /a
+up 3 1000
+down 3
+> note alice value /a 3 null
+call bob set /a 2
+up 4 1000
+call bob set /a 3
+up 5 1000
+call bob set /b 1
+up 6 1000
+down 6
+down 4
+> note alice value /a 4 2
+down 4
+down 6
+> note alice value /a 5 3
+down 1
+down 3
+down 5
+> note bob done 1 4
+> number 6
+> tree {"a":3,"b":1}
+> view alice /a 5 3
+> status 0"#;
+
+// What goes out at the Welcome goes out again as it was, until it is answered.
+const RESENT: &str = "clients alice
+call alice set /a 1
+call alice remove /b
+call alice online
+call alice beat
+call alice resend
+up 2 1000
+down 1
+call alice resend
+call alice beat
+up 3 1000
+up 5 1000
+down 2
+call alice resend
+up 8 1000
+down 3";
+
+const RESENT_MAKES: &str = r#"up 1 {"m":"hello","s":["alice",1,1]}
+up 2 {"m":"hello","s":["alice",1,1]}
+down 1 {"m":"welcome","ops":0,"s":["alice",1,1],"z":1}
+up 3 {"m":"op","n":1,"op":{"op":"set","path":"/a","value":1},"q":1,"s":["alice",1,1]}
+up 4 {"m":"op","n":2,"op":{"op":"set","path":"/b","value":null},"q":2,"s":["alice",1,1]}
+note alice connected true
+up 5 {"m":"op","n":1,"op":{"op":"set","path":"/a","value":1},"q":1,"s":["alice",1,1]}
+up 6 {"m":"op","n":2,"op":{"op":"set","path":"/b","value":null},"q":2,"s":["alice",1,1]}
+up 7 {"m":"beat","s":["alice",1,1]}
+down 2 {"done":2,"m":"reply","n":1,"out":"wrote","q":1,"r":1,"s":["alice",1,1],"z":2}
+note alice done 1 2
+up 8 {"m":"op","n":2,"op":{"op":"set","path":"/b","value":null},"q":2,"s":["alice",1,1]}
+down 3 {"done":3,"m":"reply","n":2,"out":"wrote","q":2,"r":2,"s":["alice",1,1],"z":3}
+note alice done 2 3
+number 3
+tree {"a":1}
+status 0
+"#;
+
 // The script has to make this.
 fn check(rt: &impl Abort, alloc: Global, script: &str, makes: &str) {
     let made = made(rt, alloc, script);
     assert_eq!(rt; made.as_str(), makes, "{script}");
+}
+
+// The lines of a told script that are told, or the others.
+fn lines_of(rt: &impl Abort, alloc: Global, script: &str, told: bool) -> String {
+    let mut lines = String::new(alloc);
+    for line in script.lines() {
+        let (text, is_told) = match line.strip_prefix("> ") {
+            Some(text) => (text, true),
+            None => (line, false),
+        };
+        if is_told == told {
+            lines.push_str(text).expect(rt, "memory");
+            lines.push('\n').expect(rt, "memory");
+        }
+    }
+    lines
+}
+
+// What was made, without the packets.
+fn without_packets(rt: &impl Abort, alloc: Global, made: &str) -> String {
+    let mut lines = String::new(alloc);
+    for line in made.lines() {
+        if !line.starts_with("up ") && !line.starts_with("down ") {
+            lines.push_str(line).expect(rt, "memory");
+            lines.push('\n').expect(rt, "memory");
+        }
+    }
+    lines
+}
+
+// The script has to make what it tells.
+fn check_told(rt: &impl Abort, alloc: Global, script: &str) {
+    let made = made(rt, alloc, lines_of(rt, alloc, script, false).as_str());
+    let said = without_packets(rt, alloc, made.as_str());
+    let wanted = lines_of(rt, alloc, script, true);
+    assert_eq!(rt; said.as_str(), wanted.as_str(), "{script}");
+}
+
+#[test]
+fn clients_and_a_server_get_on(rt: HostRuntime) {
+    for script in [
+        BEFORE_ONLINE,
+        RESTARTED,
+        LOST_ANSWER,
+        LATE,
+        OLD,
+        AGAIN,
+        VIEW_STAYS,
+        VIEW_ANEW,
+        RACE,
+        UPDATES,
+        IN_ORDER,
+    ] {
+        check_told(&rt, rt.alloc(), script);
+    }
 }
 
 #[test]
@@ -157,6 +563,7 @@ fn scripts_make_what_they_say(rt: HostRuntime) {
     check(&rt, rt.alloc(), STOPPED, STOPPED_MAKES);
     check(&rt, rt.alloc(), UNANSWERED, UNANSWERED_MAKES);
     check(&rt, rt.alloc(), REFUSED, REFUSED_MAKES);
+    check(&rt, rt.alloc(), RESENT, RESENT_MAKES);
 }
 
 #[test]
