@@ -1,5 +1,7 @@
-//! Runs of keepers, over a database in memory and in memory alone.
+//! Runs of keepers, over a database in memory and in memory alone. A run is a text of lines, each a
+//! step and what it must say.
 
+use crate::rows::called;
 use crate::turns::step;
 use crate::words::{expect_said, refused, run_sql, said};
 use pres_keeper::{Keeper, MemKeeper};
@@ -48,7 +50,7 @@ fn created<S: Alter + Drop>(
 }
 
 // The connection after a step of the keeper over it, and what that said.
-pub(crate) fn stepped<S: Alter + Drop>(
+fn stepped<S: Alter + Drop>(
     rt: &impl Abort,
     alloc: Global,
     connection: Connection<S>,
@@ -67,20 +69,21 @@ pub(crate) fn stepped<S: Alter + Drop>(
     }
 }
 
-// The connection after a step: `create`, `sql` and another program's statement, `row` and its
-// number, or a step of the keeper over it.
+// The connection after a step: `create`, `sql` and a statement of another program, which has the
+// database for itself, `row` and its number, a call on the table (`open`, `append`, `load`, `each`), or a
+// step of the keeper over it.
 fn after<S: Alter + Drop>(
     rt: &impl Abort,
     alloc: Global,
     connection: Connection<S>,
     call: &str,
 ) -> (Connection<S>, String) {
-    if call == "create" {
-        return created(rt, alloc, connection);
-    }
-    match call.split_once(' ') {
-        Some(("sql", statement)) => run_sql(rt, alloc, connection, statement),
-        Some(("row", number)) => row(rt, alloc, connection, number),
+    let (word, rest) = call.split_once(' ').unwrap_or((call, ""));
+    match word {
+        "create" => created(rt, alloc, connection),
+        "sql" => run_sql(rt, alloc, connection, rest),
+        "row" => row(rt, alloc, connection, rest),
+        "open" | "append" | "load" | "each" => called(rt, alloc, connection, call),
         _ => stepped(rt, alloc, connection, call),
     }
 }
@@ -98,8 +101,8 @@ fn tried<S: Alter + Drop>(
     connection
 }
 
-// Each step over a new database has to say what it must.
-fn check_database(rt: &impl Abort, alloc: Global, lines: &str) {
+/// Each step over a new database has to say what it must.
+pub(crate) fn check_database(rt: &impl Abort, alloc: Global, lines: &str) {
     let mut connection = Connection::open_in_memory(alloc).expect(rt, "a database");
     for line in lines.lines() {
         connection = tried(rt, alloc, connection, line);

@@ -1,7 +1,7 @@
-//! Runs of the table of saved rows, in memory. A run is a text of lines, each a call and what it
-//! must answer; a line `sql STATEMENT` is another program's, which has the database for itself.
+//! Calls on the table of saved rows.
 
-use crate::words::{expect_said, expect_text, refused, run_sql, said};
+use crate::keepers::check_database;
+use crate::words::{expect_text, refused, said};
 use pres_ids::Number;
 use pres_table::{SavedFault, SavedRow, Table, Take};
 use pres_write::{MAX_SAFE_INTEGER, Moment};
@@ -99,23 +99,8 @@ fn answer<S: Alter + Drop>(
     }
 }
 
-// The connection after the tables were made, and what that answered.
-fn created<S: Alter + Drop>(
-    rt: &impl Abort,
-    alloc: Global,
-    connection: Connection<S>,
-) -> (Connection<S>, String) {
-    if !connection.is_autocommit() {
-        panic!(rt; "a transaction is open");
-    }
-    match Table::create(connection) {
-        Ok(table) => (table.into_connection(), said(rt, alloc, "created")),
-        Err((fault, connection)) => (connection, refused(rt, alloc, fault)),
-    }
-}
-
-// The connection after a call on the table that is found, and what that answered.
-fn called<S: Alter + Drop>(
+/// The connection after a call on the table that is found, and what that answered.
+pub(crate) fn called<S: Alter + Drop>(
     rt: &impl Abort,
     alloc: Global,
     connection: Connection<S>,
@@ -132,43 +117,6 @@ fn called<S: Alter + Drop>(
         }
         Err((fault, connection)) => (connection, refused(rt, alloc, fault)),
     }
-}
-
-fn step<S: Alter + Drop>(
-    rt: &impl Abort,
-    alloc: Global,
-    connection: Connection<S>,
-    call: &str,
-) -> (Connection<S>, String) {
-    if call == "create" {
-        return created(rt, alloc, connection);
-    }
-    match call.strip_prefix("sql ") {
-        Some(statement) => run_sql(rt, alloc, connection, statement),
-        None => called(rt, alloc, connection, call),
-    }
-}
-
-// The connection after the line's call, which has to answer what it must.
-fn tried<S: Alter + Drop>(
-    rt: &impl Abort,
-    alloc: Global,
-    connection: Connection<S>,
-    line: &str,
-) -> Connection<S> {
-    let (call, wanted) = line.split_once(" => ").expect(rt, "an answer");
-    let (connection, text) = step(rt, alloc, connection, call);
-    expect_said(rt, call, text, wanted);
-    connection
-}
-
-// Each call in a new database has to answer what it must.
-fn check(rt: &impl Abort, alloc: Global, lines: &str) {
-    let mut connection = Connection::open_in_memory(alloc).expect(rt, "a database");
-    for line in lines.lines() {
-        connection = tried(rt, alloc, connection, line);
-    }
-    drop(connection);
 }
 
 const KEPT: &str = r#"open => NotOurs
@@ -219,12 +167,12 @@ load => BadRow 1"#;
 
 #[test]
 fn rows_are_kept_in_order(rt: HostRuntime) {
-    check(&rt, rt.alloc(), KEPT);
+    check_database(&rt, rt.alloc(), KEPT);
 }
 
 #[test]
 fn bad_rows_are_told(rt: HostRuntime) {
-    check(&rt, rt.alloc(), BAD);
+    check_database(&rt, rt.alloc(), BAD);
 }
 
 #[test]

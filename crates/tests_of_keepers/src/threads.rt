@@ -18,14 +18,26 @@ use std::sync::{Barrier, Wait};
 use std::thread;
 use std::thread::Threads;
 
-// What a thread does: whose session it opens, how often it writes to a path of its own, and where
-// it listens before it leaves.
+// In which order a thread does what it does.
+#[derive(Clone, Copy)]
+enum Role {
+    // It writes, and listens once both have written.
+    Visits,
+    // It writes once the other one listens, and leaves before that one reads.
+    WritesFirst,
+    // It listens, and takes nothing until the other one has left.
+    ReadsLast,
+}
+
+// What a thread does: whose session it opens, how often it writes to a path of its own, where it
+// listens before it leaves, and in which order.
 #[derive(Clone, Copy)]
 struct Caller {
     number: u64,
     client: &'static str,
     writes: u64,
     listens: Option<&'static str>,
+    role: Role,
 }
 
 // What a thread leaves: its seat's parting, and what it read where it listened.
@@ -164,7 +176,7 @@ fn listen_on<L: Ledger, K: Keeper + Drop, G: Gate, R: Wait + Abort>(
     say(rt, hub, seat, up, caller)
 }
 
-// What a thread does. It listens once all that wait at the barrier have written.
+// What a thread does that listens once both have written.
 fn visit<L: Ledger, K: Keeper + Drop, G: Gate, R: Wait + Abort>(
     rt: &R,
     alloc: Global,
@@ -220,6 +232,21 @@ fn read_last<L: Ledger, K: Keeper + Drop, G: Gate, R: Wait + Abort>(
     Left { parting, read }
 }
 
+// What a thread does.
+fn act<L: Ledger, K: Keeper + Drop, G: Gate, R: Wait + Abort>(
+    rt: &R,
+    alloc: Global,
+    hub: &Hub<L, K, NoBell, G>,
+    barrier: &Barrier,
+    caller: Caller,
+) -> Left<L> {
+    match caller.role {
+        Role::Visits => visit(rt, alloc, hub, barrier, caller),
+        Role::WritesFirst => write_first(rt, alloc, hub, barrier, caller),
+        Role::ReadsLast => read_last(rt, alloc, hub, barrier, caller),
+    }
+}
+
 // Two threads, each with one of the callers.
 fn pair<
     L: Ledger + Send + Sync,
@@ -237,30 +264,8 @@ fn pair<
     let shared = &barrier;
     thread::join(
         rt,
-        move || visit(rt, alloc, hub, shared, first),
-        move || visit(rt, alloc, hub, shared, second),
-    )
-}
-
-// Two threads, of which the first one writes, and the second one takes nothing meanwhile.
-fn slow_pair<
-    L: Ledger + Send + Sync,
-    K: Keeper + Drop + Send,
-    G: Gate + Sync,
-    R: Threads + Wait + Abort + Sync,
->(
-    rt: &R,
-    alloc: Global,
-    hub: &Hub<L, K, NoBell, G>,
-    callers: (Caller, Caller),
-) -> (Left<L>, Left<L>) {
-    let (writer, reader) = callers;
-    let barrier = Barrier::new(2);
-    let shared = &barrier;
-    thread::join(
-        rt,
-        move || write_first(rt, alloc, hub, shared, writer),
-        move || read_last(rt, alloc, hub, shared, reader),
+        move || act(rt, alloc, hub, shared, first),
+        move || act(rt, alloc, hub, shared, second),
     )
 }
 
@@ -389,39 +394,13 @@ fn four<K: Keeper + Drop + Send, R: Threads + Wait + Abort + Sync>(
     four_with::<Brand, K, R>(rt, alloc, Blank::new(1 << 53), keeper, callers)
 }
 
-// A hub and two threads, of which one is slow, with a ledger that the caller picks.
-fn slow_with<L: Ledger + Send + Sync, R: Threads + Wait + Abort + Sync>(
-    rt: &R,
-    alloc: Global,
-    blank: Blank,
-    callers: (Caller, Caller),
-) -> Outcome
-    requires name { blank.name ≡ L.name }
-    requires parts { blank.parts ≡ L.parts }
-    requires whole { blank.parts ≡ 2 ^ 53 }
-{
-    let keeper = MemKeeper::new(alloc);
-    let hub = opened::<L, MemKeeper, OpenGate, R>(rt, alloc, blank, keeper, OpenGate);
-    let left = slow_pair(rt, alloc, &hub, callers);
-    let report = hub.into_core().finish();
-    reported(rt, alloc, report, left)
-}
-
-// A hub and two threads, of which one is slow.
-fn slow<R: Threads + Wait + Abort + Sync>(
-    rt: &R,
-    alloc: Global,
-    callers: (Caller, Caller),
-) -> Outcome {
-    slow_with::<Brand, R>(rt, alloc, Blank::new(1 << 53), callers)
-}
-
 fn writer(number: u64, client: &'static str, writes: u64) -> Caller {
     Caller {
         number,
         client,
         writes,
         listens: None,
+        role: Role::Visits,
     }
 }
 
@@ -462,11 +441,16 @@ const READ_LATE: &str = r#"{"m":"push","r":255,"s":["bob",1,1],"values":[["/alic
 // Bob's ring holds his Welcome, the answer to his listen and 254 values. The next one ends him.
 #[test]
 fn a_reader_that_takes_nothing_is_ended(rt: HostRuntime) {
+    let alice = Caller {
+        role: Role::WritesFirst,
+        ..writer(1, "alice", 257)
+    };
     let bob = Caller {
         listens: Some("/alice"),
+        role: Role::ReadsLast,
         ..writer(2, "bob", 0)
     };
-    let outcome = slow(&rt, rt.alloc(), (writer(1, "alice", 257), bob));
+    let outcome = two(&rt, rt.alloc(), OpenGate, (alice, bob));
     outcome.expect_counts(&rt, (262, 260, 0, Some(260)));
     outcome.expect_reads(&rt, READ_LATE);
 }

@@ -3,7 +3,7 @@
 ghost use Rattle.std.specs.Prelude.{◌≡◌, ◌^◌};
 
 use crate::script::{Fails, HEAD, NONE, Script, frame, said, script_of};
-use crate::texts::expect_text;
+use crate::texts::{expect_text, fault_word};
 use pres_hub::{Core, Hub, MemKeeper, NoBell, OpenGate};
 use pres_server::Moment;
 use pres_sock::{Clock, serve_stream};
@@ -44,11 +44,7 @@ impl Outcome {
 fn end_text(ended: Result<(), SockFault>) -> &'static str {
     match ended {
         Ok(()) => "closed",
-        Err(SockFault::Handshake(_)) => "handshake",
-        Err(SockFault::Stream(_)) => "stream",
-        Err(SockFault::Hub(_)) => "hub",
-        Err(SockFault::Memory) => "memory",
-        Err(SockFault::Turns) => "turns",
+        Err(fault) => fault_word(&fault),
     }
 }
 

@@ -1,16 +1,13 @@
 //! What a client says, and what it tells.
 
 use crate::script::{NONE, said, script_of, server_frame};
-use crate::texts::expect_text;
+use crate::texts::{expect_text, fault_word};
 use pres_client::Client;
 use pres_drive::{Line, drive_client};
 use pres_ids::{ClientId, Number};
 use pres_service::line_of;
 use pres_websocket::SockFault;
-use rtrb::{Consumer, Producer, RingBuffer};
-use std::alloc::{AllocError, Global};
-use std::io;
-use std::io::{ErrorKind, Write};
+use std::alloc::Global;
 use std::process::Abort;
 use tungstenite::MaskKeys;
 
@@ -18,48 +15,14 @@ use tungstenite::MaskKeys;
 const ANSWER: &[u8] =
     b"HTTP/1.1 101 Switching Protocols\r\nUpgrade: websocket\r\nConnection: Upgrade\r\nSec-WebSocket-Accept: ICX+Yqv66kxgM0FcWaLWlFLwTAI=\r\n\r\n";
 
-/// Keys that leave a payload as it is.
+// Keys that leave a payload as it is.
 #[derive(Drop)]
-pub(crate) struct Zeros;
+struct Zeros;
 
 impl MaskKeys for Zeros {
     fn next_key(&mut self) -> [u8; 4] {
         [0; 4]
     }
-}
-
-/// Where lines are written.
-#[derive(Drop)]
-pub(crate) struct Sheet {
-    pub(crate) output: Producer<u8, Global>,
-}
-
-impl Write for Sheet {
-    fn write(&mut self, buf: &[u8]) -> io::Result<usize> {
-        for byte in buf {
-            if self.output.push(*byte).is_err() {
-                return Err(io::Error::from(ErrorKind::BrokenPipe));
-            }
-        }
-        Ok(buf.len())
-    }
-
-    fn flush(&mut self) -> io::Result<()> {
-        Ok(())
-    }
-}
-
-/// What was written.
-pub(crate) fn text_of(rt: &impl Abort, alloc: Global, mut written: Consumer<u8, Global>) -> String {
-    let mut bytes = Vec::new(alloc);
-    for _ in 0..1 << 12 {
-        let Ok(byte) = written.pop() else {
-            break;
-        };
-        bytes.push(byte).expect(rt, "memory");
-    }
-    let text = std::str::from_utf8(bytes.as_slice()).expect(rt, "UTF-8");
-    String::from_str(alloc, text).expect(rt, "memory")
 }
 
 // The answer to the request, and then a frame for each line.
@@ -76,8 +39,8 @@ fn pieces(rt: &impl Abort, alloc: Global, lines: &str) -> Vec<Vec<u8>> {
     pieces
 }
 
-/// What the lines of a client's input say.
-pub(crate) fn lines_in(rt: &impl Abort, alloc: Global, text: &str) -> Vec<Line> {
+// What the lines of a client's input say.
+fn lines_in(rt: &impl Abort, alloc: Global, text: &str) -> Vec<Line> {
     let mut lines = Vec::new(alloc);
     for line in text.lines() {
         let line = line_of(alloc, line).expect(rt, "memory");
@@ -86,20 +49,16 @@ pub(crate) fn lines_in(rt: &impl Abort, alloc: Global, text: &str) -> Vec<Line> 
     lines
 }
 
-/// Lines of an input, one of which is a call whose path is refused.
-pub(crate) const LINES: &str = "listen /a
+// Lines of an input, one of which is a call whose path is refused.
+const LINES: &str = "listen /a
 set /x.y 1
 set /a 1";
 
-/// The end in words.
-pub(crate) fn end_text(ended: Result<Client, (SockFault, Client)>) -> &'static str {
+// The end in words.
+fn end_text(ended: Result<Client, (SockFault, Client)>) -> &'static str {
     match ended {
         Ok(_) => "done",
-        Err((SockFault::Handshake(_), _)) => "handshake",
-        Err((SockFault::Stream(_), _)) => "stream",
-        Err((SockFault::Hub(_), _)) => "hub",
-        Err((SockFault::Memory, _)) => "memory",
-        Err((SockFault::Turns, _)) => "turns",
+        Err((fault, _)) => fault_word(&fault),
     }
 }
 
@@ -112,16 +71,16 @@ fn driven(
     served: &str,
 ) -> (String, String, &'static str) {
     let (stream, sent) = script_of(rt, alloc, pieces(rt, alloc, served), NONE);
-    let (output, told) = RingBuffer::new(alloc, 1 << 12).expect(rt, "memory");
     let client = Client::new(
         alloc,
         ClientId::parse(alloc, "alice").expect(rt, "a client's name"),
         Number::first(),
     );
     let lines = lines_in(rt, alloc, lines);
-    let ended = drive_client(alloc, client, stream, Zeros, lines, &mut Sheet { output });
-    let ended = end_text(ended);
-    (said(rt, alloc, sent), text_of(rt, alloc, told), ended)
+    let mut told = Vec::new(alloc);
+    let ended = end_text(drive_client(alloc, client, stream, Zeros, lines, &mut told));
+    let told = String::from_utf8(told).expect(rt, "text");
+    (said(rt, alloc, sent), told, ended)
 }
 
 // Alice's client that does the lines has to say and to tell this, and to be done, where this is what
@@ -145,8 +104,7 @@ const SAID: &str = r#"{"m":"hello","s":["alice",1,1]}
 close
 "#;
 
-/// What the client tells that does these lines.
-pub(crate) const TOLD: &str = "connected true
+const TOLD: &str = "connected true
 value /a 2 null
 refused 5
 value /a 3 1

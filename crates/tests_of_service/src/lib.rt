@@ -13,8 +13,6 @@ mod connections;
 #[cfg(test)]
 mod drives;
 #[cfg(test)]
-mod ends;
-#[cfg(test)]
 mod files;
 #[cfg(test)]
 mod script;

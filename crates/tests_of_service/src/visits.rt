@@ -64,8 +64,8 @@ fn visit<
     4
 }
 
-// What a server of one connection and its visitor print.
-fn one<
+// What a server and its visitor print. A second visitor may come once the first one was told this.
+fn meet<
     R: Net<Listener = TcpListener, Stream = TcpStream>
         + RandomSource
         + Threads
@@ -74,18 +74,30 @@ fn one<
         + Abort
         + Copy
         + Sync,
->(host: &HostRuntime, rt: &R, place: &Place, visitor: Visitor) -> String {
+>(
+    host: &HostRuntime,
+    rt: &R,
+    place: &Place,
+    visitor: Visitor,
+    second: Option<(&'static str, Visitor)>,
+) -> String {
     let alloc = host.alloc();
     let serving = Serving {
         address: place.address.as_str(),
         file: place.file.as_str(),
-        connections: Some(1),
+        connections: Some(if second.is_some() { 2 } else { 1 }),
     };
     let board = Board::new(alloc);
     let shared = &board;
     let (served, visited) = thread::scope(thread::scope_env(), rt, |scope| {
         let server = scope.spawn(move || serve(host, rt, serving));
         let server = server.expect(rt, "a thread");
+        if let Some((told, visitor)) = second {
+            drop(scope.spawn(move || {
+                shared.wait_for(rt, told);
+                visit(rt, alloc, serving.address, visitor, &mut Vec::new(alloc))
+            }));
+        }
         let visited = visit(
             rt,
             alloc,
@@ -143,8 +155,8 @@ connected false
 #[test]
 fn a_file_survives(rt: HostRuntime) {
     let place = new_place(&rt, &rt, "survives");
-    expect_text(&rt, one(&rt, &rt, &place, FIRST), FIRST_SAID);
-    expect_text(&rt, one(&rt, &rt, &place, SECOND), SECOND_SAID);
+    expect_text(&rt, meet(&rt, &rt, &place, FIRST, None), FIRST_SAID);
+    expect_text(&rt, meet(&rt, &rt, &place, SECOND, None), SECOND_SAID);
     place.clear(&rt);
 }
 
@@ -155,10 +167,10 @@ fn a_file_survives(rt: HostRuntime) {
 fn a_file_that_holds_nothing_is_made(rt: HostRuntime) {
     let place = new_place(&rt, &rt, "nothing");
     fs::write(&rt, place.file.as_str(), "\0").expect(&rt, "a file");
-    expect_text(&rt, one(&rt, &rt, &place, FIRST), FIRST_SAID);
+    expect_text(&rt, meet(&rt, &rt, &place, FIRST, None), FIRST_SAID);
     assert_eq!(rt; place.page_size(&rt, &rt), 1024);
     place.make_blank(&rt, &rt);
-    expect_text(&rt, one(&rt, &rt, &place, FIRST), FIRST_SAID);
+    expect_text(&rt, meet(&rt, &rt, &place, FIRST, None), FIRST_SAID);
     assert_eq!(rt; place.page_size(&rt, &rt), 4096);
     place.clear(&rt);
 }
@@ -175,46 +187,6 @@ const WRITES: Visitor = Visitor {
     lines: "set /b 1\n",
 };
 
-// What a server of two connections and the first visitor print, where the second one comes once
-// the first one has listened.
-fn two<
-    R: Net<Listener = TcpListener, Stream = TcpStream>
-        + RandomSource
-        + Threads
-        + Wait
-        + Clock
-        + Abort
-        + Copy
-        + Sync,
->(host: &HostRuntime, rt: &R, place: &Place) -> String {
-    let alloc = host.alloc();
-    let serving = Serving {
-        address: place.address.as_str(),
-        file: place.file.as_str(),
-        connections: Some(2),
-    };
-    let board = Board::new(alloc);
-    let shared = &board;
-    let (served, visited) = thread::scope(thread::scope_env(), rt, |scope| {
-        let server = scope.spawn(move || serve(host, rt, serving));
-        let server = server.expect(rt, "a thread");
-        let second = scope.spawn(move || {
-            shared.wait_for(rt, "value /b 2 null\n");
-            visit(rt, alloc, serving.address, WRITES, &mut Vec::new(alloc))
-        });
-        let visited = visit(
-            rt,
-            alloc,
-            serving.address,
-            LISTENS,
-            &mut Pen { rt, board: shared },
-        );
-        drop(second);
-        (server.join(rt), visited)
-    });
-    said(rt, alloc, served, visited, &board)
-}
-
 const TWO_SAID: &str = "0
 connected true
 value /b 2 null
@@ -225,7 +197,8 @@ connected false
 #[test]
 fn two_visitors_meet(rt: HostRuntime) {
     let place = new_place(&rt, &rt, "two");
-    expect_text(&rt, two(&rt, &rt, &place), TWO_SAID);
+    let second = Some(("value /b 2 null\n", WRITES));
+    expect_text(&rt, meet(&rt, &rt, &place, LISTENS, second), TWO_SAID);
     place.clear(&rt);
 }
 

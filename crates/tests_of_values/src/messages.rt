@@ -3,12 +3,10 @@
 
 use crate::said::{expect_said, expect_text};
 use pres_ids::{read_session, session_value, stamp_value};
-use pres_tree::{Path, Scalar, Tree};
 use pres_wire::{
-    ClientId, Code, Count, Down, Field, IdFault, Limit, MAX_TEXT_BYTES, Number, PathValue,
-    SessionId, Stamp, Up, Values, Why, WireFault,
+    ClientId, Count, Down, Field, IdFault, MAX_TEXT_BYTES, Number, SessionId, Stamp, Up, WireFault,
 };
-use pres_write::{Kept, MAX_SAFE_INTEGER};
+use pres_write::MAX_SAFE_INTEGER;
 use serde_json::Value;
 use std::alloc::Global;
 use std::process::Abort;
@@ -240,10 +238,8 @@ enum Table {
     RefusedWrites,
     RefusedLeft,
     Fields,
-    Pushes,
     Filled,
     RefusedFilled,
-    ToClients,
     Read,
     Unread,
 }
@@ -259,10 +255,8 @@ fn answer(rt: &impl Abort, alloc: Global, table: Table, case: &str) -> String {
         Table::RefusedWrites => refusal(rt, alloc, write_text(rt, alloc, case).as_str()),
         Table::RefusedLeft => refusal(rt, alloc, left_text(rt, alloc, case).as_str()),
         Table::Fields => fields_answer(rt, alloc, case),
-        Table::Pushes => push_answer(rt, alloc, case),
         Table::Filled => message_answer(rt, alloc, filled_text(rt, alloc, case).as_str()),
         Table::RefusedFilled => refusal(rt, alloc, filled_text(rt, alloc, case).as_str()),
-        Table::ToClients => to_client(rt, alloc, case),
         Table::Read => read_answer(rt, alloc, case),
         Table::Unread => unread_answer(rt, alloc, case),
     }
@@ -456,234 +450,6 @@ fn printed(rt: &impl Abort, alloc: Global, message: Down) -> String {
     encoded(rt, alloc, copied.expect(rt, "memory"))
 }
 
-fn welcome_text(rt: &impl Abort, alloc: Global) -> String {
-    let message = Down::Welcome {
-        session: session(rt, alloc, "alice"),
-        z: number(1),
-        ops: Count::zero(),
-    };
-    printed(rt, alloc, message)
-}
-
-// What a reply's write came to: it wrote, or it was stale over a number.
-fn kept(held: Option<i64>) -> Kept {
-    match held {
-        Some(number) => Kept::Stale(Some(Tree::scalar(Scalar::Int(number)))),
-        None => Kept::Wrote,
-    }
-}
-
-// The reply `r` to the write that the server has under its newest number.
-fn reply_text(
-    rt: &impl Abort,
-    alloc: Global,
-    client: &str,
-    r: u64,
-    z: u64,
-    held: Option<i64>,
-) -> String {
-    let message = Down::Reply {
-        session: session(rt, alloc, client),
-        r: number(r),
-        z: number(z),
-        q: number(2),
-        n: number(1),
-        done: number(z),
-        out: kept(held),
-    };
-    printed(rt, alloc, message)
-}
-
-fn gone_text(rt: &impl Abort, alloc: Global) -> String {
-    let message = Down::Gone {
-        session: session(rt, alloc, "alice"),
-        r: number(3),
-        z: number(6),
-        why: Why::Lost,
-    };
-    printed(rt, alloc, message)
-}
-
-fn armed_text(rt: &impl Abort, alloc: Global) -> String {
-    let message = Down::Armed {
-        session: session(rt, alloc, "alice"),
-        r: number(3),
-        z: number(6),
-        q: number(2),
-    };
-    printed(rt, alloc, message)
-}
-
-fn denied_text(rt: &impl Abort, alloc: Global, why: Limit) -> String {
-    let message = Down::Denied {
-        session: session(rt, alloc, "alice"),
-        r: number(3),
-        z: number(6),
-        q: number(2),
-        why,
-    };
-    printed(rt, alloc, message)
-}
-
-// A value at `/a`: the number, or null.
-fn snap_text(rt: &impl Abort, alloc: Global, held: Option<i64>) -> String {
-    let path = Path::parse(alloc, "/a").expect(rt, "a path");
-    let session = session(rt, alloc, "bob");
-    let message = Down::Snap {
-        session,
-        r: number(1),
-        z: number(3),
-        q: number(1),
-        path,
-        value: value(held),
-    };
-    printed(rt, alloc, message)
-}
-
-// The number, or null.
-fn value(held: Option<i64>) -> Tree {
-    match held {
-        Some(number) => Tree::scalar(Scalar::Int(number)),
-        None => Tree::empty(),
-    }
-}
-
-// Null at the path.
-fn nothing_at(rt: &impl Abort, alloc: Global, path: &str) -> PathValue {
-    PathValue {
-        path: Path::parse(alloc, path).expect(rt, "a path"),
-        value: Tree::empty(),
-    }
-}
-
-// Null at each of the paths, which stand between spaces, if they rise.
-fn nothing_at_each(rt: &impl Abort, alloc: Global, paths: &str) -> Option<Values> {
-    let mut items = Vec::new(alloc);
-    for path in paths.split_whitespace() {
-        items.push(nothing_at(rt, alloc, path)).expect(rt, "memory");
-    }
-    Values::new(items)
-}
-
-// The text of a Push of null at each of the paths, or `none` where they don't rise.
-fn push_answer(rt: &impl Abort, alloc: Global, paths: &str) -> String {
-    match nothing_at_each(rt, alloc, paths) {
-        Some(values) => push_text(rt, alloc, values),
-        None => String::from_str(alloc, "none").expect(rt, "memory"),
-    }
-}
-
-fn push_text(rt: &impl Abort, alloc: Global, values: Values) -> String {
-    let message = Down::Push {
-        session: session(rt, alloc, "bob"),
-        r: number(2),
-        z: number(3),
-        values,
-    };
-    printed(rt, alloc, message)
-}
-
-fn off_done_text(rt: &impl Abort, alloc: Global) -> String {
-    let message = Down::OffDone {
-        session: session(rt, alloc, "bob"),
-        r: number(3),
-        z: number(4),
-        q: number(2),
-    };
-    printed(rt, alloc, message)
-}
-
-fn old_text(rt: &impl Abort, alloc: Global) -> String {
-    let message = Down::Fault {
-        session: Some(session(rt, alloc, "a")),
-        code: Code::Old(stamp(1, 1)),
-    };
-    printed(rt, alloc, message)
-}
-
-fn bad_text(rt: &impl Abort, alloc: Global) -> String {
-    let message = Down::Fault {
-        session: None,
-        code: Code::Bad,
-    };
-    printed(rt, alloc, message)
-}
-
-// The text of the message to a client that the case names.
-fn to_client(rt: &impl Abort, alloc: Global, case: &str) -> String {
-    match case {
-        "welcome" => welcome_text(rt, alloc),
-        "gone" => gone_text(rt, alloc),
-        "old" => old_text(rt, alloc),
-        "bad" => bad_text(rt, alloc),
-        "armed" => armed_text(rt, alloc),
-        "plan" => denied_text(rt, alloc, Limit::Plan),
-        "listens" => denied_text(rt, alloc, Limit::Listens),
-        "wrote" => reply_text(rt, alloc, "alice", 2, 5, None),
-        _ => reply_text(rt, alloc, "bob", 3, 7, Some(1)),
-    }
-}
-
-const TO_CLIENTS: &str = r#"welcome => {"m":"welcome","ops":0,"s":["alice",1,1],"z":1}
-gone => {"m":"gone","r":3,"s":["alice",1,1],"why":"lost","z":6}
-old => {"code":2,"last":[1,1],"m":"fault","s":["a",1,1]}
-bad => {"code":1,"m":"fault","s":null}"#;
-
-const PLANNED: &str = r#"armed => {"m":"armed","q":2,"r":3,"s":["alice",1,1],"z":6}
-plan => {"m":"denied","q":2,"r":3,"s":["alice",1,1],"why":1,"z":6}
-listens => {"m":"denied","q":2,"r":3,"s":["alice",1,1],"why":2,"z":6}"#;
-
-const REPLIES: &str =
-    r#"wrote => {"done":5,"m":"reply","n":1,"out":"wrote","q":2,"r":2,"s":["alice",1,1],"z":5}
-stale => {"done":7,"m":"reply","n":1,"out":{"stale":1},"q":2,"r":3,"s":["bob",1,1],"z":7}"#;
-
-#[test]
-fn messages_to_clients_are_printed(rt: HostRuntime) {
-    check(&rt, rt.alloc(), Table::ToClients, TO_CLIENTS);
-}
-
-#[test]
-fn answers_to_plans_are_printed(rt: HostRuntime) {
-    check(&rt, rt.alloc(), Table::ToClients, PLANNED);
-}
-
-const PUSHES: &str = r#"/a/b => {"m":"push","r":2,"s":["bob",1,1],"values":[["/a/b",null]],"z":3}
-/a /a/b => {"m":"push","r":2,"s":["bob",1,1],"values":[["/a",null],["/a/b",null]],"z":3}
-/a /a => none
-/a/b /a => none"#;
-
-#[test]
-fn what_listeners_are_told_is_printed(rt: HostRuntime) {
-    expect_text(
-        &rt,
-        snap_text(&rt, rt.alloc(), None),
-        r#"{"m":"snap","path":"/a","q":1,"r":1,"s":["bob",1,1],"value":null,"z":3}"#,
-    );
-    expect_text(
-        &rt,
-        snap_text(&rt, rt.alloc(), Some(1)),
-        r#"{"m":"snap","path":"/a","q":1,"r":1,"s":["bob",1,1],"value":1,"z":3}"#,
-    );
-    expect_text(
-        &rt,
-        off_done_text(&rt, rt.alloc()),
-        r#"{"m":"offdone","q":2,"r":3,"s":["bob",1,1],"z":4}"#,
-    );
-    check(&rt, rt.alloc(), Table::Pushes, PUSHES);
-    expect_text(
-        &rt,
-        push_answer(&rt, rt.alloc(), ""),
-        r#"{"m":"push","r":2,"s":["bob",1,1],"values":[],"z":3}"#,
-    );
-}
-
-#[test]
-fn replies_are_printed(rt: HostRuntime) {
-    check(&rt, rt.alloc(), Table::ToClients, REPLIES);
-}
-
-// ---- messages to clients, read
-
 fn read_text(rt: &impl Abort, alloc: Global, text: &str) -> String {
     let message = Down::decode(alloc, text).expect(rt, "a message");
     printed(rt, alloc, message)
@@ -710,8 +476,11 @@ const READ: &str = r#"{"m":"welcome","ops":0,"s":["alice",1,1],"z":1} => same
 {"m":"gone","r":3,"s":["alice",1,1],"why":"lost","z":6} => same
 {"m":"armed","q":2,"r":3,"s":["alice",1,1],"z":6} => same
 {"m":"denied","q":2,"r":3,"s":["alice",1,1],"why":1,"z":6} => same
+{"m":"denied","q":2,"r":3,"s":["alice",1,1],"why":2,"z":6} => same
 {"m":"snap","path":"/a","q":1,"r":1,"s":["bob",1,1],"value":null,"z":3} => same
+{"m":"snap","path":"/a","q":1,"r":1,"s":["bob",1,1],"value":1,"z":3} => same
 {"m":"push","r":2,"s":["bob",1,1],"values":[["/a/b",null]],"z":4} => same
+{"m":"push","r":2,"s":["bob",1,1],"values":[["/a",null],["/a/b",null]],"z":4} => same
 {"m":"push","r":2,"s":["bob",1,1],"values":[],"z":4} => same
 {"m":"offdone","q":2,"r":3,"s":["bob",1,1],"z":5} => same
 {"code":4,"m":"fault","s":["alice",1,1]} => same
@@ -731,11 +500,12 @@ const UNREAD: &str = r#" => NotJson
 {"code":2,"m":"fault","s":["alice",1,1]} => Field(Last)
 {"code":1,"m":"fault"} => Field(Session)
 {"m":"push","r":2,"s":["bob",1,1],"values":[["/a",1],["/a",2]],"z":4} => Field(Values)
+{"m":"push","r":2,"s":["bob",1,1],"values":[["/a/b",null],["/a",null]],"z":4} => Field(Values)
 {"m":"snap","path":"/a.b","q":1,"r":1,"s":["bob",1,1],"value":null,"z":3} => Field(Path)
 {"m":"snap","path":"/a","q":1,"r":1,"s":["bob",1,1],"value":1.5,"z":3} => Field(Value)"#;
 
 #[test]
-fn messages_to_clients_are_read(rt: HostRuntime) {
+fn messages_to_clients_are_read_and_printed(rt: HostRuntime) {
     check(&rt, rt.alloc(), Table::Read, READ);
     check(&rt, rt.alloc(), Table::Unread, UNREAD);
 }
