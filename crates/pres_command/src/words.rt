@@ -1,7 +1,7 @@
 //! The words of the command line.
 
 ghost use Rattle.std.specs.Prelude.{◌≡◌, Some, IfErr, IfOk, IfSome, MatchResult, codes, false, map};
-ghost use Rattle.clap.specs.Words.{app_of, found_of, kind_of, new_rule, rows_of, rule_of, subcommand_of, with_subcommand};
+ghost use Rattle.clap.specs.Words.{App, app_of, found_of, kind_of, new_rule, rows_of, rule_of, subcommand_of, with_subcommand};
 ghost use Rattle.clap.specs.declared.error.kind.ErrorKind.TheVariants.{OutOfMemory};
 ghost use Rattle.pres_command.specs.Words.{AreTaken, AsksApply, HasNoGlobals, IsAskedBy, IsCalled, IsMistake, IsServed};
 ghost use Rattle.pres_command.specs.Words.{apply_shape, client_shape, needed, program, serve_shape, sim_shape, up_to};
@@ -115,27 +115,17 @@ fn incarnation_argument<'a>(alloc: Global) -> Arg<'a>
         .help("Which start of the client this is: a greater number each time")
 }
 
-// The command with the one that makes a server.
-fn with_serve<'a>(alloc: Global, command: Command<'a>) -> Result<Command<'a>, AllocError>
-    ensures { IfOk result (λ made.
-        app_of made ≡ with_subcommand (app_of command.entry) serve_shape.top) }
+// The command with one more below it, where that was made.
+fn with_made<'a>(
+    command: Command<'a>,
+    made: Result<Command<'a>, AllocError>,
+) -> Result<Command<'a>, AllocError>
+    ensures { (shape : App) → IfOk made.entry (λ below. app_of below ≡ shape)
+        → IfOk made.entry (λ below. HasNoGlobals below)
+        → IfOk result (λ whole. app_of whole ≡ with_subcommand (app_of command.entry) shape.top) }
 {
-    match serve_command(alloc) {
-        Ok(serve) => command.subcommand(serve),
-        Err(refused) => {
-            drop(command);
-            Err(refused)
-        }
-    }
-}
-
-// The command with the one that makes a client.
-fn with_client<'a>(alloc: Global, command: Command<'a>) -> Result<Command<'a>, AllocError>
-    ensures { IfOk result (λ made.
-        app_of made ≡ with_subcommand (app_of command.entry) client_shape.top) }
-{
-    match client_command(alloc) {
-        Ok(client) => command.subcommand(client),
+    match made {
+        Ok(made) => command.subcommand(made),
         Err(refused) => {
             drop(command);
             Err(refused)
@@ -153,7 +143,8 @@ fn command<'a>(alloc: Global) -> Result<Command<'a>, AllocError>
         .disable_help_subcommand(true)
         .subcommand(apply_command(alloc))?
         .subcommand(sim_command(alloc))?;
-    with_client(alloc, with_serve(alloc, command)?)
+    let command = with_made(command, serve_command(alloc))?;
+    with_made(command, client_command(alloc))
 }
 
 /// Reads the words of the command line, the program's name first.

@@ -14,6 +14,6 @@ returns c =
     c.in_ok-subcommand.ensures.shape c.apply_command.ensures.local ∙ ap₂ with_subcommand base_is (ap (λ (a : App). a.top) c.apply_command.ensures.app) in
     let two : app_of c.in_ok-command.command ≡ with_subcommand (with_subcommand base apply_shape.top) sim_shape.top =
     c.in_ok-command.ensures.shape c.sim_command.ensures.local ∙ ap₂ with_subcommand one (ap (λ (a : App). a.top) c.sim_command.ensures.app) in
-    let three : app_of c.in_ok-with_serve.field-0 ≡ with_subcommand (with_subcommand (with_subcommand base apply_shape.top) sim_shape.top) serve_shape.top =
-    c.in_ok-with_serve.ensures ∙ ap (λ a. with_subcommand a serve_shape.top) two in
-    IfOk-weaker c.with_client.result _ _ (λ made adds. adds ∙ ap (λ a. with_subcommand a client_shape.top) three) c.with_client.ensures
+    let three : app_of c.in_ok-command-2.command ≡ with_subcommand (with_subcommand (with_subcommand base apply_shape.top) sim_shape.top) serve_shape.top =
+    c.in_ok-command-2.ensures serve_shape c.serve_command.ensures.app c.serve_command.ensures.local ∙ ap (λ a. with_subcommand a serve_shape.top) two in
+    IfOk-weaker c.with_made-2.result _ _ (λ made adds. adds ∙ ap (λ a. with_subcommand a client_shape.top) three) (c.with_made-2.ensures client_shape c.client_command.ensures.app c.client_command.ensures.local)
