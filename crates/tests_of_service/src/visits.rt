@@ -160,6 +160,62 @@ fn a_file_survives(rt: HostRuntime) {
     place.clear(&rt);
 }
 
+// Each call that makes a message, and what stays behind its session.
+const CALLS: Visitor = Visitor {
+    id: "alice",
+    incarnation: 1,
+    lines: r#"set /a 1
+listen /a
+update /a {"b":1,"c":2}
+od-set /x 1
+od-update /y {"z":2}
+od-remove /a/b
+od-cancel /x
+unlisten /a
+transact /n
+answer 8 5
+remove /a/c
+beat
+resend"#,
+};
+
+const CALLS_SAID: &str = r#"0
+connected true
+done 1 2
+value /a 3 1
+value /a 4 {"b":1,"c":2}
+done 3 4
+armed 4
+armed 5
+armed 6
+armed 7
+ask 8 1 null
+done 8 10
+done 9 11
+connected false
+0 number 12"#;
+
+const AFTERWARDS: Visitor = Visitor {
+    id: "alice",
+    incarnation: 2,
+    lines: "listen /",
+};
+
+const AFTERWARDS_SAID: &str = r#"0
+connected true
+value / 14 {"n":5,"y":{"z":2}}
+connected false
+0 number 15"#;
+
+#[test]
+fn each_call_reaches_the_server(rt: HostRuntime) {
+    let place = new_place(&rt, &rt, "calls");
+    expect_text(&rt, meet(&rt, &rt, &place, CALLS, None), CALLS_SAID);
+    let afterwards = meet(&rt, &rt, &place, AFTERWARDS, None);
+    expect_text(&rt, afterwards, AFTERWARDS_SAID);
+    place.clear(&rt);
+}
+
 // A file in which there is nothing yet gets its tables: one that a server was stopped in the making
 // of, and a database without tables, whose pages stay as large as they are. Those of a new file have
 // 1,024 bytes (https://sqlite.org/fileformat.html, 1.3.2).
