@@ -1,7 +1,7 @@
 //! Tests of messages: what is read and printed, and why texts are refused. A table is a text of
 //! lines, each a case and what it must answer. Each helper holds one message at most.
 
-use crate::said::{expect_said, expect_text};
+use crate::said::{expect_said, expect_text, json_text};
 use pres_ids::{read_session, session_value, stamp_value};
 use pres_wire::{
     ClientId, Count, Down, Field, IdFault, MAX_TEXT_BYTES, Number, SessionId, Stamp, Up, WireFault,
@@ -103,12 +103,6 @@ fn session_in(rt: &impl Abort, alloc: Global, text: &str) -> Option<SessionId> {
     let session = read_session(alloc, &value);
     drop(value);
     session.expect(rt, "a session")
-}
-
-fn json_text(rt: &impl Abort, alloc: Global, value: Value) -> String {
-    let text = value.to_string(alloc);
-    drop(value);
-    text.expect(rt, "memory")
 }
 
 // The JSON of the session and of its stamp.

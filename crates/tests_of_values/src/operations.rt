@@ -4,7 +4,7 @@
 ghost use Rattle.pres_write.specs.Basics.{Apart};
 ghost use Rattle.pres_write.specs.Outcomes.{writes_in};
 
-use crate::said::{expect_said, expect_text};
+use crate::said::{expect_said, expect_text, json_text};
 use pres_tree::{Path, Scalar, Tree, TreeFault, TreeJson, to_value};
 use pres_write::{
     Basic, Draft, DraftJson, Items, Kept, Moment, Op, OpJson, Outcome, Placement, Puts, Slot,
@@ -29,12 +29,6 @@ enum Table {
     Sets,
     Txs,
     Puts,
-}
-
-fn json_text(rt: &impl Abort, alloc: Global, value: Value) -> String {
-    let text = value.to_string(alloc);
-    drop(value);
-    text.expect(rt, "memory")
 }
 
 fn printed(rt: &impl Abort, alloc: Global, tree: Tree) -> String {

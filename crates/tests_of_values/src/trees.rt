@@ -3,7 +3,7 @@
 
 ghost use Rattle.pres_tree.specs.Rows.{Fits};
 
-use crate::said::{expect_said, expect_text};
+use crate::said::{expect_said, expect_text, json_text};
 use pres_tree::{
     Key, MAX_DEPTH, Path, Scalar, ScalarForm, Text, Tree, TreeFault, TreeJson, from_value_below,
 };
@@ -185,12 +185,6 @@ fn keys_are_displayed(rt: HostRuntime) {
     let key = Key::parse(rt.alloc(), "a-b").expect(&rt, "a number");
     assert!(rt; key >= key);
     expect_text(&rt, key.to_string(rt.alloc()).expect(&rt, "memory"), "a-b");
-}
-
-fn json_text(rt: &impl Abort, alloc: Global, value: Value) -> String {
-    let text = value.to_string(alloc);
-    drop(value);
-    text.expect(rt, "memory")
 }
 
 // The text of the value, by its JSON value and as it is written at once.
