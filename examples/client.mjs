@@ -49,6 +49,11 @@ socket.onmessage = ({ data }) => {
     answers.delete(message.q);
   } else {
     console.log(data); // a Gone or a Fault
+    process.exit();
   }
 };
-socket.onclose = () => process.exit();
+socket.onerror = () => {}; // a close comes behind it
+socket.onclose = () => {
+  console.error("offline");
+  process.exit(1);
+};

@@ -10,8 +10,7 @@ import websockets
 class Session:
     def __init__(self, socket, *session):
         self.socket, self.session = socket, session
-        self.q = self.n = 0  # the last message, the last write
-        self.answers = {}  # those that are waited for, by q
+        self.q, self.n, self.answers = 0, 0, {}  # the last message, the last write, and what is waited for, by q
 
     async def say(self, **message):
         await self.socket.send(json.dumps({"s": self.session, **message}))
@@ -34,10 +33,8 @@ class Session:
                     self.n, self.task = writes, asyncio.create_task(self.stay(f"/presence/{self.session[0]}"))
                 case {"m": "push", "values": [[path, value]]}:
                     print(path, json.dumps(value), flush=True)
-                case {"q": q} as answer:
-                    self.answers.pop(q).set_result(answer)
-                case ended:  # a Gone or a Fault
-                    return print(json.dumps(ended), flush=True)
+                case {"q": q} as answer: self.answers.pop(q).set_result(answer)
+                case ended: return print(json.dumps(ended), flush=True)  # a Gone or a Fault
 
     async def stay(self, place):
         await self.ask(m="left", op={"op": "remove", "path": place})
@@ -53,7 +50,10 @@ class Session:
 
 
 async def main(name, address="127.0.0.1:8080", incarnation=time.time() * 1000):
-    async with websockets.connect(f"ws://{address}/", max_size=None) as socket:
-        await Session(socket, name, int(incarnation), 1).read()
+    try:
+        async with websockets.connect(f"ws://{address}/", max_size=None) as socket:
+            await Session(socket, name, int(incarnation), 1).read()
+    except (OSError, websockets.ConnectionClosed):
+        sys.exit("offline")
 
 asyncio.run(main(*sys.argv[1:]))

@@ -3,11 +3,13 @@
 
 use crate::rows::called;
 use crate::turns::step;
-use crate::words::{expect_said, refused, run_sql, said};
+use crate::words::{expect_said, expect_text, refused, run_sql, said};
+use pres_engine::{Premise, Supposed};
 use pres_keeper::{Keeper, MemKeeper};
 use pres_saved::SqlKeeper;
 use sqlite::{Alter, Connection, Row, params};
 use std::alloc::Global;
+use std::marker::Brand;
 use std::process::Abort;
 
 // The columns of a row of batches.
@@ -191,4 +193,28 @@ fn check_both(rt: &impl Abort, alloc: Global, lines: &str) {
 fn servers_are_made_anew(rt: HostRuntime) {
     check_both(&rt, rt.alloc(), TWICE);
     check_both(&rt, rt.alloc(), RESTARTED);
+}
+
+// What a step says over a keeper that is ready by a premise, and how the keeper is that it gives back.
+fn supposed<P: Premise, R: Abort>(rt: &R, alloc: Global, call: &str) -> (String, String) {
+    let mut keeper = Supposed::<MemKeeper, P>::new(MemKeeper::new(alloc));
+    let said = step(rt, alloc, &mut keeper, call);
+    let mut keeper = keeper.into_inner();
+    (said, step(rt, alloc, &mut keeper, "server"))
+}
+
+// The same by a premise that always holds.
+fn check_supposed<R: Abort>(rt: &R, alloc: Global) {
+    let (said, kept) = supposed::<Brand, R>(rt, alloc, r#"1000 {"m":"hello","s":["alice",1,1]}"#);
+    expect_text(
+        rt,
+        said,
+        r#"{"m":"welcome","ops":0,"s":["alice",1,1],"z":1}"#,
+    );
+    expect_text(rt, kept, "1 entries, null");
+}
+
+#[test]
+fn a_supposed_keeper_is_given_back(rt: HostRuntime) {
+    check_supposed(&rt, rt.alloc());
 }

@@ -108,17 +108,31 @@ fn closed<D: Disk + Drop>(connection: Connection<FileStore<D>>, ran: Ran) -> (Fi
     }
 }
 
+// The database in the files, or the files where it isn't opened.
+fn opened<D: Disk + Drop>(
+    alloc: Global,
+    files: Files<D>,
+) -> Result<Connection<FileStore<D>>, Files<D>>
+    requires log { IsTrue (D.Disk.is_usable files.log) }
+    requires db { IsTrue (D.Disk.is_usable files.db) }
+{
+    match Connection::open_files(alloc, files, options()) {
+        Ok(connection) => Ok(connection),
+        Err((_, left)) => Err(left.into_files()),
+    }
+}
+
 // What a run over these files, which hold nothing, leaves in them.
 fn left<D: Disk + Drop>(rt: &impl Abort, alloc: Global, files: Files<D>) -> (Files<D>, Ran)
     requires log { IsTrue (D.Disk.is_usable files.log) }
     requires db { IsTrue (D.Disk.is_usable files.db) }
 {
-    match Connection::open_files(alloc, files, options()) {
+    match opened(alloc, files) {
         Ok(connection) => {
             let (connection, ran) = run(rt, alloc, connection);
             closed(connection, ran)
         }
-        Err((_, left)) => (left.into_files(), NOT_OPENED),
+        Err(files) => (files, NOT_OPENED),
     }
 }
 
@@ -158,10 +172,10 @@ fn found<S: Alter + Drop>(rt: &impl Abort, alloc: Global, connection: Connection
 fn reopened<D: Crash + Drop>(rt: &impl Abort, alloc: Global, mut files: Files<D>) -> String {
     files.log.crash();
     files.db.crash();
-    match Connection::open_files(alloc, files, options()) {
+    match opened(alloc, files) {
         Ok(connection) => found(rt, alloc, connection),
-        Err((_, left)) => {
-            drop(left);
+        Err(files) => {
+            drop(files);
             said(rt, alloc, "not opened")
         }
     }

@@ -11,7 +11,7 @@ use std::alloc::Global;
 use std::process::Abort;
 
 // What comes, and when: a moment and `restart` with a client, or a message.
-pub(crate) fn given(rt: &impl Abort, alloc: Global, text: &str) -> (Input, Moment) {
+fn given(rt: &impl Abort, alloc: Global, text: &str) -> (Input, Moment) {
     let (millis, line) = text.split_once(' ').expect(rt, "a moment");
     let now = Moment::at(millis.parse().expect(rt, "a number"));
     match line.strip_prefix("restart ") {
@@ -27,7 +27,7 @@ pub(crate) fn given(rt: &impl Abort, alloc: Global, text: &str) -> (Input, Momen
 }
 
 // The texts of the answers, with a blank between two.
-pub(crate) fn texts(rt: &impl Abort, alloc: Global, answers: &[Down]) -> String {
+fn texts(rt: &impl Abort, alloc: Global, answers: &[Down]) -> String {
     let mut joined = String::new(alloc);
     for answer in answers {
         if !joined.is_empty() {

@@ -190,15 +190,14 @@ fn faults_have_codes(rt: HostRuntime) {
         incarnation: Number::first(),
         attempt: Number::first(),
     };
-    for (fault, number) in [
-        (Fault::Bad, 1),
-        (Fault::Old(last), 2),
-        (Fault::Session, 3),
-        (Fault::Order, 4),
-        (Fault::Full, 5),
-        (Fault::Busy, 6),
-        (Fault::Spent, 7),
-    ] {
-        assert_eq!(rt; fault.code().number(), number);
-    }
+    let codes = (
+        Fault::Bad.code().number(),
+        Fault::Old(last).code().number(),
+        Fault::Session.code().number(),
+        Fault::Order.code().number(),
+        Fault::Full.code().number(),
+        Fault::Busy.code().number(),
+        Fault::Spent.code().number(),
+    );
+    assert_eq!(rt; codes, (1, 2, 3, 4, 5, 6, 7));
 }

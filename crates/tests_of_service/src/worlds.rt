@@ -540,21 +540,18 @@ fn check_told(rt: &impl Abort, alloc: Global, script: &str) {
 
 #[test]
 fn clients_and_a_server_get_on(rt: HostRuntime) {
-    for script in [
-        BEFORE_ONLINE,
-        RESTARTED,
-        LOST_ANSWER,
-        LATE,
-        OLD,
-        AGAIN,
-        VIEW_STAYS,
-        VIEW_ANEW,
-        RACE,
-        UPDATES,
-        IN_ORDER,
-    ] {
-        check_told(&rt, rt.alloc(), script);
-    }
+    let alloc = rt.alloc();
+    check_told(&rt, alloc, BEFORE_ONLINE);
+    check_told(&rt, alloc, RESTARTED);
+    check_told(&rt, alloc, LOST_ANSWER);
+    check_told(&rt, alloc, LATE);
+    check_told(&rt, alloc, OLD);
+    check_told(&rt, alloc, AGAIN);
+    check_told(&rt, alloc, VIEW_STAYS);
+    check_told(&rt, alloc, VIEW_ANEW);
+    check_told(&rt, alloc, RACE);
+    check_told(&rt, alloc, UPDATES);
+    check_told(&rt, alloc, IN_ORDER);
 }
 
 #[test]

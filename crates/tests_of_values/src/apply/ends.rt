@@ -20,15 +20,12 @@ fn check_broken(rt: &impl Abort, alloc: Global, bytes: &[u8], output: &str) {
 #[test]
 fn stops_where_a_read_fails(rt: HostRuntime) {
     let alloc = rt.alloc();
-    let text = format!(in alloc; "{SET_A}\nx\n{SET_AB}").expect(&rt, "memory");
-    for (length, output) in [
-        (0, ""),
-        (SET_A.len(), ""),
-        (SET_A.len() + 1, "1 wrote\n"),
-        (text.len(), "1 wrote\nrefused 12 NotJson\n"),
-    ] {
-        check_broken(&rt, alloc, &text.as_bytes()[..length], output);
-    }
+    let line = format!(in alloc; "{SET_A}\n").expect(&rt, "memory");
+    let text = format!(in alloc; "{line}x\n{SET_AB}").expect(&rt, "memory");
+    check_broken(&rt, alloc, b"", "");
+    check_broken(&rt, alloc, SET_A.as_bytes(), "");
+    check_broken(&rt, alloc, line.as_bytes(), "1 wrote\n");
+    check_broken(&rt, alloc, text.as_bytes(), "1 wrote\nrefused 12 NotJson\n");
 }
 
 // An output that takes so many writes has to hold this, and the run to come to this.
