@@ -7,12 +7,19 @@
 //                                          in the three writes of a commit, synced
 //   load loop FILE append|page|place       says its port, and serves one connection after the other: each message is written
 //                                          so, synced, and then answered
-//   load push PORT LISTENERS WRITES        writes at random moments: how long until each listener has them
+//   load ends FILE                         says its port, and serves who watches and, behind it, one connection after the other:
+//                                          at each one's end 4 KiB are written, synced, and its line goes out to who watches
+//   load push LISTENERS WRITES SERVER=PORT ..
+//                                          writes at random moments, to one server after the other: how long until each
+//                                          listener has them; SERVER: presence, mqtt or redis
 //   load flood PORT LISTENERS SECONDS      one writer, one write in flight: how many pushes came, and in order
-//   load killed PORT ROUNDS process|reset  how long until a watcher knows that a client was killed
+//   load killed ROUNDS process|reset SERVER=PORT ..
+//                                          how long until a watcher knows that a client was killed, of one server after the
+//                                          other; SERVER: presence, mqtt or ends
 //   load fill PORT BATCHES                 makes so many batches, several writes in flight
-//   load hold PORT CONNECTIONS PATHS       opens sessions that listen to so many paths each, says so, and waits for the end of
-//                                          its input
+//   load hold SERVER PORT CONNECTIONS PATHS
+//                                          opens sessions that listen to so many paths each, says so, and waits for the end of
+//                                          its input; SERVER: presence, mqtt or redis
 //   load listen PORT PATHS ROUNDS          a session listens to so many paths, then to none of them, and ends: how long each takes
 #define _GNU_SOURCE
 #include <arpa/inet.h>
@@ -37,11 +44,15 @@
 
 typedef struct { const char *at; size_t len; } Text;
 
+typedef struct News News;
+
 // A connection: what was read and not looked at yet stands in in[at..have].
 typedef struct {
     int fd;
     char *in;
     size_t at, have, room;
+    int port;       // of its server
+    const News *news; // how it speaks to that, where it listens
     char id[32];    // the client
     long attempt;   // its sessions
     long q, n;      // its last message, its last write
@@ -49,7 +60,7 @@ typedef struct {
     double sent;    // when its last write went out
 } Conn;
 
-static int port;
+static int port;          // of the server that connections are made for
 static int watch;         // the epoll of the connections that are looked at together
 static long incarnation;  // of all clients of this run
 
@@ -104,7 +115,7 @@ static void refuse(const char *what, Text text) {
 static const Text silence = {"silence", 7}, the_end = {"the end of the connection", 25};
 
 static void dial(Conn *c) {
-    struct sockaddr_in to = {.sin_family = AF_INET, .sin_port = htons(port), .sin_addr.s_addr = htonl(INADDR_LOOPBACK)};
+    struct sockaddr_in to = {.sin_family = AF_INET, .sin_port = htons(c->port), .sin_addr.s_addr = htonl(INADDR_LOOPBACK)};
     struct timeval most = {.tv_sec = SILENCE};
     int one = 1;
     if (!c->in) c->in = malloc(c->room = 16384);
@@ -236,7 +247,10 @@ static void set(Conn *c, const char *path, const char *value) {
 // Connections that are looked at together. The clients of one run have the names WORD0, WORD1, ..
 static Conn *conns_of(int count, const char *word) {
     Conn *conns = calloc(count, sizeof(Conn));
-    for (int i = 0; i < count; i++) snprintf(conns[i].id, sizeof conns[i].id, "%s%d", word, i);
+    for (int i = 0; i < count; i++) {
+        conns[i].port = port;
+        snprintf(conns[i].id, sizeof conns[i].id, "%s%d", word, i);
+    }
     return conns;
 }
 
@@ -300,32 +314,46 @@ static void redis_ask(Conn *c) {
 
 static int redis_answered(Conn *c) { return has(c, "+OK", 3, 5); }
 
-static void mqtt_open(Conn *c) {
-    char out[64];
+// Opens a session that leaves this behind as a retained message about the news, or nothing.
+static void mqtt_open_with(Conn *c, const char *left) {
+    char out[96], *at = out + 14;
     int id = strlen(c->id);
     memcpy(out, "\x10\x00\x00\x04MQTT\x04\x02\x00\x00\x00", 13);
-    out[1] = 12 + id;
     out[13] = id;
-    memcpy(out + 14, c->id, id);
+    at = mempcpy(at, c->id, id);
+    if (left) {
+        out[9] |= 0x24;
+        at = mempcpy(at, "\x00\x04news\x00", 7);
+        *at++ = strlen(left);
+        at = mempcpy(at, left, strlen(left));
+    }
+    out[1] = at - out - 2;
     dial(c);
-    send_all(c, out, 14 + id);
+    send_all(c, out, at - out);
     while (!has(c, "\x20\x02\x00\x00", 4, 4)) receive(c, 0);
 }
 
+static void mqtt_open(Conn *c) { mqtt_open_with(c, NULL); }
+
 // A publish of quality 1, retained.
-static void mqtt_ask(Conn *c) {
-    char out[128];
-    c->n++;
-    int topic = snprintf(out + 4, 32, "place/%d", place_of(c)), id = c->n % 65535 + 1;
-    out[0] = 0x33;
-    out[1] = 2 + topic + 2 + 64;
-    out[2] = 0;
-    out[3] = topic;
-    out[4 + topic] = id >> 8;
-    out[5 + topic] = id;
-    memcpy(out + 6 + topic, value_of(c), 64);
+static void mqtt_publish(Conn *c, const char *topic, const char *value) {
+    char out[128] = {0x33}, *at = out + 2;
+    int id = ++c->n % 65535 + 1;
+    *at++ = 0;
+    *at++ = strlen(topic);
+    at = mempcpy(at, topic, strlen(topic));
+    *at++ = id >> 8;
+    *at++ = id;
+    at = mempcpy(at, value, strlen(value));
+    out[1] = at - out - 2;
     c->sent = now();
-    send_all(c, out, 6 + topic + 64);
+    send_all(c, out, at - out);
+}
+
+static void mqtt_ask(Conn *c) {
+    char topic[32];
+    snprintf(topic, sizeof topic, "place/%d", place_of(c));
+    mqtt_publish(c, topic, value_of(c));
 }
 
 static int mqtt_answered(Conn *c) { return has(c, "\x40\x02", 2, 4); }
@@ -461,8 +489,6 @@ static void time_syncs(const char *file, const char *way, double seconds) {
 
 static void serve_connection(int peer, Kept *kept) {
     static char asked[4096];
-    int yes = 1;
-    setsockopt(peer, IPPROTO_TCP, TCP_NODELAY, &yes, sizeof yes);
     while (recv(peer, asked, sizeof asked, 0) > 0) {
         keep(kept);
         if (send(peer, "+OK\r\n", 5, MSG_NOSIGNAL) < 0) break;
@@ -470,59 +496,260 @@ static void serve_connection(int peer, Kept *kept) {
     close(peer);
 }
 
-static void serve_in_a_loop(const char *file, const char *way) {
+// A socket that listens at a port of its own, which it says.
+static int listening(void) {
     struct sockaddr_in own = {.sin_family = AF_INET, .sin_addr.s_addr = htonl(INADDR_LOOPBACK)};
     socklen_t len = sizeof own;
     int listener = socket(AF_INET, SOCK_STREAM, 0);
-    Kept kept = kept_in(file, way);
     if (bind(listener, (struct sockaddr *)&own, len) || listen(listener, 8)) die("listen");
     if (getsockname(listener, (struct sockaddr *)&own, &len)) die("getsockname");
     printf("port=%d\n", ntohs(own.sin_port));
     fflush(stdout);
+    return listener;
+}
+
+static int accepted_by(int listener) {
+    int peer = accept(listener, NULL, NULL), yes = 1;
+    if (peer < 0) die("accept");
+    setsockopt(peer, IPPROTO_TCP, TCP_NODELAY, &yes, sizeof yes);
+    return peer;
+}
+
+static void serve_in_a_loop(const char *file, const char *way) {
+    Kept kept = kept_in(file, way);
+    for (int listener = listening();;) serve_connection(accepted_by(listener), &kept);
+}
+
+// What the next connection's line says, once the connection has ended. The line is answered when it comes.
+static Text line_left(int listener) {
+    static char line[64];
+    char more;
+    int peer = accepted_by(listener);
+    ssize_t len = recv(peer, line, sizeof line, 0);
+    if (len <= 0 || send(peer, "+OK\r\n", 5, MSG_NOSIGNAL) < 0) die("a line that is left");
+    while (recv(peer, &more, 1, 0) > 0) {}
+    close(peer);
+    return (Text){line, len};
+}
+
+static void serve_ends(const char *file) {
+    Kept kept = kept_in(file, "page");
+    int listener = listening(), watcher = accepted_by(listener);
     for (;;) {
-        int peer = accept(listener, NULL, NULL);
-        if (peer < 0) die("accept");
-        serve_connection(peer, &kept);
+        Text left = line_left(listener);
+        keep(&kept);
+        if (send(watcher, left.at, left.len, MSG_NOSIGNAL) < 0) die("send");
     }
 }
 
-// ---- listeners
+// ---- news
 
-static Conn *listeners_of(int count) {
+#define GONE -1
+
+// How the clients of a server listen to the news, tell some, and leave some behind. News are numbered 1, 2, ..
+struct News {
+    const char *name;
+    void (*open)(Conn *c);
+    void (*listen)(Conn *c, const char *place);
+    void (*stay)(Conn *c);                      // says that it is there; none where a silent client may stay
+    void (*tell)(Conn *c, const char *news);
+    int (*answered)(Conn *c);                   // whether the answer to a tell was read whole
+    void (*leave)(Conn *c, const char *news);   // opens a session that leaves them behind
+    long (*heard)(Conn *c);                     // the next ones that were read whole, 0 where there are none, or GONE
+};
+
+static void presence_listen(Conn *c, const char *place) {
+    char path[40];
+    snprintf(path, sizeof path, "/%s", place);
+    listen_to(c, path);
+}
+
+static void presence_stay(Conn *c) { say(c, "{\"m\":\"beat\"," SESSION "}", OF(c)); }
+
+static void presence_tell(Conn *c, const char *news) { set(c, "/news", news); }
+
+static void presence_leave(Conn *c, const char *news) {
+    open_session(c);
+    say(c, "{\"m\":\"left\",\"op\":{\"op\":\"set\",\"path\":\"/news\",\"value\":%s},\"q\":%ld," SESSION "}",
+        news, ++c->q, OF(c));
+    hear(c, "armed");
+}
+
+static long presence_heard(Conn *c) {
+    for (Text text; next(c, &text);) {
+        if (is(text, "gone")) return GONE;
+        if (is(text, "push")) return number(text, "[\"/news\",");
+    }
+    return 0;
+}
+
+static void mqtt_listen(Conn *c, const char *place) {
+    char out[64] = {0x82, 0, 0, 1, 0};
+    int len = strlen(place);
+    out[1] = len + 5;
+    out[5] = len;
+    memcpy(out + 6, place, len); // and quality 0
+    send_all(c, out, len + 7);
+    while (!has(c, "\x90\x03", 2, 5)) receive(c, 0);
+}
+
+static void mqtt_tell(Conn *c, const char *news) { mqtt_publish(c, "news", news); }
+
+static long mqtt_heard(Conn *c) {
+    const unsigned char *p = (const unsigned char *)c->in + c->at;
+    size_t left = c->have - c->at, len = left < 2 ? 0 : 2 + p[1];
+    if (left < 2 || left < len) return 0;
+    if (p[0] >> 4 != 3 || memcmp(p + 2, "\x00\x04news", 6)) refuse("news", (Text){(const char *)p, len});
+    c->at += len;
+    long news = 0;
+    for (size_t i = 8; i < len; i++) news = 10 * news + p[i] - '0';
+    return news;
+}
+
+// The last of so many lines, once they were read whole; then they are passed.
+static const char *last_of(Conn *c, int lines) {
+    const char *at = c->in + c->at, *last = NULL;
+    for (int i = 0; i < lines; i++) {
+        const char *end = memmem(at, c->in + c->have - at, "\r\n", 2);
+        if (!end) return NULL;
+        last = at;
+        at = end + 2;
+    }
+    c->at = at - c->in;
+    return last;
+}
+
+static void redis_say(Conn *c, const char *form, const char *place, const char *news) {
+    char out[128];
+    send_all(c, out, snprintf(out, sizeof out, form, strlen(place), place, strlen(news), news));
+}
+
+static void redis_listen(Conn *c, const char *place) {
+    redis_say(c, "*2\r\n$9\r\nSUBSCRIBE\r\n$%zu\r\n%s\r\n", place, "");
+    while (!last_of(c, 6)) receive(c, 0);
+}
+
+static void redis_tell(Conn *c, const char *news) {
+    c->sent = now();
+    redis_say(c, "*3\r\n$7\r\nPUBLISH\r\n$%zu\r\n%s\r\n$%zu\r\n%s\r\n", "news", news);
+}
+
+static int redis_told(Conn *c) { return last_of(c, 1) != NULL; }
+
+static long redis_heard(Conn *c) {
+    const char *news = last_of(c, 7);
+    return news ? strtol(news, NULL, 10) : 0;
+}
+
+static void ends_listen(Conn *c, const char *place) { (void)c, (void)place; } // the first connection does
+
+static void ends_leave(Conn *c, const char *news) {
+    char line[32];
+    dial(c);
+    send_all(c, line, snprintf(line, sizeof line, "%s\r\n", news));
+    while (!last_of(c, 1)) receive(c, 0);
+}
+
+static long ends_heard(Conn *c) {
+    const char *news = last_of(c, 1);
+    return news ? strtol(news, NULL, 10) : 0;
+}
+
+static const News presence = {"presence", open_session, presence_listen, presence_stay, presence_tell, presence_answered,
+                              presence_leave, presence_heard};
+
+static const News all_news[] = {
+    presence,
+    {"mqtt", mqtt_open, mqtt_listen, NULL, mqtt_tell, mqtt_answered, mqtt_open_with, mqtt_heard},
+    {"redis", dial, redis_listen, NULL, redis_tell, redis_told, NULL, redis_heard},
+    {"ends", dial, ends_listen, NULL, NULL, NULL, ends_leave, ends_heard},
+};
+
+static const News *news_of(Text name) {
+    for (size_t i = 0; i < sizeof all_news / sizeof *all_news; i++)
+        if (strlen(all_news[i].name) == name.len && !memcmp(all_news[i].name, name.at, name.len)) return &all_news[i];
+    refuse("server", name);
+    return NULL;
+}
+
+// Connections that listen to the news of the server at the port, and are looked at.
+static Conn *listeners_of(const News *news, int count) {
     Conn *conns = conns_of(count, "l");
     for (int i = 0; i < count; i++) {
-        open_session(&conns[i]);
-        listen_to(&conns[i], "/news");
+        conns[i].news = news;
+        news->open(&conns[i]);
+        news->listen(&conns[i], "news");
         look_at(&conns[i]);
     }
     return conns;
 }
 
-static void write_news(Conn *writer, long value) {
-    char text[24];
-    snprintf(text, sizeof text, "%ld", value);
-    set(writer, "/news", text);
-}
-
-// What a listener has seen once it has read what is there: the pushes of each value in order, from 1 on.
+// What listeners have seen once they have read what is there.
 typedef struct { long pushes, gone, out_of_order; } Seen;
 
 static void take_pushes(Conn *c, Seen *seen) {
-    Text text;
     receive(c, MSG_DONTWAIT);
-    while (next(c, &text)) {
-        if (is(text, "gone")) {
+    for (long news; (news = c->news->heard(c));) {
+        if (news == GONE) {
             seen->gone++;
             look_away(c);
             return;
         }
-        if (is(text, "push")) {
-            long value = number(text, "[\"/news\",");
-            seen->out_of_order += value != c->seen + 1;
-            seen->pushes++;
-            c->seen = value;
-        }
+        seen->out_of_order += news != c->seen + 1;
+        seen->pushes++;
+        c->seen = news;
     }
+}
+
+static const char *text_of(long news) {
+    static char text[24];
+    snprintf(text, sizeof text, "%ld", news);
+    return text;
+}
+
+// A server whose listeners are timed, and one client of it that isn't.
+typedef struct {
+    const News *news;
+    Conn *listeners, *other;
+    int count; // of its listeners
+    Seen seen;
+    Times times, whole;
+} Timed;
+
+// The servers that words tell, each with so many listeners.
+static Timed *timed_by(char **words, int count, int listeners, const char *other) {
+    Timed *all = calloc(count, sizeof(Timed));
+    for (int i = 0; i < count; i++) {
+        char *equals = strchr(words[i], '=');
+        if (!equals) refuse("SERVER=PORT", (Text){words[i], strlen(words[i])});
+        port = atoi(equals + 1);
+        all[i].news = news_of((Text){words[i], equals - words[i]});
+        all[i].listeners = listeners_of(all[i].news, listeners);
+        all[i].count = listeners;
+        all[i].other = conns_of(1, other);
+    }
+    return all;
+}
+
+#define ROUNDS 50 // of two clients or three, within which a silent listener stays
+
+// Waits for a random moment of a round. A silent session would end, so its listeners say from time to time that they are there.
+static void pause_in(Timed *timed, long round) {
+    pause_for(40, 120);
+    if (!timed->news->stay || round % ROUNDS) return;
+    for (int i = 0; i < timed->count; i++) timed->news->stay(&timed->listeners[i]);
+    pause_for(40, 120);
+}
+
+static void print_timed(Timed *timed) {
+    char name[32];
+    const char *word = timed->news->name;
+    printf("%s_pushes=%ld %s_out_of_order=%ld %s_gone=%ld ", word, timed->seen.pushes, word, timed->seen.out_of_order,
+           word, timed->seen.gone);
+    snprintf(name, sizeof name, "%s_", word);
+    print_times(name, &timed->times);
+    snprintf(name, sizeof name, "%s_all_", word);
+    if (timed->whole.count) print_times(name, &timed->whole);
 }
 
 // Looks at the listeners until all have seen the value, and for no longer than it may take.
@@ -540,22 +767,19 @@ static void time_one(int listeners, double sent, long value, Seen *seen, Times *
     }
 }
 
-static void time_pushes(int listeners, int writes) {
-    Times times = {0}, whole = {0};
-    Seen seen = {0};
-    Conn *writer = conns_of(1, "p");
-    listeners_of(listeners);
-    open_session(writer);
+static void time_pushes(int listeners, int writes, char **words, int count) {
+    Timed *all = timed_by(words, count, listeners, "p");
+    for (int i = 0; i < count; i++) all[i].news->open(all[i].other);
     for (long value = 1; value <= writes; value++) {
-        pause_for(40, 120);
-        write_news(writer, value);
-        time_one(listeners, writer->sent, value, &seen, &times);
-        note(&whole, now() - writer->sent);
-        hear(writer, "reply");
+        for (Timed *timed = all; timed < all + count; timed++) {
+            pause_in(timed, value);
+            timed->news->tell(timed->other, text_of(value));
+            time_one(timed->count, timed->other->sent, value, &timed->seen, &timed->times);
+            note(&timed->whole, now() - timed->other->sent);
+            while (!timed->news->answered(timed->other)) receive(timed->other, 0);
+        }
     }
-    printf("pushes=%ld of=%ld out_of_order=%ld gone=%ld ", seen.pushes, (long)writes * listeners, seen.out_of_order, seen.gone);
-    print_times("", &times);
-    print_times("all_", &whole);
+    for (int i = 0; i < count; i++) print_timed(&all[i]);
     puts("");
 }
 
@@ -564,7 +788,7 @@ static long flood(Conn *writer, double seconds, Seen *seen, double *rate) {
     struct epoll_event events[512];
     double start = now(), spent = 0;
     long writes = 0, asked = 1;
-    write_news(writer, asked);
+    presence_tell(writer, text_of(asked));
     while (writes < asked) {
         int ready = epoll_wait(watch, events, 512, SILENCE * 1000);
         if (ready == 0) refuse("answer", silence);
@@ -577,7 +801,7 @@ static long flood(Conn *writer, double seconds, Seen *seen, double *rate) {
             receive(c, MSG_DONTWAIT);
             writes += presence_answered(c);
             spent = now() - start;
-            if (writes == asked && spent < seconds) write_news(writer, ++asked);
+            if (writes == asked && spent < seconds) presence_tell(writer, text_of(++asked));
         }
     }
     *rate = writes / spent;
@@ -586,7 +810,7 @@ static long flood(Conn *writer, double seconds, Seen *seen, double *rate) {
 
 static void time_flood(int listeners, double seconds) {
     Seen seen = {0};
-    Conn *conns = listeners_of(listeners), *writer = conns_of(1, "p");
+    Conn *conns = listeners_of(&presence, listeners), *writer = conns_of(1, "p");
     Times none = {0};
     double rate;
     open_session(writer);
@@ -602,23 +826,15 @@ static void time_flood(int listeners, double seconds) {
 
 // ---- killed clients
 
-// Opens a session that leaves a value behind.
-static void leave(Conn *c, long value) {
-    open_session(c);
-    say(c, "{\"m\":\"left\",\"op\":{\"op\":\"set\",\"path\":\"/news\",\"value\":%ld},\"q\":%ld," SESSION "}",
-        value, ++c->q, OF(c));
-    hear(c, "armed");
-}
-
-// A process with such a session, and with nothing else to do.
-static pid_t leave_in_process(Conn *c, long value) {
+// A process with a session that leaves news behind, and with nothing else to do.
+static pid_t leave_in_process(const News *news, Conn *c, long value) {
     int pipes[2];
     char said;
     if (pipe(pipes)) die("pipe");
     pid_t child = fork();
     if (child < 0) die("fork");
     if (child == 0) {
-        leave(c, value);
+        news->leave(c, text_of(value));
         if (write(pipes[1], "!", 1) != 1) exit(1);
         for (;;) pause();
     }
@@ -639,20 +855,18 @@ static double kill_client(Conn *c, pid_t child) {
     return killed;
 }
 
-static void time_killed(int rounds, int is_process) {
-    Times times = {0};
-    Seen seen = {0};
-    Conn *victim = conns_of(1, "v");
-    listeners_of(1);
+static void time_killed(int rounds, int is_process, char **words, int count) {
+    Timed *all = timed_by(words, count, 1, "v");
     for (long value = 1; value <= rounds; value++) {
-        pid_t child = is_process ? leave_in_process(victim, value) : 0;
-        if (!child) leave(victim, value);
-        pause_for(40, 120);
-        time_one(1, kill_client(victim, child), value, &seen, &times);
-        if (child) waitpid(child, NULL, 0);
+        for (Timed *timed = all; timed < all + count; timed++) {
+            pid_t child = is_process ? leave_in_process(timed->news, timed->other, value) : 0;
+            if (!child) timed->news->leave(timed->other, text_of(value));
+            pause_in(timed, value);
+            time_one(1, kill_client(timed->other, child), value, &timed->seen, &timed->times);
+            if (child) waitpid(child, NULL, 0);
+        }
     }
-    printf("seen=%ld of=%d ", seen.pushes, rounds);
-    print_times("", &times);
+    for (int i = 0; i < count; i++) print_timed(&all[i]);
     puts("");
 }
 
@@ -708,14 +922,14 @@ static void fill(long batches) {
     printf("seconds=%.3f\n", now() - start);
 }
 
-static void hold(int count, int paths) {
+static void hold(const News *news, int count, int paths) {
     Conn *conns = conns_of(count, "h");
-    char path[32], said;
+    char place[32], said;
     for (int i = 0; i < count; i++) {
-        open_session(&conns[i]);
+        news->open(&conns[i]);
         for (int k = 0; k < paths; k++) {
-            snprintf(path, sizeof path, "/idle/%d/%d", i, k);
-            listen_to(&conns[i], path);
+            snprintf(place, sizeof place, "idle/%d/%d", i, k);
+            news->listen(&conns[i], place);
         }
     }
     puts("held=1");
@@ -732,18 +946,21 @@ int main(int count, char **words) {
     incarnation = t.tv_sec * 1000 + t.tv_nsec / 1000000; // greater than those of earlier runs
     srand(t.tv_nsec);
     watch = epoll_create1(0);
-    if (count < 4) return 2;
+    if (count < 3) return 2;
     const char *use = words[1];
-    int is_write = !strcmp(use, "write") && count == 6;
-    port = atoi(words[is_write ? 3 : 2]);
-    if (is_write) time_writes(kind_of(words[2]), atoi(words[4]), atof(words[5]));
+    int has_kind = (!strcmp(use, "write") || !strcmp(use, "hold")) && count == 6;
+    Text kind = {words[2], strlen(words[2])};
+    port = atoi(words[has_kind ? 3 : 2]);
+    if (!strcmp(use, "write") && count == 6) time_writes(kind_of(words[2]), atoi(words[4]), atof(words[5]));
     else if (!strcmp(use, "sync") && count == 5) time_syncs(words[2], words[3], atof(words[4]));
     else if (!strcmp(use, "loop") && count == 4) serve_in_a_loop(words[2], words[3]);
-    else if (!strcmp(use, "push") && count == 5) time_pushes(atoi(words[3]), atoi(words[4]));
+    else if (!strcmp(use, "ends") && count == 3) serve_ends(words[2]);
+    else if (!strcmp(use, "push") && count > 4) time_pushes(atoi(words[2]), atoi(words[3]), words + 4, count - 4);
     else if (!strcmp(use, "flood") && count == 5) time_flood(atoi(words[3]), atof(words[4]));
-    else if (!strcmp(use, "killed") && count == 5) time_killed(atoi(words[3]), !strcmp(words[4], "process"));
+    else if (!strcmp(use, "killed") && count > 4)
+        time_killed(atoi(words[2]), !strcmp(words[3], "process"), words + 4, count - 4);
     else if (!strcmp(use, "fill") && count == 4) fill(atol(words[3]));
-    else if (!strcmp(use, "hold") && count == 5) hold(atoi(words[3]), atoi(words[4]));
+    else if (!strcmp(use, "hold") && count == 6) hold(news_of(kind), atoi(words[4]), atoi(words[5]));
     else if (!strcmp(use, "listen") && count == 5) time_listens(atoi(words[3]), atoi(words[4]));
     else return 2;
     return 0;
