@@ -6,7 +6,9 @@ use crate::stop::Stop;
 use crate::wakeable::Wakeable;
 use pres_hub::{Bell, Hub, Keeper, Moment, OpenGate};
 use pres_sock::serve_stream;
+use pres_websocket::SockFault;
 use std::alloc::Global;
+use std::io::{Read, Write};
 use std::net::{Net, TcpListener, TcpStream};
 use std::sync::Wait;
 use std::sync::ledger::Ledger;
@@ -25,6 +27,15 @@ const REFUSED_MILLIS: u64 = 50;
 
 // How often it is looked which sessions are to end.
 const TICK_MILLIS: u64 = 1_000;
+
+// What answers a peer that opened no WebSocket (RFC 6455, 4.2.2 and 4.4; RFC 9110, 15.5.22).
+const UPGRADE_REQUIRED: &[u8] = b"HTTP/1.1 426 Upgrade Required\r\n\
+    Connection: Upgrade, close\r\n\
+    Upgrade: websocket\r\n\
+    Sec-WebSocket-Version: 13\r\n\
+    Content-Type: text/plain\r\n\
+    \r\n\
+    A WebSocket is served here.\n";
 
 /// The time of the machine, in milliseconds since 1970. Where the clock can't be read it is as it
 /// was read last.
@@ -120,16 +131,34 @@ fn connection<
         stream.set_write_timeout(Some(Duration::from_millis(WRITE_MILLIS))),
     );
     let wait = Duration::from_millis(READ_MILLIS);
-    let mut clock = WallClock::new(rt);
     match Wakeable::new(rt, alloc, stream, wait, crowd) {
-        Ok((stream, bell)) => {
-            drop(serve_stream(rt, alloc, hub, stream, Some(bell), &mut clock));
-        }
-        Err(stream) => {
+        Ok((mut stream, bell)) => attend(rt, alloc, hub, &mut stream, Some(bell)),
+        Err(mut stream) => {
             if stream.set_read_timeout(Some(wait)).is_ok() {
-                drop(serve_stream(rt, alloc, hub, stream, None, &mut clock));
+                attend(rt, alloc, hub, &mut stream, None);
             }
         }
+    }
+}
+
+// Serves the connection. A peer that opened no WebSocket is told what is served here.
+fn attend<
+    L: Ledger + Send + Sync,
+    K: Keeper + Drop + Send,
+    R: Threads + Wait + Clock + Sync,
+    S: Read + Write + Send,
+>(
+    rt: &R,
+    alloc: Global,
+    hub: &Hub<L, K, StreamBell, OpenGate>,
+    stream: &mut S,
+    bell: Option<StreamBell>,
+) {
+    let mut clock = WallClock::new(rt);
+    let (parting, ended) = serve_stream(rt, alloc, hub, &mut *stream, bell, &mut clock);
+    drop(parting);
+    if let Err(SockFault::Handshake(_)) = ended {
+        let _ = stream.write_all(UPGRADE_REQUIRED);
     }
 }
 

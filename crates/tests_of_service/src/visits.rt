@@ -6,7 +6,7 @@ use crate::texts::expect_text;
 use pres_ids::{ClientId, Number};
 use pres_service::{ServiceFault, Serving, Visit, client_run, serve_run};
 use std::alloc::Global;
-use std::io::Write;
+use std::io::{Read, Write};
 use std::net::{Net, TcpListener, TcpStream};
 use std::process::Abort;
 use std::random::RandomSource;
@@ -302,5 +302,58 @@ fn bad_places_are_refused(rt: HostRuntime) {
     assert_eq!(rt; status_at(&rt, &rt, address, foreign.as_str()), 3);
     assert_eq!(rt; status_at(&rt, &rt, address, "/no/such/folder/file"), 3);
     assert_eq!(rt; status_at(&rt, &rt, "nowhere", file), 4);
+    place.clear(&rt);
+}
+
+// What is answered to the request for a page, once somebody listens there.
+fn page_at<R: Net<Listener = TcpListener, Stream = TcpStream> + Wait + Clock + Abort>(
+    rt: &R,
+    alloc: Global,
+    address: &str,
+) -> String {
+    let mut page = String::new(alloc);
+    for _ in 0..500 {
+        let Ok(mut stream) = TcpStream::connect(rt, address) else {
+            thread::sleep(rt, Duration::from_millis(20));
+            continue;
+        };
+        stream
+            .write_all(b"GET / HTTP/1.1\r\nHost: presence\r\n\r\n")
+            .expect(rt, "a connection");
+        stream
+            .read_to_string(&mut page)
+            .expect(rt, "an answer");
+        break;
+    }
+    page
+}
+
+const PAGE: &str = "HTTP/1.1 426 Upgrade Required\r
+Connection: Upgrade, close\r
+Upgrade: websocket\r
+Sec-WebSocket-Version: 13\r
+Content-Type: text/plain\r
+\r
+A WebSocket is served here.
+";
+
+// Who opens no WebSocket is told what is served.
+#[test]
+fn a_request_for_a_page_is_answered(rt: HostRuntime) {
+    let place = new_place(&rt, &rt, "page");
+    let file = place.file.as_str();
+    let address = place.address.as_str();
+    let serving = Serving {
+        address,
+        file,
+        connections: Some(1),
+    };
+    let (served, page) = thread::scope(thread::scope_env(), &rt, |scope| {
+        let server = scope.spawn(|| serve(&rt, &rt, serving)).expect(&rt, "a thread");
+        let page = page_at(&rt, rt.alloc(), address);
+        (server.join(&rt), page)
+    });
+    expect_text(&rt, page, PAGE);
+    assert_eq!(rt; served.0, 0);
     place.clear(&rt);
 }
