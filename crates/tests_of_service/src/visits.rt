@@ -337,23 +337,31 @@ Content-Type: text/plain\r
 A WebSocket is served here.
 ";
 
+// A server's exit status behind the request for a page, and what answered that.
+fn asked_for_a_page<
+    R: Net<Listener = TcpListener, Stream = TcpStream> + Threads + Wait + Clock + Abort + Sync,
+>(host: &HostRuntime, rt: &R, place: &Place) -> (u8, String) {
+    let alloc = host.alloc();
+    let serving = Serving {
+        address: place.address.as_str(),
+        file: place.file.as_str(),
+        connections: Some(1),
+    };
+    thread::scope(thread::scope_env(), rt, |scope| {
+        let server = scope.spawn(move || serve(host, rt, serving));
+        let server = server.expect(rt, "a thread");
+        let page = page_at(rt, alloc, serving.address);
+        let (status, _) = server.join(rt);
+        (status, page)
+    })
+}
+
 // Who opens no WebSocket is told what is served.
 #[test]
 fn a_request_for_a_page_is_answered(rt: HostRuntime) {
     let place = new_place(&rt, &rt, "page");
-    let file = place.file.as_str();
-    let address = place.address.as_str();
-    let serving = Serving {
-        address,
-        file,
-        connections: Some(1),
-    };
-    let (served, page) = thread::scope(thread::scope_env(), &rt, |scope| {
-        let server = scope.spawn(|| serve(&rt, &rt, serving)).expect(&rt, "a thread");
-        let page = page_at(&rt, rt.alloc(), address);
-        (server.join(&rt), page)
-    });
+    let (status, page) = asked_for_a_page(&rt, &rt, &place);
     expect_text(&rt, page, PAGE);
-    assert_eq!(rt; served.0, 0);
+    assert_eq!(rt; status, 0);
     place.clear(&rt);
 }
