@@ -320,9 +320,7 @@ fn page_at<R: Net<Listener = TcpListener, Stream = TcpStream> + Wait + Clock + A
         stream
             .write_all(b"GET / HTTP/1.1\r\nHost: presence\r\n\r\n")
             .expect(rt, "a connection");
-        stream
-            .read_to_string(&mut page)
-            .expect(rt, "an answer");
+        stream.read_to_string(&mut page).expect(rt, "an answer");
         break;
     }
     page
