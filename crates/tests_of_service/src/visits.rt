@@ -305,26 +305,62 @@ fn bad_places_are_refused(rt: HostRuntime) {
     place.clear(&rt);
 }
 
-// What is answered to the request for a page, once somebody listens there.
-fn page_at<R: Net<Listener = TcpListener, Stream = TcpStream> + Wait + Clock + Abort>(
+// What a peer sends that is no client: first this, and once something is answered, that.
+#[derive(Clone, Copy)]
+struct Stranger {
+    first: &'static str,
+    second: &'static [u8],
+}
+
+// What is answered to a stranger, once somebody listens there.
+fn told_at<R: Net<Listener = TcpListener, Stream = TcpStream> + Wait + Clock + Abort>(
     rt: &R,
     alloc: Global,
     address: &str,
+    stranger: Stranger,
 ) -> String {
-    let mut page = String::new(alloc);
+    let mut told = String::new(alloc);
     for _ in 0..500 {
         let Ok(mut stream) = TcpStream::connect(rt, address) else {
             thread::sleep(rt, Duration::from_millis(20));
             continue;
         };
         stream
-            .write_all(b"GET / HTTP/1.1\r\nHost: presence\r\n\r\n")
+            .write_all(stranger.first.as_bytes())
             .expect(rt, "a connection");
-        stream.read_to_string(&mut page).expect(rt, "an answer");
+        let mut begin = [0u8; 1];
+        stream.read_exact(&mut begin).expect(rt, "an answer");
+        stream.write_all(stranger.second).expect(rt, "a connection");
+        told.push(char::from(begin[0])).expect(rt, "memory");
+        stream.read_to_string(&mut told).expect(rt, "an end");
         break;
     }
-    page
+    told
 }
+
+// A server's exit status behind a stranger, and what that was told.
+fn met_by<
+    R: Net<Listener = TcpListener, Stream = TcpStream> + Threads + Wait + Clock + Abort + Sync,
+>(host: &HostRuntime, rt: &R, place: &Place, stranger: Stranger) -> (u8, String) {
+    let alloc = host.alloc();
+    let serving = Serving {
+        address: place.address.as_str(),
+        file: place.file.as_str(),
+        connections: Some(1),
+    };
+    thread::scope(thread::scope_env(), rt, |scope| {
+        let server = scope.spawn(move || serve(host, rt, serving));
+        let server = server.expect(rt, "a thread");
+        let told = told_at(rt, alloc, serving.address, stranger);
+        let (status, _) = server.join(rt);
+        (status, told)
+    })
+}
+
+const ASKS_FOR_A_PAGE: Stranger = Stranger {
+    first: "GET / HTTP/1.1\r\nHost: presence\r\n\r\n",
+    second: b"",
+};
 
 const PAGE: &str = "HTTP/1.1 426 Upgrade Required\r
 Connection: Upgrade, close\r
@@ -335,31 +371,36 @@ Content-Type: text/plain\r
 A WebSocket is served here.
 ";
 
-// A server's exit status behind the request for a page, and what answered that.
-fn asked_for_a_page<
-    R: Net<Listener = TcpListener, Stream = TcpStream> + Threads + Wait + Clock + Abort + Sync,
->(host: &HostRuntime, rt: &R, place: &Place) -> (u8, String) {
-    let alloc = host.alloc();
-    let serving = Serving {
-        address: place.address.as_str(),
-        file: place.file.as_str(),
-        connections: Some(1),
-    };
-    thread::scope(thread::scope_env(), rt, |scope| {
-        let server = scope.spawn(move || serve(host, rt, serving));
-        let server = server.expect(rt, "a thread");
-        let page = page_at(rt, alloc, serving.address);
-        let (status, _) = server.join(rt);
-        (status, page)
-    })
-}
-
 // Who opens no WebSocket is told what is served.
 #[test]
 fn a_request_for_a_page_is_answered(rt: HostRuntime) {
     let place = new_place(&rt, &rt, "page");
-    let (status, page) = asked_for_a_page(&rt, &rt, &place);
-    expect_text(&rt, page, PAGE);
+    let (status, told) = met_by(&rt, &rt, &place, ASKS_FOR_A_PAGE);
+    expect_text(&rt, told, PAGE);
+    assert_eq!(rt; status, 0);
+    place.clear(&rt);
+}
+
+// The opening request of RFC 6455, 1.3, and then a frame whose kind is reserved (5.2).
+const BREAKS_ITS_FRAMES: Stranger = Stranger {
+    first: "GET /chat HTTP/1.1\r
+Host: server.example.com\r
+Upgrade: websocket\r
+Connection: Upgrade\r
+Sec-WebSocket-Key: dGhlIHNhbXBsZSBub25jZQ==\r
+Sec-WebSocket-Version: 13\r
+\r
+",
+    second: b"\x83\x80\x00\x00\x00\x00",
+};
+
+// Who opened a WebSocket is answered by no HTTP behind it, whatever is wrong with its frames.
+#[test]
+fn a_broken_frame_is_no_request(rt: HostRuntime) {
+    let place = new_place(&rt, &rt, "frame");
+    let (status, told) = met_by(&rt, &rt, &place, BREAKS_ITS_FRAMES);
+    assert!(rt; told.starts_with("HTTP/1.1 101 "), "{told:?}");
+    assert!(rt; told.ends_with("\r\n\r\n"), "{told:?}");
     assert_eq!(rt; status, 0);
     place.clear(&rt);
 }
