@@ -394,7 +394,7 @@ Sec-WebSocket-Version: 13\r
     second: b"\x83\x80\x00\x00\x00\x00",
 };
 
-// Who opened a WebSocket is answered by no HTTP behind it, whatever is wrong with its frames.
+// Who opened a WebSocket hears nothing behind such a frame, and no HTTP.
 #[test]
 fn a_broken_frame_is_no_request(rt: HostRuntime) {
     let place = new_place(&rt, &rt, "frame");
