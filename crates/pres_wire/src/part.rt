@@ -1,6 +1,7 @@
 //! Parts of fields, read and printed: for messages, and for other JSON that holds the same.
 
-ghost use Rattle.std.specs.Prelude.{◌≡◌, ◌≤◌, ◌++◌, IfOk, OnOk, Some, None, Ok};
+ghost use Rattle.std.specs.Prelude.{◌≡◌, ◌≤◌, ◌++◌, IfOk, IsOk, OnOk, Some, None, Ok};
+ghost use Rattle.serde_json.specs.Find.{as_str};
 ghost use Rattle.serde_json.specs.Data.{depth};
 ghost use Rattle.serde_json.specs.View.{view};
 ghost use Rattle.pres_tree.specs.Rows.{option_of, rows_in};
@@ -29,7 +30,9 @@ fn path_in(alloc: Global, text: &str) -> Result<Option<Path>, AllocError>
 
 /// The path that a JSON value is the text of, none where it isn't the text of one.
 pub fn path_of(alloc: Global, value: &Value) -> Result<Option<Path>, AllocError>
-    ensures { IfOk result (λ found. found ≡ path_of (view value.now)) }
+    ensures path { IfOk result (λ found. found ≡ path_of (view value.now)) }
+    // a value that is no text takes no memory
+    ensures no_text { as_str (view value.now) ≡ None → IsOk result }
 {
     match value.as_str() {
         Some(text) => path_in(alloc, text),

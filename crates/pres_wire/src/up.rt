@@ -1,6 +1,6 @@
 //! Messages to the server.
 
-ghost use Rattle.std.specs.Prelude.{◌≡◌, ◌≤◌, ◌⊎◌, ◌∷◌, [], ℕ, List, Result, IfOk, MatchResult, Ok, Err, Some, codes, length, string_bytes};
+ghost use Rattle.std.specs.Prelude.{◌≡◌, ◌<◌, ◌≤◌, ◌⊎◌, ◌∷◌, [], ℕ, List, Result, IfOk, IsErrOf, MatchResult, Ok, Err, Some, codes, length, string_bytes};
 ghost use Rattle.serde_json.specs.Data.{depth};
 ghost use Rattle.serde_json.specs.View.{view};
 ghost use Rattle.serde_json.specs.Written.{compact_text};
@@ -13,7 +13,7 @@ ghost use Rattle.pres_wire.specs.UpForms.{and_then, number_field, path_field, up
 ghost use Rattle.pres_wire.specs.declared.up.Up.{Up};
 ghost use Rattle.pres_wire.specs.declared.fault.Field.TheVariants as field;
 ghost use Rattle.pres_wire.specs.declared.fault.WireFault.{WireFault};
-ghost use Rattle.pres_wire.specs.declared.fault.WireFault.TheVariants.{Memory};
+ghost use Rattle.pres_wire.specs.declared.fault.WireFault.TheVariants.{Memory, TooLong};
 
 use crate::fault::{Field, WireFault};
 use crate::field::{left_field, number_field, op_field, path_field, session_field};
@@ -147,14 +147,16 @@ impl Up {
         }
     }
 
-    /// The message of a text. Refused, in this order: TooLong, NotJson, NoSuchMessage, Field of
-    /// the first field that is missing or wrong (session, q, n, and op or
-    /// path; a transaction is no operation of a Left), Write. Names that the message has not are
-    /// ignored.
+    /// The message of a text. Refused, in this order: TooLong, which takes no memory to see,
+    /// NotJson, NoSuchMessage, Field of the first field that is missing or wrong (session, q, n,
+    /// and op or path; a transaction is no operation of a Left), Write. Names that the message has
+    /// not are ignored.
     pub fn decode(alloc: Global, text: &str) -> Result<Up, WireFault>
-        ensures { MatchResult result
+        ensures message { MatchResult result
             (λ m. decoded text.now ≡ Ok m)
             (λ e. (e ≡ Memory) ⊎ (decoded text.now ≡ Err e)) }
+        // a text that is too long takes no memory
+        ensures too_long { longest_text < length text.now → IsErrOf result TooLong }
     {
         if text.len() > MAX_TEXT_BYTES {
             return Err(WireFault::TooLong);
