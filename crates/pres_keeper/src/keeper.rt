@@ -6,6 +6,7 @@ ghost use Rattle.pres_log.specs.Logs.{Log, number};
 ghost use Rattle.pres_server.specs.Replays.{made_from};
 ghost use Rattle.pres_keeper.specs.Keepers.{HasOneNull, IsNoServer, bad_batch};
 
+use pres_ids::Count;
 use pres_log::Batch;
 use pres_server::{ReplayFault, Server};
 use pres_table::SavedFault;
@@ -17,7 +18,7 @@ pub fn bad_batch(fault: ReplayFault) -> SavedFault
 {
     match fault {
         ReplayFault::Memory => SavedFault::Memory,
-        ReplayFault::NotLegal(number) => SavedFault::BadRow(number),
+        ReplayFault::NotLegal(number) => SavedFault::BadRow(Count::up_to(number)),
     }
 }
 

@@ -39,7 +39,7 @@ fn bad_row(before: usize) -> SavedFault
     ensures { (result ≡ SavedFault.BadRow (before + 1)) ⊎ (result ≡ SavedFault.Database) }
 {
     match number_after(before as u64) {
-        Some(number) => SavedFault::BadRow(number),
+        Some(number) => SavedFault::BadRow(Count::up_to(number)),
         None => SavedFault::Database,
     }
 }

@@ -3,7 +3,7 @@
 ghost use Rattle.std.specs.Prelude.{◌≡◌};
 ghost use Rattle.pres_table.specs.Faults.{number_of, name_of, fault_of};
 
-use pres_ids::Number;
+use pres_ids::Count;
 use sqlite::{Error, ErrorCode};
 use std::alloc::{AllocError, AllocFailed};
 use thiserror::Error as ErrorDerive;
@@ -20,9 +20,9 @@ pub enum SavedFault {
     /// The database holds other tables, or none.
     #[error("not a database of saved rows")]
     NotOurs,
-    /// The first row that is none: the number that was due there.
+    /// The first row that is none: the number that was due there. Saved rows count from 1.
     #[error("row {0} is bad")]
-    BadRow(Number),
+    BadRow(Count),
     /// The rows are kept in another format.
     #[error("saved by another version")]
     Version,

@@ -6,7 +6,7 @@ ghost use Rattle.sqlite.specs.Order.{column};
 ghost use Rattle.pres_table.specs.Saved.{saved_row, saved_of, whole_of, text_of};
 
 use crate::fault::SavedFault;
-use pres_ids::Number;
+use pres_ids::{Count, Number};
 use pres_write::{MAX_SAFE_INTEGER, Moment};
 use sqlite::Row;
 use sqlite::types::ValueRef;
@@ -80,7 +80,7 @@ pub(crate) fn read_row(alloc: Global, row: &Row, due: Number) -> Result<SavedRow
         ⊎ ((e ≡ SavedFault.BadRow due) × (saved_row due row.now ≡ None))) }
 {
     let Some((moment, body)) = parts(row, due) else {
-        return Err(SavedFault::BadRow(due));
+        return Err(SavedFault::BadRow(Count::up_to(due)));
     };
     Ok(SavedRow {
         moment,

@@ -2,7 +2,7 @@
 
 use crate::keepers::check_database;
 use crate::words::{expect_text, refused, said};
-use pres_ids::Number;
+use pres_ids::{Count, Number};
 use pres_table::{SavedFault, SavedRow, Table, Take};
 use pres_write::{MAX_SAFE_INTEGER, Moment};
 use sqlite::{Alter, Connection};
@@ -177,7 +177,7 @@ fn bad_rows_are_told(rt: HostRuntime) {
 
 #[test]
 fn faults_are_numbered(rt: HostRuntime) {
-    let bad = SavedFault::BadRow(Number::first());
+    let bad = SavedFault::BadRow(Count::up_to(Number::first()));
     let numbers = (
         SavedFault::Memory.number(),
         SavedFault::Database.number(),
