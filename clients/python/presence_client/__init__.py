@@ -1,0 +1,1 @@
+"""A client of a presence server, for asyncio."""
