@@ -40,6 +40,10 @@ item_at items (suc before) = slice_get items before
 abbrev pub entry_at : Log → ℕ → Option Entry
 entry_at log number = item_at (entries log) number
 
+-- the batch at the place, of which the first is 1
+abbrev pub batch_at : Log → ℕ → Option Batch
+batch_at log place = item_at log place
+
 -- the entry stands in the log under the number
 abbrev pub Stands : Log → ℕ → Entry → Type 0
 Stands log number e = entry_at log number ≡ Some e

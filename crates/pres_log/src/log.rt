@@ -2,7 +2,7 @@
 
 ghost use Rattle.std.specs.Prelude.{◌≡◌, ◌↔◌, ◌+◌, ◌<◌, ◌≤◌, ◌++◌, ◌∷◌, [], ℕ, IsTrue, OnOk, OnErr, IfErr, Some, length, nat_le, slice_get};
 ghost use Rattle.std.specs.Option.{option_copied};
-ghost use Rattle.pres_log.specs.Logs.{number, entry_at, IsNumbered};
+ghost use Rattle.pres_log.specs.Logs.{number, entry_at, batch_at, IsNumbered};
 ghost use Rattle.pres_log.specs.declared.entry.Batch.{Batch};
 
 use crate::entry::{Batch, Entry};
@@ -82,6 +82,15 @@ impl Log {
         let batch = self.batches.get(begun.checked_sub(1)?)?;
         let place = number - batch.first().get();
         batch.entries().get(place as usize)
+    }
+
+    /// The batch at the place in the log, of which the first is 1: none for 0 and above the number
+    /// of batches. It takes no memory.
+    pub fn batch(&self, place: u64) -> Option<&Batch>
+        ensures { option_copied result ≡ batch_at self.now place }
+    {
+        let before = place.checked_sub(1)?;
+        self.batches.get(before as usize)
     }
 
     // How many batches begin at the number or before it.

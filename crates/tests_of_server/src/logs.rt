@@ -174,6 +174,20 @@ fn batches_are_kept_in_order(rt: HostRuntime) {
     check_batch(&rt, second, 2, 2000, 2);
 }
 
+// The number of the first entry of the batch at the place.
+fn first_at(log: &Log, place: u64) -> Option<u64> {
+    Some(log.batch(place)?.first().get())
+}
+
+#[test]
+fn batches_have_places(rt: HostRuntime) {
+    let log = log_of_two(&rt, rt.alloc());
+    assert_eq!(rt; first_at(&log, 0), None);
+    assert_eq!(rt; first_at(&log, 1), Some(1));
+    assert_eq!(rt; first_at(&log, 2), Some(2));
+    assert_eq!(rt; first_at(&log, 3), None);
+}
+
 #[test]
 fn batches_hold_one_entry_or_an_end_and_an_opening(rt: HostRuntime) {
     let alloc = rt.alloc();

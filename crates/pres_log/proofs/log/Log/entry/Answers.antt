@@ -6,14 +6,11 @@ use Rattle.std.specs.Option.{option_copied}
 use Rattle.pres_log.specs.declared.entry.Batch.{Batch}
 use Rattle.pres_log.specs.Logs.{Log, IsNumbered}
 use Rattle.pres_log.proofs.Entries.{entry_before_all, entry_found}
+use Rattle.pres_log.proofs.Lent.{lent_item}
 use Rattle.pres_log.proofs.log.Log.entry.Goals as goal
 
 batch_at : (lent log : Log) (i : ℕ) (b : Batch) → lent ≡ log → i < length lent → b ≡ get_or lent i b → slice_get log i ≡ Some b
 batch_at lent log i b same within is = ap (λ l. slice_get l i) (sym same) ∙ slice_get_read lent (length lent) i b refl within is
-
-lent_item : {X : Type 0} (xs : List X) (i : ℕ) (r : Option (Bor X)) → MatchOption r (length xs ≤ i) (λ x. (i < length xs) × HoldsAt (λ y. x.now ≡ y) xs i) → option_copied r ≡ slice_get xs i
-lent_item xs i None past = sym (slice_get_past xs i past)
-lent_item xs i (Some x) at = sym (slice_get_read xs (length xs) i x.now refl at.0 (at.1 x.now))
 
 pub returns-in_err-checked_sub : goal.returns-in_err-checked_sub
 returns-in_err-checked_sub c =
