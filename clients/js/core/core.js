@@ -1,8 +1,8 @@
 // A client without sockets and timers: what each call, and each message that comes, makes of it.
 
-import { ManyPaths, NoSuchRequest, Offline, Overlap, Spent, TooDeep } from "./errors.js";
-import { compareTexts } from "./json.js";
-import { GREATEST_NUMBER, bareText, byeText, isClientId, isNumber, queuedText, setText, tryText, updateText } from "./messages.js";
+import { ManyPaths, NoSuchRequest, Offline, Overlap, Spent, TooDeep, TooLong } from "./errors.js";
+import { byteLength, compareTexts } from "./json.js";
+import { GREATEST_NUMBER, MOST_AROUND, bareText, byeText, isClientId, isNumber, queuedText, setText, tryText, updateText } from "./messages.js";
 import { MOST_LEVELS, Path } from "./paths.js";
 import { Queue, isAction, isWrite } from "./queue.js";
 import { depth } from "./tree.js";
@@ -61,16 +61,31 @@ export class Core {
   #asks = new Map();
   #sends = [];
   #notices = [];
+  #mostBytes;
 
   /**
    * A client in a new incarnation, off.
    * @param {string} client its id
    * @param {number} incarnation greater than all earlier ones, from 1 to 2^53 - 1
+   * @param {number} [mostBytes] a write whose message may have more is refused as TooLong, last of all
    */
-  constructor(client, incarnation) {
+  constructor(client, incarnation, mostBytes = Infinity) {
     if (!isClientId(client)) throw new TypeError("a client id has 1 to 128 characters of A-Z a-z 0-9 _ -");
     if (!isNumber(incarnation)) throw new TypeError("an incarnation is a whole number from 1 to 2^53 - 1");
     this.#session = { client, incarnation, attempt: 1 };
+    this.#mostBytes = mostBytes;
+  }
+
+  /**
+   * Goes on as this incarnation, as though all calls had been made in it. It is for a client that the
+   * server has welcomed in none: so the one before has sent nothing but Hellos.
+   * @param {number} incarnation greater than all earlier ones
+   */
+  renew(incarnation) {
+    if (!isNumber(incarnation)) throw new TypeError("an incarnation is a whole number from 1 to 2^53 - 1");
+    if (this.#base !== null || this.#phase !== "off") throw new TypeError("a client that was welcomed keeps its incarnation");
+    this.#session = { client: this.#session.client, incarnation, attempt: 1 };
+    this.#attempts = 0;
   }
 
   // ---- what it is like
@@ -90,9 +105,19 @@ export class Core {
     return { off: 0, opening: 1, online: this.#queue.length }[this.#phase];
   }
 
-  /** How many messages of the session's stream were taken. */
-  get taken() {
-    return this.#taken;
+  /** The incarnation, in all of its sessions. */
+  get incarnation() {
+    return this.#session.incarnation;
+  }
+
+  /** Whether the server has welcomed this incarnation. */
+  get wasWelcomed() {
+    return this.#base !== null;
+  }
+
+  /** Whether a message of the session's stream is missing before this one, so that none is taken any more. */
+  misses({ session, r }) {
+    return this.#phase === "online" && session !== null && this.#isMine(session) && r > this.#taken + 1;
   }
 
   /** What is shown of the path: a number and a value, or null. @param {Path} path */
@@ -159,8 +184,10 @@ export class Core {
     this.#checkNumbers();
     checkDepth(path, value);
     checkDepth(path, draft);
+    const body = tryText(path, value, draft);
+    this.#checkLength(body);
     this.#asks.delete(request);
-    this.#enqueueWrite({ kind: "try", word: "op", body: tryText(path, value, draft), request, attempt, path });
+    this.#enqueueWrite({ kind: "try", word: "op", body, request, attempt, path });
   }
 
   /** Gives up the request's transaction. @param {number} request */
@@ -435,13 +462,19 @@ export class Core {
     this.#checkMessage();
   }
 
+  #checkLength(body) {
+    if (this.#mostBytes < Infinity && byteLength(body) + MOST_AROUND > this.#mostBytes) throw new TooLong();
+  }
+
   #write(body) {
+    this.#checkLength(body);
     const request = this.#nextRequest();
     this.#enqueueWrite({ kind: "write", word: "op", body, request });
     return request;
   }
 
   #leave(word, body) {
+    this.#checkLength(body);
     const request = this.#nextRequest();
     this.#enqueue({ kind: word, word, body, request });
     return request;

@@ -11,6 +11,9 @@ export const GREATEST_NUMBER = Number.MAX_SAFE_INTEGER;
 /** The most bytes of a message to the server. */
 export const MOST_BYTES = 1_048_576;
 
+/** The most bytes of a message round its operation: its names, its numbers and its session. */
+export const MOST_AROUND = 256;
+
 const CLIENT_ID = /^[A-Za-z0-9_-]{1,128}$/;
 const WHYS = ["bye", "lost", "lease", "superseded", "slow", "restart"];
 
