@@ -28,6 +28,7 @@ _PYTHON = _CLIENTS / "python" / "conformance_driver.py"
 _JS = _CLIENTS / "js" / "conformance-driver.mjs"
 
 _CHUNK = 10
+_TOLD = 100  # scripts between two lines on standard error
 _MOST_SHOWN = 5
 
 
@@ -145,7 +146,7 @@ def main() -> int:
     with multiprocessing.Pool(given.jobs, _begin, (program, commands)) as pool:
         for done, results in enumerate(pool.imap(_run_seeds, chunks), 1):
             tally.add(results)
-            if done * _CHUNK % 1000 == 0:
+            if done * _CHUNK % _TOLD == 0:
                 print(f"conformance: {done * _CHUNK} scripts", file=sys.stderr, flush=True)
     print(f"conformance: seeds {first} to {last}, for each of: {', '.join(commands) or 'none'}")
     print(f"{tally.passed} passed, {tally.failed} failed")

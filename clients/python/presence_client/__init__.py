@@ -1,1 +1,100 @@
-"""A client of a presence server, for asyncio."""
+"""A client of a presence server, for asyncio.
+
+    async with connect("ws://127.0.0.1:8080/", client="alice") as db:
+        await db.ref("/online/alice").set(True)
+
+See the README beside this package.
+"""
+
+from .database import Database, connect
+from .errors import (
+    ActionLostError,
+    BadFault,
+    BadKeyError,
+    BusyFault,
+    CallError,
+    ClosedError,
+    DeniedError,
+    DownFault,
+    EmptyKeyError,
+    FullFault,
+    ListensFullError,
+    LongKeyError,
+    ManyPathsError,
+    NoSuchRequestError,
+    NotJsonError,
+    NotWholeError,
+    OfflineError,
+    OldFault,
+    OrderFault,
+    OverlapError,
+    PlaceholderError,
+    PlanFullError,
+    PresenceError,
+    RangeError,
+    ServerFault,
+    SessionFault,
+    SpentError,
+    SpentFault,
+    SupersededError,
+    TooDeepError,
+    TooLongError,
+    TooManyTriesError,
+    WriteError,
+)
+from .reference import (
+    ABORT,
+    ConnectedReference,
+    OnDisconnect,
+    Reference,
+    Snapshot,
+    TransactionResult,
+)
+from .streams import Stream
+from .values import SERVER_TIMESTAMP
+
+__all__ = [
+    "ABORT",
+    "SERVER_TIMESTAMP",
+    "ActionLostError",
+    "BadFault",
+    "BadKeyError",
+    "BusyFault",
+    "CallError",
+    "ClosedError",
+    "ConnectedReference",
+    "Database",
+    "DeniedError",
+    "DownFault",
+    "EmptyKeyError",
+    "FullFault",
+    "ListensFullError",
+    "LongKeyError",
+    "ManyPathsError",
+    "NoSuchRequestError",
+    "NotJsonError",
+    "NotWholeError",
+    "OfflineError",
+    "OldFault",
+    "OnDisconnect",
+    "OrderFault",
+    "OverlapError",
+    "PlaceholderError",
+    "PlanFullError",
+    "PresenceError",
+    "RangeError",
+    "Reference",
+    "ServerFault",
+    "SessionFault",
+    "Snapshot",
+    "SpentError",
+    "SpentFault",
+    "Stream",
+    "SupersededError",
+    "TooDeepError",
+    "TooLongError",
+    "TooManyTriesError",
+    "TransactionResult",
+    "WriteError",
+    "connect",
+]

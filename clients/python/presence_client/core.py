@@ -14,7 +14,7 @@ from dataclasses import dataclass
 from typing import Any, Deque, Dict, List, Optional, Sequence, Tuple, Union
 
 from . import messages as down
-from .errors import NoSuchRequestError, OfflineError, SpentError, TooDeepError
+from .errors import NoSuchRequestError, OfflineError, SpentError, TooDeepError, TooLongError
 from .messages import (
     CODE_BAD,
     CODE_SESSION,
@@ -23,10 +23,13 @@ from .messages import (
     MOST_NUMBER,
     Op,
     Session,
+    left_text,
+    longest_bytes,
     set_op,
     transaction_op,
     up_text,
     update_op,
+    write_text,
 )
 from .strict_json import text_of
 from .values import (
@@ -209,9 +212,9 @@ _Queued = Union[_Write, _Try, _Left, _Cancel, _On, _Off]
 
 def _message(queued: _Queued, session: Session, q: int, n: int) -> str:
     if isinstance(queued, (_Write, _Try)):
-        return up_text("op", session, q=q, n=n, op=queued.op.json())
+        return write_text(session, q, n, queued.op)
     if isinstance(queued, _Left):
-        return up_text("left", session, q=q, op=queued.op.json())
+        return left_text(session, q, queued.op)
     word = {_Cancel: "cancel", _On: "on", _Off: "off"}[type(queued)]
     return up_text(word, session, q=q, path=path_text(queued.path))
 
@@ -250,9 +253,11 @@ class _Asking:
 
 
 class Client:
-    """One incarnation of a client, in the state Off."""
+    """One incarnation of a client, in the state Off. Operations whose message may have more bytes
+    than `longest` are refused as TooLong, where that is given: a server takes no longer ones."""
 
-    def __init__(self, client: str, incarnation: int) -> None:
+    def __init__(self, client: str, incarnation: int, longest: Optional[int] = None) -> None:
+        self._longest = longest
         self._session = Session(client, incarnation, 1)
         self._attempts = 0
         self._phase = OFF
@@ -287,6 +292,11 @@ class Client:
     def session(self) -> Optional[Session]:
         """The session that is open or being opened."""
         return None if self._phase == OFF else self._session
+
+    @property
+    def incarnation(self) -> int:
+        """Which start of the client's program this is."""
+        return self._session.incarnation
 
     @property
     def was_welcomed(self) -> bool:
@@ -355,6 +365,10 @@ class Client:
 
     # ---- steps that calls share
 
+    def _check_length(self, op: Op) -> None:
+        if self._longest is not None and longest_bytes(self._session, op) > self._longest:
+            raise TooLongError()
+
     def _next_request(self) -> int:
         self._requests += 1
         return self._requests
@@ -401,6 +415,7 @@ class Client:
     # ---- writes
 
     def _write(self, op: Op) -> int:
+        self._check_length(op)
         request = self._next_request()
         self._make_write(_Write(request, op))
         return request
@@ -447,8 +462,9 @@ class Client:
             raise SpentError()
         if max(depth_of(asking.value), depth_of(draft)) + len(asking.path) > MAX_DEPTH:
             raise TooDeepError()
-        del self._asks[request]
         op = transaction_op(asking.path, asking.value, draft)
+        self._check_length(op)
+        del self._asks[request]
         self._make_write(_Try(request, op, asking.attempt))
 
     def abort(self, request: int) -> None:
@@ -471,6 +487,7 @@ class Client:
     # ---- what is left for the session's end
 
     def _leave(self, op: Op) -> int:
+        self._check_length(op)
         request = self._next_request()
         self._enqueue(_Left(request, op))
         return request

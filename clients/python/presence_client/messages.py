@@ -4,7 +4,18 @@ from __future__ import annotations
 
 import re
 from dataclasses import dataclass
-from typing import Any, Callable, Dict, List, Mapping, NamedTuple, Optional, Tuple, Union
+from typing import (
+    Any,
+    Callable,
+    Dict,
+    List,
+    Mapping,
+    NamedTuple,
+    Optional,
+    Sequence,
+    Tuple,
+    Union,
+)
 
 from .errors import WriteError
 from .strict_json import NotJson, read, text_of
@@ -40,36 +51,50 @@ class Session(NamedTuple):
 
 
 class Op(NamedTuple):
-    """An operation: its word, its path, and the JSON of its other names."""
+    """An operation: its path, and the text of its JSON."""
 
-    word: str
     path: Path
-    parts: Dict[str, Any]
+    text: str
 
-    def json(self) -> Dict[str, Any]:
-        """The JSON value of the operation."""
-        return {"op": self.word, "path": path_text(self.path), **self.parts}
+
+def _op(word: str, path: Path, **parts: Any) -> Op:
+    return Op(path, text_of({"op": word, "path": path_text(path), **parts}))
 
 
 def set_op(path: Path, draft: Draft) -> Op:
     """Puts the draft at the path; None removes what is there."""
-    return Op("set", path, {"value": tree_json(draft)})
+    return _op("set", path, value=tree_json(draft))
 
 
-def update_op(path: Path, places: List[Place]) -> Op:
+def update_op(path: Path, places: Sequence[Place]) -> Op:
     """Puts the drafts at their places below the path."""
     values = {path_name(place): tree_json(draft) for place, draft in places}
-    return Op("update", path, {"values": values})
+    return _op("update", path, values=values)
 
 
 def transaction_op(path: Path, expect: Tree, draft: Draft) -> Op:
     """Puts the draft at the path, where that holds the expected value."""
-    return Op("tx", path, {"expect": tree_json(expect), "value": tree_json(draft)})
+    return _op("tx", path, expect=tree_json(expect), value=tree_json(draft))
 
 
 def up_text(word: str, session: Session, **fields: Any) -> str:
-    """The text of a message to the server."""
+    """The text of a message to the server that holds no operation."""
     return text_of({"m": word, "s": session, **fields})
+
+
+def write_text(session: Session, q: int, n: int, op: Op) -> str:
+    """The text of an Op. Its names stand in byte order."""
+    return f'{{"m":"op","n":{n},"op":{op.text},"q":{q},"s":{text_of(session)}}}'
+
+
+def left_text(session: Session, q: int, op: Op) -> str:
+    """The text of a Left. Its names stand in byte order."""
+    return f'{{"m":"left","op":{op.text},"q":{q},"s":{text_of(session)}}}'
+
+
+def longest_bytes(session: Session, op: Op) -> int:
+    """The bytes of the longest message that may carry the operation."""
+    return len(write_text(session._replace(attempt=MOST_NUMBER), MOST_NUMBER, MOST_NUMBER, op).encode())
 
 
 # ---- to a client
