@@ -136,8 +136,11 @@ export function onDisconnect(place: Ref): OnDisconnect;
 export function serverTimestamp(): ServerTimestamp;
 export function goOffline(db: Database): void;
 export function goOnline(db: Database): void;
-/** Calls back with whether the client is connected, now and at each change. Answers what ends it. */
-export function onConnected(db: Database, callback: (isConnected: boolean) => void): () => void;
+/**
+ * Calls back with whether the client is connected, now and at each change. Answers what ends it. An async callback may
+ * fail for the loss of the connection, by ActionLost or Offline: that is passed over, since the next connection calls back again.
+ */
+export function onConnected(db: Database, callback: (isConnected: boolean) => unknown): () => void;
 /** Calls back with what goes wrong, where no promise tells it. Answers what ends it. */
 export function onError(db: Database, callback: (error: Error) => void): () => void;
 /** Keeps texts in files of a directory. For Node alone. */

@@ -137,9 +137,10 @@ export function goOnline(db) {
 }
 
 /**
- * Calls back with whether the client is connected, now and at each change.
+ * Calls back with whether the client is connected, now and at each change. An async callback may fail for the loss
+ * of the connection, by ActionLost or Offline: that is passed over, since the next connection calls back again.
  * @param {Database} db
- * @param {(isConnected: boolean) => void} callback
+ * @param {(isConnected: boolean) => unknown} callback
  * @returns {() => void} what ends it
  */
 export function onConnected(db, callback) {

@@ -1,6 +1,6 @@
 // A database as a program sees it: promises for what it asks, and callbacks for what it listens to.
 
-import { ActionLost, DeniedListens, DeniedPlan, Shape, TooManyTries } from "../core/errors.js";
+import { ActionLost, DeniedListens, DeniedPlan, Offline, Shape, TooManyTries } from "../core/errors.js";
 import { isClientId } from "../core/messages.js";
 import { Path } from "../core/paths.js";
 import { hasPlaceholder, plain, readDraft } from "../core/tree.js";
@@ -10,10 +10,16 @@ import { Ref, Snapshot } from "./refs.js";
 /** What a program's own callback throws is its own: it is thrown where nothing of ours is cut short. */
 function callSafely(callback, ...given) {
   try {
-    callback(...given);
+    return callback(...given);
   } catch (error) {
     setTimeout(() => { throw error; });
+    return undefined;
   }
+}
+
+// The connection was lost before all was done that is done with each one: it is done again with the next.
+function passOverLoss(error) {
+  if (!(error instanceof ActionLost || error instanceof Offline)) throw error;
 }
 
 function checkAddress(url) {
@@ -218,7 +224,8 @@ export class Database {
   onConnected(callback) {
     const listener = { wasCalled: false, call: (isConnected) => {
       listener.wasCalled = true;
-      callSafely(callback, isConnected);
+      const made = callSafely(callback, isConnected);
+      if (typeof made?.then === "function") made.then(undefined, passOverLoss);
     } };
     this.#connectedCallbacks.add(listener);
     queueMicrotask(() => {

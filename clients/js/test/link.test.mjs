@@ -250,6 +250,23 @@ test("an action is lost with its connection, and refused without one", timed, as
   await assert.rejects(onDisconnect(ref(db, "a")).set(1), { name: "ActionLost" });
 });
 
+test("what onConnected does for a connection that is lost is done again for the next one", timed, async (t) => {
+  const server = await FalseServer.start(t, welcoming((message, peer, { say, server: { peers } }) => {
+    if (message.m === "left" && peers.length === 1) peer.cut();
+    else if (message.m === "left") say("armed", { q: message.q });
+    return message.m === "left";
+  }));
+  const { db } = client(t, server);
+  const done = [];
+  onConnected(db, async (isConnected) => {
+    if (!isConnected) return;
+    await onDisconnect(ref(db, "a")).remove(); // lost at first, and no rejection that nobody handles
+    done.push(await set(ref(db, "a"), true));
+  });
+  await until("it is done", () => done.length === 1);
+  assert.deepEqual(server.heard.map(({ m }) => m), ["hello", "left", "hello", "left", "op"]);
+});
+
 test("a server that answers nothing is left after a while", timed, async (t) => {
   const server = await FalseServer.start(t, welcoming((message, peer, { server: { peers } }) => message.m === "op" && peers.length === 1));
   const { db } = client(t, server, { timing: { beat: 50, answer: 200 } });

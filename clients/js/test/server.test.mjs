@@ -11,6 +11,7 @@ import { PATIENCE, Proxy, QUICK, RealServer, WebSocket, memory, noProgram, realS
 const { child, connect, get, goOffline, goOnline, onConnected, onDisconnect, onError, onValue, ref, remove, runTransaction, serverTimestamp, set, update } = presence;
 
 const withProgram = { skip: noProgram, timeout: 4 * PATIENCE };
+const slowly = { skip: noProgram, timeout: 20 * PATIENCE }; // hundreds of writes that are saved one by one
 
 function client(t, url, id, options = {}) {
   const db = connect(url, { client: id, storage: memory(), WebSocket, timing: QUICK, ...options });
@@ -100,7 +101,7 @@ test("what a process left is carried out when it is killed", withProgram, async 
   assert.deepEqual(seen, [null, true, null]);
 });
 
-test("transactions of four clients count to 400", withProgram, async (t) => {
+test("transactions of four clients count to 400", slowly, async (t) => {
   const { url } = await realServer(t);
   const clients = ["a", "b", "c", "d"].map((id) => client(t, url, id));
   let overtaken = 0;
@@ -121,7 +122,7 @@ test("transactions of four clients count to 400", withProgram, async (t) => {
   t.diagnostic(`${overtaken} transactions were overtaken 25 times and begun again`);
 });
 
-test("a listener misses nothing while its connection is cut 50 times", withProgram, async (t) => {
+test("a listener misses nothing while its connection is cut 50 times", slowly, async (t) => {
   const server = await realServer(t);
   const proxy = await Proxy.before(t, server.port);
   const writer = client(t, server.url, "writer");
@@ -202,7 +203,7 @@ test("an incarnation that was used is refused by the server", withProgram, async
   assert.equal((await get(ref(first, "/a"))).val(), 1);
 });
 
-test("the server denies the 257th place of a session's end, and its 257th listener", withProgram, async (t) => {
+test("the server denies the 257th place of a session's end, and its 257th listener", slowly, async (t) => {
   const { url } = await realServer(t);
   const db = client(t, url, "alice");
   await online(db);
