@@ -8,47 +8,21 @@ use Rattle.sqlite.specs.declared.types.Value.{Value}
 use Rattle.sqlite.specs.declared.types.Value.TheVariants.{Int}
 use Rattle.sqlite.specs.Tree.{IsTable}
 use Rattle.sqlite.specs.Effect.{Database}
-use Rattle.sqlite.specs.Listing.{understood}
-use Rattle.sqlite.specs.State.{State, IsUnchanged, IsRolledBack, Shown, ShowsRows, QueriesRow}
+use Rattle.sqlite.specs.State.{State, IsUnchanged}
 use Rattle.sqlite.specs.Held.{Held, state}
 use Rattle.sqlite.specs.Given.{HasGiven, HasBegun, Advances}
-use Rattle.sqlite.specs.declared.error.Error.{Error}
-use Rattle.sqlite_schema.specs.declared.command.Returning.{Returning}
-use Rattle.sqlite_resolve.specs.declared.compiled.Compiled.{Compiled}
 use Rattle.sqlite_value.proofs.OrderLemmas.{value_cmp_total, value_cmp-Int}
 use Rattle.sqlite_keyed.proofs.KeyedLemmas.{Less-from_lt}
 use Rattle.std.proofs.lemmas.Int.{ints}
 use Rattle.sqlite_keyed.proofs.ListLemmas.{all_unmap}
-use Rattle.sqlite.proofs.Callers.{IsPlain, begun_plain, unchanged_then}
-use Rattle.pres_table.specs.Kept.{IsOurs, IsIdle, IsLeft}
+use Rattle.sqlite.proofs.Callers.{unchanged_then}
+use Rattle.pres_table.specs.Kept.{HasOurTables, IsOurs, IsIdle, IsLeft}
 use Rattle.pres_table.specs.Saved.{rows_in, shown_row, shown_rows, whole_of, AreBelow}
-use Rattle.pres_table.specs.Opened.{format_text, greatest_in, IsFound}
-use Rattle.pres_table.proofs.Statements.{select_text, select_plain, format_plain}
+use Rattle.pres_table.specs.Opened.{greatest_in, IsFound}
+use Rattle.pres_table.proofs.Statements.{select_text}
+use Rattle.pres_table.proofs.Plain.{rows_are_read, begun_same}
 use Rattle.pres_table.proofs.Inserting.{below}
-use Rattle.pres_table.proofs.Progress.{query_fails}
 use Rattle.pres_table.proofs.Loading.{loads}
-
--- ---- the format
-
-show_unchanged : (old new : State) (sql : List ℕ) (c : Compiled) (params : Row) (rows : List Row) (returning : Option Returning) → returning ≡ None → ShowsRows old new sql c params rows returning → IsUnchanged old new
-show_unchanged old new sql c params rows None none h = h.3
-show_unchanged old new sql c params rows (Some what) none h = absurd (cc)
-
-shown_unchanged : (sql : List ℕ) (params : Row) (old new : State) (rows : List Row) → IsPlain (understood old.now.schema sql) → Shown sql params old new rows → IsUnchanged old new
-unfolding Shown
-shown_unchanged sql params old new rows plain h = show_unchanged old new sql h.0 _ rows h.0.returning (subst IsPlain h.1.is plain).0 h.2
-
-pub format_left : (old new : State) (r : Result Row Error) → IsOurs old → QueriesRow format_text [] old new r → IsUnchanged old new ⊎ IsRolledBack old new
-unfolding QueriesRow
-format_left old new (Ok row) ours (inl h) = inl h.1
-format_left old new (Ok row) ours (inr h) = inl (shown_unchanged format_text [] old new h.0 (subst (λ schema. IsPlain (understood schema format_text)) (sym ours.schema) format_plain) h.1)
-format_left old new (Err e) ours (inl h) = query_fails old new format_text [] e h
-format_left old new (Err e) ours (inr h) = inl (shown_unchanged format_text [] old new [] (subst (λ schema. IsPlain (understood schema format_text)) (sym ours.schema) format_plain) h.1)
-
-pub found_unchanged : (old new : State) (row : Row) → IsOurs old → QueriesRow format_text [] old new (Ok row) → IsUnchanged old new
-unfolding QueriesRow
-found_unchanged old new row ours (inl h) = h.1
-found_unchanged old new row ours (inr h) = shown_unchanged format_text [] old new h.0 (subst (λ schema. IsPlain (understood schema format_text)) (sym ours.schema) format_plain) h.1
 
 -- ---- the last number
 
@@ -83,7 +57,7 @@ pub record Counting {S : Type 0} (g : Ghosts S) (first held : Held S) (last : �
 module _ {S : Type 0} (g : Ghosts S) (first : Held S) (ours : IsOurs (state g first)) where
   pub counting_begins : (held : Held S) → HasBegun g select_text [] first held → Counting g first held 0
   counting_begins held begun =
-      let it = begun_plain g select_text [] first held (subst (λ schema. IsPlain (understood schema select_text)) (sym ours.schema) select_plain) begun in
+      let it = begun_same select_text rows_are_read g first held begun in
       record { given = []; has = it.0; same = it.1; greatest = refl; lower = tt }
 
   module _ (held : Held S) (last : ℕ) (p : Counting g first held last) (new : Held S) where
@@ -100,13 +74,13 @@ module _ {S : Type 0} (g : Ghosts S) (first : Held S) (ours : IsOurs (state g fi
     pub counted : Advances g held new None → (last ≡ greatest_in (shown_rows (state g first))) × AreBelow (last + 1) (rows_in (state g first))
     counted moved =
         let now = p.same.0.now_is in
-        let later : IsOurs (state g held) = record { schema = ap (λ (d : Database). d.schema) now ∙ ours.schema; rising = subst (λ (d : Database). IsTable (d.trees 2)) (sym now) ours.rising } in
+        let later : IsOurs (state g held) = record { schema = subst (λ (d : Database). HasOurTables d.schema) (sym now) ours.schema; rising = subst (λ (d : Database). IsTable (d.trees 2)) (sym now) ours.rising } in
         let all : p.given ≡ shown_rows (state g first) = loads (state g held) (state g new) p.given later (moved select_text [] p.given p.has) ∙ ap (λ (d : Database). map shown_row (d.trees 2)) now in
         (p.greatest ∙ ap greatest_in all, all_unmap (λ row. value_cmp (column row 0) (Int (pos (last + 1))) ≡ Less) shown_row (rows_in (state g first)) (subst (Below (last + 1)) all p.lower))
 
 pub ours_same : (old new : State) → IsOurs old → IsUnchanged old new → IsOurs new
 ours_same old new ours same = record {
-  schema = ap (λ (d : Database). d.schema) same.0.now_is ∙ ours.schema;
+  schema = subst (λ (d : Database). HasOurTables d.schema) (sym same.0.now_is) ours.schema;
   rising = subst (λ (d : Database). IsTable (d.trees 2)) (sym same.0.now_is) ours.rising;
 }
 
@@ -130,7 +104,7 @@ pub awaits_found : (old new : State) (last : ℕ) → IsOurs old → IsFound old
 awaits_found old new last ours found = record {
   alone = found.mode;
   ready = λ _. record {
-    ours = record { schema = ap (λ (d : Database). d.schema) found.same.now ∙ ours.schema; rising = subst (λ (d : Database). IsTable (d.trees 2)) (sym found.same.now) ours.rising };
+    ours = record { schema = subst (λ (d : Database). HasOurTables d.schema) (sym found.same.now) ours.schema; rising = subst (λ (d : Database). IsTable (d.trees 2)) (sym found.same.now) ours.rising };
     below = subst (λ (d : Database). AreBelow (last + 1) (d.trees 2)) (sym found.same.now) found.below;
   };
 }

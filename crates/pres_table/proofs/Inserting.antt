@@ -1,7 +1,7 @@
 -- What the statement that adds a row does.
-use Rattle.std.proofs.Common.{◌≡◌, ◌⊎◌, inl, inr, ℕ, ◌+◌, ◌<◌, ℤ, pos, List, [], ◌∷◌, ◌++◌, Bool, true, false, cond, None, Ok, Err, Result, refl, sym, ap, subst, ◌∙◌, arith, Less, Option, IsTrue, append-nil}
+use Rattle.std.proofs.Common.{◌≡◌, ◌⊎◌, inl, inr, ℕ, ◌+◌, ◌<◌, ◌==◌, ◌&&◌, if◌then◌else◌, ℤ, pos, List, [], ◌∷◌, ◌++◌, flat_map, Bool, true, false, cond, None, Some, Ok, Err, Result, refl, sym, ap, subst, ◌∙◌, arith, Less, Option, IsTrue, append-nil, append_assoc}
 use Rattle.std.proofs.lemmas.Int.{ints}
-use Rattle.std.specs.List.{AllByRecursion}
+use Rattle.std.specs.List.{AllByRecursion, filter_map}
 use Rattle.sqlite.specs.declared.types.Value.{Value}
 use Rattle.sqlite.specs.declared.types.Value.TheVariants.{Null, Int, Text}
 use Rattle.sqlite.specs.Order.{Row}
@@ -10,6 +10,12 @@ use Rattle.sqlite_value.proofs.OrderLemmas.{value_cmp-Int}
 use Rattle.sqlite_keyed.proofs.KeyedLemmas.{Less-from_lt}
 use Rattle.sqlite.specs.Ops.{unary}
 use Rattle.sqlite.specs.Table.{Table}
+use Rattle.sqlite.specs.Schema.{Schema}
+use Rattle.sqlite_schema.specs.declared.schema.Keys.{Keys}
+use Rattle.sqlite_schema.specs.declared.schema.Reference.{Reference}
+use Rattle.sqlite_schema.specs.Rules.{ParentKey}
+use Rattle.sqlite_rules.specs.Action.{work_by, work_for, works, Work}
+use Rattle.sqlite_rules.specs.declared.action.Deed.{Deed}
 use Rattle.sqlite.specs.Kind.TheVariants.{Integer}
 use Rattle.sqlite.specs.Source.TheVariants.{Values}
 use Rattle.sqlite.specs.Command.{Command}
@@ -24,20 +30,20 @@ use Rattle.sqlite.specs.declared.error.Error.{Error}
 use Rattle.sqlite.specs.declared.run.Mode.{Mode}
 use Rattle.sqlite.specs.Listing.{understood}
 use Rattle.sqlite.specs.Effect.{Database}
-use Rattle.sqlite.specs.State.{State, mode_of, Executes, ExecutesIn, IsNotRun, IsUnchanged, IsRolledBack, RunsAlone, RunsCommand, shows_rows, text_of, CommitsBy, MayCommit, Runs, Survives}
+use Rattle.sqlite.specs.State.{State, HasCleanDisk, mode_of, Executes, ExecutesIn, IsNotRun, IsUnchanged, IsRolledBack, RunsAlone, RunsCommand, shows_rows, text_of, CommitsBy, MayCommit, Runs, Survives}
 use Rattle.sqlite_resolve.specs.declared.compiled.Compiled.{Compiled}
 use Rattle.std.proofs.lemmas.Bool.{cases_Bool}
 use Rattle.sqlite.proofs.Callers.{IsPlain, command_of, statement_of, runs_as, one_step}
 use Rattle.pres_table.specs.Schemas.{batch, saved_schema}
 use Rattle.pres_table.specs.Saved.{Saved, stored, rows_in, AreBelow}
-use Rattle.pres_table.specs.Kept.{CanTake, IsIdle, Awaits, AddsRow, IsLeft}
+use Rattle.pres_table.specs.Kept.{HasOurTables, CanTake, IsIdle, Awaits, AddsRow, IsLeft, Lasts, Outlasts}
 use Rattle.pres_table.proofs.Statements.{insert_text, terms, insert_is, insert_plain}
 use Rattle.sqlite_value.proofs.OrderLemmas.{value_cmp_total}
 use Rattle.sqlite_schema.specs.declared.command.Command.TheVariants.{Select, InsertOr, Update, Delete, CreateTable, CreateIndex, DropTable, DropIndex, Begin, Commit, Rollback, Savepoint, Release, RollbackTo, Nothing, CreateView, DropView, Rows}
 use Rattle.sqlite_schema.specs.declared.command.Returning.{Returning}
 use Rattle.sqlite.specs.Tree.{IsTable, rowid}
 use Rattle.sqlite.specs.Clock.{timed}
-use Rattle.sqlite.proofs.StateLemmas.{survives_weaker}
+use Rattle.sqlite.proofs.StateLemmas.{survives_then}
 
 either : (b : Bool) (x : Value) → cond b x x ≡ x
 either true x = refl
@@ -65,21 +71,46 @@ below a b h = value_cmp-Int (pos a) (pos b) ∙ Less-from_lt (pos a) (pos b) (om
 abbrev pub params_for : ℕ → Saved → Row
 params_for k b = Int (pos k) ∷ Int (pos b.moment) ∷ Text b.body ∷ []
 
-pub does_insert : (limit : Option ℕ) (mode : Mode) (k : ℕ) (b : Saved) (db after : Database) (text : List ℕ) (tally : Tally) → db.schema ≡ saved_schema
-    → Does limit mode (params_for k b) db text None (Insert 1 (Values terms 4)) (Ok (tally, after)) → (after.schema ≡ saved_schema) × (after.trees 2 ≡ put_row (stored k b) (db.trees 2))
+no_and : (b : Bool) → (b && false) ≡ false
+no_and true = refl
+no_and false = refl
+
+-- where no row is taken out, no foreign key acts
+no_work : (depth tree : ℕ) (child : Table) (ref : Reference) (deed : Option Deed) (key : Option ParentKey) → work_by depth tree [] child ref deed key ≡ None
+no_work depth tree child ref None key = refl
+no_work depth tree child ref (Some deed) None = refl
+no_work depth tree child ref (Some deed) (Some key) =
+    ap (λ b. if b then Some (let w : Work = record { depth = depth; child = child; ref = ref; places = key.1; order = key.2; deed = deed; moves = [] } in w) else None) (no_and (key.0 == tree))
+
+none_filtered : {A B : Type 0} (f : A → Option B) (xs : List A) → ((x : A) → f x ≡ None) → filter_map f xs ≡ []
+none_filtered f [] none = refl
+none_filtered f (x ∷ xs) none = rw (none x) (none_filtered f xs none)
+
+none_flat : {A B : Type 0} (f : A → List B) (xs : List A) → ((x : A) → f x ≡ []) → flat_map f xs ≡ []
+none_flat f [] none = refl
+none_flat f (x ∷ xs) none = rw (none x) (none_flat f xs none)
+
+nothing_works : (schema : Schema) (keys : Keys) (depth tree : ℕ) (news : List Row) → works schema keys depth tree [] news ≡ []
+nothing_works schema keys depth tree news =
+    none_flat (λ child. filter_map (work_for schema keys depth tree [] news child) child.references) schema.tables (λ child.
+    none_filtered (work_for schema keys depth tree [] news child) child.references (λ ref. no_work depth tree child ref _ _))
+
+pub does_insert : (limit : Option ℕ) (mode : Mode) (k : ℕ) (b : Saved) (db after : Database) (text : List ℕ) (tally : Tally) → HasOurTables db.schema
+    → Does limit mode (params_for k b) db text None (Insert 1 (Values terms 4)) (Ok (tally, after)) → (after.schema ≡ db.schema) × (after.trees 2 ≡ put_row (stored k b) (db.trees 2))
 does_insert limit mode k b db after text tally has does =
     let params = params_for k b in
     let trees = db.trees in
+    let schema : Schema = record db.schema { tables = saved_schema.tables ++ has.others } in
     let table : Table = record batch { tree = 2 } in
-    let done = went (subst (λ s. Does limit mode params (record db { schema = s }) text None (Insert 1 (Values terms 4)) (Ok (tally, after))) has does) in
+    let done = went (subst (λ tables. Does limit mode params (record db { schema = record db.schema { tables = tables } }) text None (Insert 1 (Values terms 4)) (Ok (tally, after))) has.tables does) in
     let now = ap (λ (p : Tally × Database). p.1) (same_value (went (went done.2).2).2) in
     let given = went done.1 in
     let written = went (went given.2).2 in
     let counted = went written.2 in
     let ends : done.0.trees ≡ written.0 = ap (λ (it : Written). it.trees) (same_value counted.2) ∙ same_value counted.1 in
-    let rows = (one_step saved_schema _ trees written.0 (edit_of trees table [] Chosen 0 given.0) refl written.1).rows in
+    let rows = (one_step schema _ trees written.0 (edit_of trees table [] Chosen 0 given.0) (nothing_works schema mode.keys 0 2 (edit_of trees table [] Chosen 0 given.0).news) written.1).rows in
     let edit : edited trees (edit_of trees table [] Chosen 0 given.0) ≡ put_row (stored k b) (trees 2) = ap (λ all. edited trees (edit_of trees table [] Chosen 0 all)) given.1.1 ∙ rw (cast_null, cast_int (pos k), cast_int (pos b.moment)) in
-    (ap (λ (d : Database). d.schema) now, ap (λ (d : Database). d.trees 2) now ∙ ap (λ (t : Trees). t 2) ends ∙ rows ∙ edit)
+    (ap (λ (d : Database). d.schema) now ∙ ap (λ tables. let s : Schema = record db.schema { tables = tables } in s) (sym has.tables), ap (λ (d : Database). d.trees 2) now ∙ ap (λ (t : Trees). t 2) ends ∙ rows ∙ edit)
 
 put_above : (k : ℕ) (b : Saved) (rows : List Row) → AreBelow k rows → put_row (stored k b) rows ≡ rows ++ stored k b ∷ []
 put_above k b [] h = refl
@@ -122,11 +153,12 @@ commits old new k b count idle h =
     let was_open = open_if_executed old new insert_text (params_for k b) count idle.alone h in
     let can = idle.ready was_open in
     let has = can.ours.schema in
-    let w = runs_as insert_text (params_for k b) old new saved_schema has _ insert_is insert_plain count h in
-    let made = does_insert old.step_limit (mode_of old) k b old.now new.now (statement_of insert_text (understood saved_schema insert_text)) w.tally has w.changed in
+    let schema = old.now.schema in
+    let w = runs_as insert_text (params_for k b) old new schema refl _ (insert_is schema has) (insert_plain schema has) count h in
+    let made = does_insert old.step_limit (mode_of old) k b old.now new.now (statement_of insert_text (understood schema insert_text)) w.tally has w.changed in
     record {
       rows = made.1 ∙ put_above k b (rows_in old) can.below;
-      schema = made.0 ∙ sym has;
+      schema = made.0;
       committed = rw idle.alone at w.shown.committed_is;
       mode = w.shown.mode ∙ idle.alone;
       was_open = was_open;
@@ -145,10 +177,14 @@ run_fails old new sql c params e h = elim (cases_Bool (shows_rows false c)) [
     command_fails (inl refused) = inl refused.1
     command_fails (inr failed) = inr failed.3
 
+pub not_run : (old new : State) (sql : List ℕ) (params : Row) (e : Error) → IsNotRun old new sql params e → IsUnchanged old new ⊎ IsRolledBack old new
+unfolding IsNotRun
+not_run old new sql params e (inl unread) = inl unread.1
+not_run old new sql params e (inr failed) = inr failed.3
+
 pub fails : (old new : State) (sql : List ℕ) (params : Row) (e : Error) → Executes sql params old new (Err e) → IsUnchanged old new ⊎ IsRolledBack old new
-unfolding ExecutesIn IsNotRun
-fails old new sql params e (inl (inl unread)) = inl unread.1
-fails old new sql params e (inl (inr failed)) = inr failed.3
+unfolding ExecutesIn
+fails old new sql params e (inl unrun) = not_run old new sql params e unrun
 fails old new sql params e (inr ran) = run_fails old new sql ran.0 _ e ran.2
 
 -- outside a transaction, what is rolled back was there
@@ -186,14 +222,10 @@ may_leave s k b db text can (inr may) =
 leaves : (s : State) (k : ℕ) (b : Saved) (db : Trees) → CanTake s k → CommitsBy insert_text (params_for k b) s db → db 2 ≡ rows_in s ++ stored k b ∷ []
 unfolding CommitsBy
 leaves s k b db can h =
-    let known = sym h.1.is ∙ ap (λ c. understood c insert_text) can.ours.schema in
-    let bare = subst IsPlain (sym known) insert_plain in
-    let command : h.0.command ≡ Insert 1 (Values terms 4) = ap command_of known ∙ insert_is in
+    let known = sym h.1.is in
+    let bare = subst IsPlain (sym known) (insert_plain s.now.schema can.ours.schema) in
+    let command : h.0.command ≡ Insert 1 (Values terms 4) = ap command_of known ∙ insert_is s.now.schema can.ours.schema in
     may_leave s k b db (text_of insert_text h.0) can (rw (bare.0, bare.1, append-nil (params_for k b), command) at h.2)
-
-pub survives : (old new : State) (k : ℕ) (b : Saved) → Awaits old k → Survives old new (CommitsBy insert_text (params_for k b) old)
-    → Survives old new (λ db. IsTrue old.is_open → db 2 ≡ rows_in old ++ stored k b ∷ [])
-survives old new k b awaits h = survives_weaker old new _ _ (λ clean db may live. leaves old k b db ((awaits (omega (arith, h.clean, clean))).ready live) may) h
 
 -- ---- what is kept from call to call
 
@@ -220,7 +252,7 @@ awaits_more old new k b idle adds =
     record {
       alone = adds.mode;
       ready = λ _. record {
-        ours = record { schema = adds.schema ∙ can.ours.schema; rising = rw adds.rows (rising_push k b (rows_in old) can.below can.ours.rising) };
+        ours = record { schema = subst HasOurTables (sym adds.schema) can.ours.schema; rising = rw adds.rows (rising_push k b (rows_in old) can.below can.ours.rising) };
         below = rw adds.rows (below_push k b (rows_in old) can.below);
       };
     }
@@ -232,7 +264,60 @@ awaits_left old new k idle left = record {
       let same = left.same live in
       let can = idle.ready same.was_open in
       record {
-        ours = record { schema = ap (λ (d : Database). d.schema) same.now ∙ can.ours.schema; rising = subst (λ (d : Database). IsTable (d.trees 2)) (sym same.now) can.ours.rising };
+        ours = record { schema = subst (λ (d : Database). HasOurTables d.schema) (sym same.now) can.ours.schema; rising = subst (λ (d : Database). IsTable (d.trees 2)) (sym same.now) can.ours.rising };
         below = subst (λ (d : Database). AreBelow k (d.trees 2)) (sym same.now) can.below;
       };
 }
+
+-- ---- the row is added where the statement was understood
+
+-- what a crash may leave beside what it left before: the rows with one more, and only where the store was open
+abbrev pub WithRow : State → ℕ → Saved → Trees → Type 0
+WithRow s k b db = IsTrue s.is_open × (db 2 ≡ rows_in s ++ stored k b ∷ [])
+
+module _ (old mid new : State) (k : ℕ) (b : Saved) (awaits : Awaits old k) (first : Survives old mid (λ _. ⊥)) (same : HasCleanDisk mid → IsUnchanged old mid) (settled : old.in_transaction ≡ false → IsTrue old.is_open → old.now ≡ old.committed) where
+  idle_then : HasCleanDisk mid → IsIdle mid k
+  idle_then clean =
+      let idle = awaits (omega (arith, first.clean, clean)) in
+      awaits_left old mid k idle (left_by old mid (settled idle.alone) idle.alone (inl (same clean)))
+
+  -- the row is added after the statement was understood
+  pub commits_then : (count : ℕ) → HasCleanDisk mid → Executes insert_text (params_for k b) mid new (Ok count) → AddsRow old new k b
+  commits_then count clean h =
+      let adds = commits mid new k b count (idle_then clean) h in
+      let now = (same clean).0.now_is in
+      record {
+        rows = adds.rows ∙ ap (λ (d : Database). d.trees 2 ++ stored k b ∷ []) now;
+        schema = adds.schema ∙ ap (λ (d : Database). d.schema) now;
+        committed = adds.committed;
+        mode = adds.mode;
+        was_open = (same clean).0.was_open;
+        is_open = adds.is_open;
+      }
+
+  pub left_then : (e : Error) → HasCleanDisk mid → Executes insert_text (params_for k b) mid new (Err e) → IsLeft old new
+  left_then e clean h =
+      let idle = awaits (omega (arith, first.clean, clean)) in
+      left_later old mid new (settled idle.alone) idle.alone (same clean) (fails mid new insert_text (params_for k b) e h)
+
+  pub survives_then_insert : Survives mid new (CommitsBy insert_text (params_for k b) mid) → Survives old new (WithRow old k b)
+  survives_then_insert two =
+      survives_then old mid new _ _ (WithRow old k b) (λ _ db none. absurd none) (λ clean db may.
+      let early : HasCleanDisk mid = omega (arith, two.clean, clean) in
+      let stays = (same early).0 in
+      (stays.was_open, leaves mid k b db ((idle_then early).ready stays.is_open) may ∙ ap (λ (d : Database). d.trees 2 ++ stored k b ∷ []) stays.now_is)) first two
+
+-- ---- what a crash leaves after it
+
+pub lasts : (old new : State) (k : ℕ) (b : Saved) → ((db : Trees) → IsTrue new.is_open → new.may_leave db → db ≡ new.committed.trees) → AddsRow old new k b → Lasts new
+lasts old new k b settled adds db may = settled db adds.is_open may ∙ ap (λ (d : Database). d.trees) adds.committed
+
+pub outlasts : (old new : State) (k : ℕ) (b : Saved) → (IsTrue old.is_open → old.may_leave old.committed.trees) → (IsTrue old.is_open → old.now ≡ old.committed) → Survives old new (WithRow old k b) → HasCleanDisk new
+    → (rows : List Row) → Outlasts rows old → Outlasts rows new
+outlasts old new k b stays settled kept clean rows last db may = elim (kept.crash clean db may) [
+  | inl before ↦ last db before
+  | inr more ↦
+      let it = last old.committed.trees (stays more.0) in
+      let now : rows_in old ≡ rows ++ it.0 = ap (λ (d : Database). d.trees 2) (settled more.0) ∙ it.1 in
+      (it.0 ++ stored k b ∷ [], more.1 ∙ ap (λ all. all ++ stored k b ∷ []) now ∙ append_assoc rows it.0 (stored k b ∷ []))
+]

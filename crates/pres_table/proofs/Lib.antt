@@ -1,4 +1,5 @@
 pub mod Statements
+pub mod Plain
 pub mod Refusals
 pub mod Inserting
 pub mod Loading

@@ -13,7 +13,6 @@ use Rattle.sqlite_keyed.proofs.SortLemmas.{sorted_unique}
 use Rattle.sqlite_keyed.proofs.ListLemmas.{map-map, ascending-map, ascending_weaker}
 use Rattle.sqlite.specs.State.{State, Shown, Begins}
 use Rattle.sqlite.proofs.Callers.{reads_as, begins_as}
-use Rattle.pres_table.specs.Schemas.{saved_schema}
 use Rattle.pres_table.specs.Kept.{IsOurs}
 use Rattle.pres_table.specs.Saved.{Saved, shown_rows, saved_row, saved_from, rows_then, front_from, front_then}
 use Rattle.pres_table.proofs.Statements.{select_text, query, select_is, select_plain}
@@ -43,13 +42,13 @@ answer_is s rows sorted a =
 -- all rows
 pub loads : (old new : State) (rows : List Row) → IsOurs old → Shown select_text [] old new rows → rows ≡ shown_rows old
 loads old new rows ours h =
-    let got = reads_as select_text [] old new saved_schema ours.schema _ select_is.0 select_plain select_is.1 rows h in
+    let got = reads_as select_text [] old new old.now.schema refl _ (select_is old.now.schema ours.schema).0 (select_plain old.now.schema ours.schema) (select_is old.now.schema ours.schema).1 rows h in
     answer_is old rows ours.rising (got.answer Null)
 
 -- the rows that were given so far are the first
 pub begins : (s : State) (rows : List Row) → IsOurs s → Begins select_text [] s rows → (tail : List Row) × (rows ++ tail ≡ shown_rows s)
 begins s rows ours h =
-    let got = begins_as select_text [] s s saved_schema ours.schema _ select_is.0 select_plain select_is.1 rows h in
+    let got = begins_as select_text [] s s s.now.schema refl _ (select_is s.now.schema ours.schema).0 (select_plain s.now.schema ours.schema) (select_is s.now.schema ours.schema).1 rows h in
     (got.1.0, answer_is s (rows ++ got.1.0) ours.rising (got.1.1 Null))
 
 -- ---- what they save

@@ -4,34 +4,24 @@ use Rattle.sqlite.specs.Store.{Ghosts}
 use Rattle.sqlite.specs.Order.{Row}
 use Rattle.sqlite.specs.Tree.{IsTable, Trees}
 use Rattle.sqlite.specs.Effect.{Database}
-use Rattle.sqlite.specs.Listing.{understood}
-use Rattle.sqlite.specs.State.{State, HasCleanDisk, IsUnchanged, IsRolledBack, Survives, Shown, ShowsRows, CommitsShowing, FailsToQuery, FailsToShow, IsNotRun}
+use Rattle.sqlite.specs.State.{State, HasCleanDisk, IsUnchanged, IsRolledBack, Survives, Shown, ShowsRows}
 use Rattle.sqlite.specs.Held.{Held, state}
 use Rattle.sqlite.specs.Given.{HasGiven, HasBegun, Advances}
-use Rattle.sqlite.specs.declared.error.Error.{Error}
 use Rattle.sqlite_schema.specs.declared.command.Returning.{Returning}
 use Rattle.sqlite_resolve.specs.declared.compiled.Compiled.{Compiled}
-use Rattle.sqlite.proofs.StateLemmas.{survives_weaker, survives_then}
-use Rattle.sqlite.proofs.Callers.{IsPlain, begun_plain, never_commits, given_begin, unchanged_then}
+use Rattle.sqlite.proofs.StateLemmas.{survives_then}
+use Rattle.sqlite.proofs.Callers.{given_begin, unchanged_then}
 use Rattle.pres_table.specs.declared.fault.SavedFault.{SavedFault}
 use Rattle.pres_table.specs.declared.fault.SavedFault.TheVariants.{Memory, Database as DatabaseFault, BadRow}
-use Rattle.pres_table.specs.Schemas.{saved_schema}
-use Rattle.pres_table.specs.Kept.{IsOurs, Awaits, IsLeft}
+use Rattle.pres_table.specs.Kept.{HasOurTables, IsOurs, Awaits, IsLeft}
 use Rattle.pres_table.specs.Saved.{Saved, shown_row, shown_rows, saved_row, saved_from, saved_rows, saved_front, front_from}
 use Rattle.pres_table.specs.Taking.{TakesAll, GoesOver}
-use Rattle.pres_table.proofs.Statements.{select_text, select_plain}
+use Rattle.pres_table.proofs.Statements.{select_text}
+use Rattle.pres_table.proofs.Plain.{rows_are_read, begun_same}
 use Rattle.pres_table.proofs.Inserting.{left_later}
 use Rattle.pres_table.proofs.Loading.{loads, begins, saved_push, saved_stops, front_append, front_all}
 
 -- ---- the query
-
-plain_if_ours : (s : State) → s.now.schema ≡ saved_schema → IsPlain (understood s.now.schema select_text)
-plain_if_ours s has = subst (λ schema. IsPlain (understood schema select_text)) (sym has) select_plain
-
--- what may be committed while the store is shut is not known
-pub commits_nothing : (old new : State) (k : ℕ) → Awaits old k → Survives old new (CommitsShowing select_text [] old) → Survives old new (λ _. IsTrue old.is_open → ⊥)
-commits_nothing old new k awaits h =
-    survives_weaker old new _ _ (λ clean db may live. never_commits select_text [] old db (plain_if_ours old ((awaits (omega (arith, h.clean, clean))).ready live).ours.schema) may) h
 
 shown_open : (old new : State) (sql : List ℕ) (c : Compiled) (params : Row) (rows : List Row) (returning : Option Returning) → ShowsRows old new sql c params rows returning → IsTrue old.is_open
 shown_open old new sql c params rows None h = h.3.0.was_open
@@ -44,17 +34,6 @@ open_if_shown sql params old new rows h = shown_open old new sql h.0 _ rows h.0.
 pub open_if_begun : {S : Type 0} (g : Ghosts S) (sql : List ℕ) (params : Row) (old new : Held S) → HasBegun g sql params old new → IsTrue (state g old).is_open
 open_if_begun g sql params old new (inl h) = h.1.0.was_open
 open_if_begun g sql params old new (inr h) = open_if_shown sql params (state g old) (state g new) _ h.1
-
-show_fails : (old new : State) (sql : List ℕ) (c : Compiled) (params : Row) (e : Error) (returning : Option Returning) → FailsToShow old new sql c params e returning → IsUnchanged old new ⊎ IsRolledBack old new
-show_fails old new sql c params e None h = inl h.3
-show_fails old new sql c params e (Some what) (inl refused) = inl refused.1
-show_fails old new sql c params e (Some what) (inr failed) = inr failed.3
-
-pub query_fails : (old new : State) (sql : List ℕ) (params : Row) (e : Error) → FailsToQuery sql params old new e → IsUnchanged old new ⊎ IsRolledBack old new
-unfolding FailsToQuery IsNotRun
-query_fails old new sql params e (inl (inl unread)) = inl unread.1
-query_fails old new sql params e (inl (inr failed)) = inr failed.3
-query_fails old new sql params e (inr h) = show_fails old new sql h.0 _ e h.0.returning h.2
 
 -- ---- the rows so far
 
@@ -75,12 +54,12 @@ pub record Progress {S T : Type 0} (g : Ghosts S) (takes : T → Saved → T →
 module _ {S T : Type 0} (g : Ghosts S) (takes : T → Saved → T → Type 0) (refuses : T → Saved → SavedFault → T → Type 0) (first : Held S) (start : T) (ours : IsOurs (state g first)) where
   pub progress_begins : (held : Held S) → HasBegun g select_text [] first held → Progress g takes first start held start 0
   progress_begins held begun =
-      let it = begun_plain g select_text [] first held (plain_if_ours (state g first) ours.schema) begun in
+      let it = begun_same select_text rows_are_read g first held begun in
       record { given = []; saved = []; has = it.0; same = it.1; reads = refl; taken = refl; counted = refl }
 
   ours_later : (held : Held S) → IsUnchanged (state g first) (state g held) → IsOurs (state g held)
   ours_later held same = record {
-    schema = ap (λ (d : Database). d.schema) same.0.now_is ∙ ours.schema;
+    schema = subst (λ (d : Database). HasOurTables d.schema) (sym same.0.now_is) ours.schema;
     rising = subst (λ (d : Database). IsTable (d.trees 2)) (sym same.0.now_is) ours.rising;
   }
 
@@ -169,17 +148,14 @@ module _ {S T : Type 0} (g : Ghosts S) (takes : T → Saved → T → Type 0) (r
 
 -- ---- at one row
 
-abbrev pub WhileShut : State → Trees → Type 0
-WhileShut old _ = IsTrue old.is_open → ⊥
-
-pub nothing_more : (old held now : State) → Survives old held (WhileShut old) → Survives held now (λ _. ⊥) → Survives old now (WhileShut old)
-nothing_more old held now = survives_then old held now (WhileShut old) (λ _. ⊥) (WhileShut old) (λ _ _ shut. shut) (λ _ _ none. absurd none)
+pub nothing_more : (old held now : State) → Survives old held (λ _. ⊥) → Survives held now (λ _. ⊥) → Survives old now (λ _. ⊥)
+nothing_more old held now = survives_then old held now (λ _. ⊥) (λ _. ⊥) (λ _. ⊥) (λ _ _ none. none) (λ _ _ none. none)
 
 pub still : (s : State) → Survives s s (λ _. ⊥)
 still s = record { clean = omega arith; shield = λ h. h; counts = omega arith; limit = refl; closes = λ _ h. inl h; crash = λ _ db h. inl h }
 
 module _ {S T : Type 0} (g : Ghosts S) (takes : T → Saved → T → Type 0) (refuses : T → Saved → SavedFault → T → Type 0) (first : Held S) (start : T) (held now : Held S) (taker : T) (count : ℕ)
-    (k : ℕ) (awaits : Awaits (state g first) k) (kept : Survives (state g first) (state g held) (WhileShut (state g first)))
+    (k : ℕ) (awaits : Awaits (state g first) k) (kept : Survives (state g first) (state g held) (λ _. ⊥))
     (so_far : HasCleanDisk (state g held) → (k : ℕ) → Awaits (state g first) k → Progress g takes first start held taker count)
     (moved : Survives (state g held) (state g now) (λ _. ⊥)) (clean : HasCleanDisk (state g now)) where
   held_clean : HasCleanDisk (state g held)

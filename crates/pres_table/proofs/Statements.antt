@@ -1,9 +1,11 @@
 -- What the statements mean.
-use Rattle.std.proofs.Common.{◌≡◌, ℕ, pos, negsuc, List, [], ◌∷◌, codes, false, None, Ok, refl}
+use Rattle.std.proofs.Common.{◌≡◌, ℕ, pos, negsuc, List, [], ◌∷◌, ◌++◌, codes, false, None, Ok, refl, sym, subst}
 use Rattle.sqlite.specs.declared.types.Value.TheVariants.{Null, Int, Text}
-use Rattle.sqlite.specs.Term.{Term, lit, col, op2}
-use Rattle.sqlite_sql.specs.declared.ops.BinaryOp.TheVariants.{Compare}
-use Rattle.sqlite_sql.specs.declared.ops.CompareOp.TheVariants.{Eq}
+use Rattle.sqlite.specs.Schema.{Schema}
+use Rattle.sqlite.specs.Table.{Table}
+use Rattle.sqlite.specs.Term.{Term, lit, col}
+use Rattle.sqlite_schema.specs.declared.schema.Index.{Index}
+use Rattle.sqlite_schema.specs.declared.schema.View.{View}
 use Rattle.sqlite.specs.Query.{Query, inner, end}
 use Rattle.sqlite.specs.Source.TheVariants.{Values}
 use Rattle.sqlite.specs.Command.TheVariants.{Insert, Select, CreateTable}
@@ -13,7 +15,7 @@ use Rattle.sqlite_tied.specs.Compute.{everything}
 use Rattle.sqlite.specs.Listing.{understood, reads_listing}
 use Rattle.sqlite.proofs.Callers.{IsPlain, command_of, statement_of}
 use Rattle.pres_table.specs.Made.{meta_text, batch_text, set_format_text}
-use Rattle.pres_table.specs.Opened.{format_text}
+use Rattle.pres_table.specs.Kept.{HasOurTables}
 use Rattle.pres_table.specs.Schemas.{meta, batch, no_schema, meta_schema, saved_schema}
 
 abbrev pub insert_text : List ℕ
@@ -46,21 +48,43 @@ pub batch_is : table_defined_by batch_text ≡ Ok batch
 unfolding understood everything
 batch_is = refl
 
-pub insert_is : command_of (understood saved_schema insert_text) ≡ Insert 1 (Values terms 4)
-unfolding understood everything
-insert_is = refl
+-- the tables of the statements, and others beside them
+abbrev beside : List Table → List Index → List View → Schema
+beside others indexes views = record { tables = saved_schema.tables ++ others; indexes = indexes; views = views }
 
-pub select_is : (command_of (understood saved_schema select_text) ≡ Select (record { lets = []; body = query }) (codes "k" ∷ codes "moment" ∷ codes "body" ∷ [])) × (reads_listing saved_schema select_text ≡ false)
+insert_beside : (others : List Table) (indexes : List Index) (views : List View) → command_of (understood (beside others indexes views) insert_text) ≡ Insert 1 (Values terms 4)
 unfolding understood everything
-select_is = (refl, refl)
+insert_beside others indexes views = refl
 
-pub insert_plain : IsPlain (understood saved_schema insert_text)
-unfolding understood everything
-insert_plain = (refl, refl)
+abbrev IsReading : Schema → Type 0
+IsReading schema =
+    (command_of (understood schema select_text) ≡ Select (record { lets = []; body = query }) (codes "k" ∷ codes "moment" ∷ codes "body" ∷ [])) × (reads_listing schema select_text ≡ false)
 
-pub select_plain : IsPlain (understood saved_schema select_text)
+select_beside : (others : List Table) (indexes : List Index) (views : List View) → IsReading (beside others indexes views)
 unfolding understood everything
-select_plain = (refl, refl)
+select_beside others indexes views = (refl, refl)
+
+insert_plain_beside : (others : List Table) (indexes : List Index) (views : List View) → IsPlain (understood (beside others indexes views) insert_text)
+unfolding understood everything
+insert_plain_beside others indexes views = (refl, refl)
+
+select_plain_beside : (others : List Table) (indexes : List Index) (views : List View) → IsPlain (understood (beside others indexes views) select_text)
+unfolding understood everything
+select_plain_beside others indexes views = (refl, refl)
+
+module _ (schema : Schema) (ours : HasOurTables schema) where
+  pub insert_is : command_of (understood schema insert_text) ≡ Insert 1 (Values terms 4)
+  insert_is =
+      subst (λ tables. command_of (understood (record schema { tables = tables }) insert_text) ≡ Insert 1 (Values terms 4)) (sym ours.tables) (insert_beside ours.others schema.indexes schema.views)
+
+  pub select_is : IsReading schema
+  select_is = subst (λ tables. IsReading (record schema { tables = tables })) (sym ours.tables) (select_beside ours.others schema.indexes schema.views)
+
+  pub insert_plain : IsPlain (understood schema insert_text)
+  insert_plain = subst (λ tables. IsPlain (understood (record schema { tables = tables }) insert_text)) (sym ours.tables) (insert_plain_beside ours.others schema.indexes schema.views)
+
+  pub select_plain : IsPlain (understood schema select_text)
+  select_plain = subst (λ tables. IsPlain (understood (record schema { tables = tables }) select_text)) (sym ours.tables) (select_plain_beside ours.others schema.indexes schema.views)
 
 abbrev pub set_format_terms : List Term
 set_format_terms = lit Null ∷ lit (Text (codes "format")) ∷ lit (Int (pos 1)) ∷ []
@@ -88,24 +112,3 @@ batch_plain = (refl, refl)
 pub set_format_plain : IsPlain (understood saved_schema set_format_text)
 unfolding understood everything
 set_format_plain = (refl, refl)
-
-abbrev pub format_query : Query
-format_query = record {
-  from = inner 0 end;
-  filter = op2 (Compare Eq Binary) (col 1 1) (lit (Text (codes "format"))) ∷ [];
-  group = None;
-  project = col 1 2 ∷ [];
-  distinct = false;
-  collations = [];
-  order = [];
-  limit = lit (Int (negsuc 0));
-  offset = lit (Int (pos 0));
-}
-
-pub format_is : (command_of (understood saved_schema format_text) ≡ Select (record { lets = []; body = format_query }) (codes "value" ∷ [])) × (reads_listing saved_schema format_text ≡ false)
-unfolding understood everything
-format_is = (refl, refl)
-
-pub format_plain : IsPlain (understood saved_schema format_text)
-unfolding understood everything
-format_plain = (refl, refl)

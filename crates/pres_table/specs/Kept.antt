@@ -1,8 +1,11 @@
 -- What a table keeps, and what its calls leave.
-use Rattle.std.specs.Prelude.{◌≡◌, ℕ, ◌+◌, false, [], ◌∷◌, ◌++◌, IsTrue, refl}
+use Rattle.std.specs.Prelude.{◌≡◌, ℕ, ◌+◌, false, List, [], ◌∷◌, ◌++◌, IsTrue, refl}
 use Rattle.std.specs.Coded.{Coded, code_by, coded×, coded_ℕ}
 use Rattle.sqlite.specs.Store.{Ghosts}
-use Rattle.sqlite.specs.Tree.{IsTable}
+use Rattle.sqlite.specs.Order.{Row}
+use Rattle.sqlite.specs.Tree.{IsTable, Trees}
+use Rattle.sqlite.specs.Schema.{Schema}
+use Rattle.sqlite.specs.Table.{Table}
 use Rattle.sqlite.specs.State.{State, HasCleanDisk}
 use Rattle.sqlite.specs.Held.{Held, held_code, state}
 use Rattle.pres_table.specs.Schemas.{saved_schema}
@@ -17,9 +20,15 @@ abbrev pub kept_code : {S : Type 0} → Coded S → Coded (Kept S)
 kept_code {S} store =
     code_by (Held S × ℕ) (coded× (held_code store) coded_ℕ) (λ t. (t.connection, t.last)) (λ p. record { connection = p.0; last = p.1 }) (λ _. refl)
 
--- the tables are those of the statements, and the rows rise by their numbers as in each table
+-- The tables of our names are those of the statements. They come first, since they are made where there is no other, and
+-- whatever tables, indexes and views stand beside them.
+pub record HasOurTables (schema : Schema) : Type 0 where
+  pub others : List Table
+  pub tables : schema.tables ≡ saved_schema.tables ++ others
+
+-- the tables are ours, and the rows rise by their numbers as in each table
 pub record IsOurs (s : State) : Type 0 where
-  pub schema : s.now.schema ≡ saved_schema
+  pub schema : HasOurTables s.now.schema
   pub rising : IsTable (rows_in s)
 
 -- the tables are ours, and this number comes after those of all rows
@@ -58,3 +67,13 @@ pub record IsSame (old new : State) : Type 0 where
 pub record IsLeft (old new : State) : Type 0 where
   pub mode : new.in_transaction ≡ false
   pub same : IsTrue new.is_open → IsSame old new
+
+-- ---- what a crash leaves
+
+-- what a crash leaves is the database as it is shown
+abbrev pub Lasts : State → Type 0
+Lasts s = (db : Trees) → s.may_leave db → db ≡ s.now.trees
+
+-- whatever a crash leaves begins with these rows
+abbrev pub Outlasts : List Row → State → Type 0
+Outlasts rows s = (db : Trees) → s.may_leave db → (more : List Row) × (db 2 ≡ rows ++ more)

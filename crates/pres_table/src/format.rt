@@ -5,7 +5,7 @@ ghost use Rattle.std.specs.declared.cmp.Ordering.TheVariants.{Less};
 ghost use Rattle.sqlite.specs.declared.types.Value.TheVariants.{Int};
 ghost use Rattle.sqlite.specs.Order.{column, value_cmp};
 ghost use Rattle.sqlite.specs.Held.{state};
-ghost use Rattle.sqlite.specs.State.{HasCleanDisk, IsUnchanged};
+ghost use Rattle.sqlite.specs.State.{HasCleanDisk, IsUnchanged, Survives};
 ghost use Rattle.sqlite.specs.View.{doubt};
 ghost use Rattle.pres_table.specs.Kept.{IsOurs, IsLeft};
 ghost use Rattle.pres_table.specs.Opened.{format_fault, HasFormat, LacksFormat, IsFound, greatest_in};
@@ -34,15 +34,15 @@ fn check_format<S: Alter>(connection: &mut Connection<S>) -> Result<(), SavedFau
         → IfErr result
         (LacksFormat (state S.Store connection.old) (state S.Store connection.new)) }
     ensures same { HasCleanDisk (state S.Store connection.new)
-        → IsOurs (state S.Store connection.old)
         → OnOk result
         (IsUnchanged (state S.Store connection.old) (state S.Store connection.new)) }
     ensures left { HasCleanDisk (state S.Store connection.new)
-        → IsOurs (state S.Store connection.old)
         → connection.old.in_transaction ≡ false
         → IsLeft (state S.Store connection.old) (state S.Store connection.new) }
     ensures mode { connection.old.in_transaction ≡ false
         → connection.new.in_transaction ≡ false }
+    ensures crash { Survives (state S.Store connection.old) (state S.Store connection.new)
+        (λ _. ⊥) }
     ensures clean { doubt (state S.Store connection.old).is_clean
         ≤ doubt (state S.Store connection.new).is_clean }
 {
@@ -85,15 +85,15 @@ fn last_number<S: Alter>(connection: &mut Connection<S>) -> Result<u64, SavedFau
     ensures bound { IfOk result (λ n. n < 2 ^ 63) }
     ensures named { IfErr result (λ e. (e ≡ SavedFault.Memory) ⊎ (e ≡ SavedFault.Database)) }
     ensures same { HasCleanDisk (state S.Store connection.new)
-        → IsOurs (state S.Store connection.old)
         → OnOk result
         (IsUnchanged (state S.Store connection.old) (state S.Store connection.new)) }
     ensures left { HasCleanDisk (state S.Store connection.new)
-        → IsOurs (state S.Store connection.old)
         → connection.old.in_transaction ≡ false
         → IsLeft (state S.Store connection.old) (state S.Store connection.new) }
     ensures mode { connection.old.in_transaction ≡ false
         → connection.new.in_transaction ≡ false }
+    ensures crash { Survives (state S.Store connection.old) (state S.Store connection.new)
+        (λ _. ⊥) }
     ensures clean { doubt (state S.Store connection.old).is_clean
         ≤ doubt (state S.Store connection.new).is_clean }
 {
@@ -124,10 +124,14 @@ pub(crate) fn find<S: Alter>(connection: &mut Connection<S>) -> Result<u64, Save
         → IfErr result (λ e.
         ((mid : _) × LacksFormat (state S.Store connection.old) (state S.Store mid) e)
         ⊎ ((e ≡ SavedFault.Memory) ⊎ (e ≡ SavedFault.Database))) }
+    ensures same { HasCleanDisk (state S.Store connection.new)
+        → OnOk result
+        (IsUnchanged (state S.Store connection.old) (state S.Store connection.new)) }
     ensures left { HasCleanDisk (state S.Store connection.new)
-        → IsOurs (state S.Store connection.old)
         → connection.old.in_transaction ≡ false
         → IsLeft (state S.Store connection.old) (state S.Store connection.new) }
+    ensures crash { Survives (state S.Store connection.old) (state S.Store connection.new)
+        (λ _. ⊥) }
     ensures clean { doubt (state S.Store connection.old).is_clean
         ≤ doubt (state S.Store connection.new).is_clean }
 {

@@ -3,7 +3,7 @@
 ghost use Rattle.std.specs.Prelude.{◌≡◌, ◌⊎◌, ◌<◌, ◌^◌, ◌++◌, ◌∷◌, [], IsTrue, IfErr, OnOk, OnErr};
 ghost use Rattle.sqlite.specs.Held.{state};
 ghost use Rattle.sqlite.specs.State.{HasCleanDisk, Survives};
-ghost use Rattle.pres_table.specs.Kept.{Awaits, AddsRow, IsLeft};
+ghost use Rattle.pres_table.specs.Kept.{Awaits, AddsRow, IsLeft, Lasts, Outlasts};
 ghost use Rattle.pres_table.specs.Saved.{stored, rows_in};
 
 use crate::fault::SavedFault;
@@ -30,15 +30,24 @@ pub(crate) fn insert<S: Alter>(
     ensures crash { Awaits (state S.Store connection.old) number
         → Survives (state S.Store connection.old) (state S.Store connection.new)
         (λ db. IsTrue (state S.Store connection.old).is_open
-        → db 2 ≡ rows_in (state S.Store connection.old)
-        ++ stored number (record { moment = moment; body = body.now }) ∷ []) }
+        × (db 2 ≡ rows_in (state S.Store connection.old)
+        ++ stored number (record { moment = moment; body = body.now }) ∷ [])) }
+    ensures durable { HasCleanDisk (state S.Store connection.new)
+        → Awaits (state S.Store connection.old) number
+        → OnOk result (Lasts (state S.Store connection.new)) }
+    ensures outlasts { HasCleanDisk (state S.Store connection.new)
+        → Awaits (state S.Store connection.old) number
+        → (rows : _) → Outlasts rows (state S.Store connection.old)
+        → Outlasts rows (state S.Store connection.new) }
 {
     // it ensures that what is shown was committed, where no transaction is open
     let _alone = connection.is_autocommit();
     let text = body.as_bytes();
     let millis = moment.millis();
-    connection.execute(
-        "INSERT INTO batch(k, moment, body) VALUES(?1, ?2, ?3)",
+    // It is refused where the store is shut, and then nothing is written.
+    let statement = connection.prepare("INSERT INTO batch(k, moment, body) VALUES(?1, ?2, ?3)")?;
+    statement.execute(
+        connection,
         &[
             ValueRef::Int(number as i64),
             ValueRef::Int(millis as i64),

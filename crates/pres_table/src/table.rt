@@ -5,7 +5,7 @@ ghost use Rattle.sqlite.specs.Held.{state};
 ghost use Rattle.sqlite.specs.State.{HasCleanDisk, IsUnchanged, Survives};
 ghost use Rattle.sqlite.specs.View.{doubt};
 ghost use Rattle.pres_ids.specs.Numbers.{greatest_number};
-ghost use Rattle.pres_table.specs.Kept.{IsOurs, Serves, AddsRow, IsLeft};
+ghost use Rattle.pres_table.specs.Kept.{IsOurs, Serves, AddsRow, IsSame, IsLeft, Lasts, Outlasts};
 ghost use Rattle.pres_table.specs.Opened.{HasFormat, LacksFormat, IsFound};
 ghost use Rattle.pres_table.specs.Made.{IsMade, HoldsFormat, Makes, FailsToMake, making_fault};
 ghost use Rattle.pres_table.specs.Schemas.{no_schema};
@@ -88,7 +88,8 @@ impl<S: Alter + Drop> Table<S> {
     }
 
     /// Finds the tables that `create` made. NotOurs where the statement that asks for the format
-    /// isn't understood or has no answer, Version where it answers another format than 1.
+    /// isn't understood or has no answer, Version where it answers another format than 1. Whatever
+    /// the database holds stays as it was, another program's tables too.
     pub fn open(connection: Connection<S>) -> Result<Table<S>, (SavedFault, Connection<S>)>
         requires { connection.in_transaction ≡ false }
         ensures format { IfOk result (λ t. HasCleanDisk (state S.Store t.connection)
@@ -103,9 +104,13 @@ impl<S: Alter + Drop> Table<S> {
         ensures err { IfErr result (λ e. HasCleanDisk (state S.Store e.1)
             → ((mid : _) × LacksFormat (state S.Store connection) (state S.Store mid) e.0)
             ⊎ ((e.0 ≡ SavedFault.Memory) ⊎ (e.0 ≡ SavedFault.Database))) }
+        ensures same { IfOk result (λ t. HasCleanDisk (state S.Store t.connection)
+            → IsSame (state S.Store connection) (state S.Store t.connection)) }
         ensures left { IfErr result (λ e. HasCleanDisk (state S.Store e.1)
-            → IsOurs (state S.Store connection)
             → IsLeft (state S.Store connection) (state S.Store e.1)) }
+        ensures crash { MatchResult result
+            (λ t. Survives (state S.Store connection) (state S.Store t.connection) (λ _. ⊥))
+            (λ e. Survives (state S.Store connection) (state S.Store e.1) (λ _. ⊥)) }
     {
         let mut connection = connection;
         match find(&mut connection) {
@@ -114,8 +119,9 @@ impl<S: Alter + Drop> Table<S> {
         }
     }
 
-    /// Adds a row, numbered one more than the last, and commits it. Database where the last number
-    /// is 2^53 - 1.
+    /// Adds a row, numbered one more than the last, and commits it: once that is answered, whatever
+    /// a crash leaves has it, also a crash in a later call. Database where the last number is
+    /// 2^53 - 1.
     pub fn append(&mut self, moment: Moment, body: &str) -> Result<(), SavedFault>
         ensures ok { HasCleanDisk (state S.Store self.new.connection) → Serves S.Store self.old
             → OnOk result (AddsRow (state S.Store self.old.connection)
@@ -140,9 +146,16 @@ impl<S: Alter + Drop> Table<S> {
         ensures crash { Serves S.Store self.old
             → Survives (state S.Store self.old.connection) (state S.Store self.new.connection)
             (λ db. IsTrue (state S.Store self.old.connection).is_open
-            → db 2 ≡ rows_in (state S.Store self.old.connection)
+            × (db 2 ≡ rows_in (state S.Store self.old.connection)
             ++ stored (self.old.last + 1)
-            (record { moment = moment; body = body.now }) ∷ []) }
+            (record { moment = moment; body = body.now }) ∷ [])) }
+        ensures durable { HasCleanDisk (state S.Store self.new.connection)
+            → Serves S.Store self.old
+            → OnOk result (Lasts (state S.Store self.new.connection)) }
+        ensures outlasts { HasCleanDisk (state S.Store self.new.connection)
+            → Serves S.Store self.old
+            → (rows : _) → Outlasts rows (state S.Store self.old.connection)
+            → Outlasts rows (state S.Store self.new.connection) }
         ensures serves { Serves S.Store self.old → Serves S.Store self.new }
     {
         if self.last >= MAX_SAFE_INTEGER {
@@ -170,9 +183,8 @@ impl<S: Alter + Drop> Table<S> {
             → (IsTrue (state S.Store self.old.connection).is_open → ⊥)
             → is_ok result ≡ false }
         ensures last { self.new.last ≡ self.old.last }
-        ensures crash { Serves S.Store self.old
-            → Survives (state S.Store self.old.connection) (state S.Store self.new.connection)
-            (λ _. IsTrue (state S.Store self.old.connection).is_open → ⊥) }
+        ensures crash { Survives (state S.Store self.old.connection)
+            (state S.Store self.new.connection) (λ _. ⊥) }
         ensures serves { Serves S.Store self.old → Serves S.Store self.new }
     {
         go_over(alloc, &mut self.connection, taker)
@@ -197,9 +209,8 @@ impl<S: Alter + Drop> Table<S> {
             → (IsTrue (state S.Store self.old.connection).is_open → ⊥)
             → is_ok result ≡ false }
         ensures last { self.new.last ≡ self.old.last }
-        ensures crash { Serves S.Store self.old
-            → Survives (state S.Store self.old.connection) (state S.Store self.new.connection)
-            (λ _. IsTrue (state S.Store self.old.connection).is_open → ⊥) }
+        ensures crash { Survives (state S.Store self.old.connection)
+            (state S.Store self.new.connection) (λ _. ⊥) }
         ensures serves { Serves S.Store self.old → Serves S.Store self.new }
     {
         let mut all = Collector {

@@ -1,6 +1,6 @@
 //! Going over the saved rows, one at a time.
 
-ghost use Rattle.std.specs.Prelude.{◌≡◌, ◌++◌, ◌∷◌, [], map, IfErr, OnOk, IsTrue};
+ghost use Rattle.std.specs.Prelude.{◌≡◌, ◌++◌, ◌∷◌, [], map, IfErr, OnOk};
 ghost use Rattle.sqlite.specs.Held.{state};
 ghost use Rattle.sqlite.specs.State.{HasCleanDisk, IsUnchanged, Survives};
 ghost use Rattle.pres_table.specs.Kept.{Awaits, IsLeft};
@@ -44,9 +44,8 @@ pub(crate) fn go_over<S: Alter, T: Take>(
         → (k : _) → Awaits (state S.Store connection.old) k
         → OnOk result
         (IsUnchanged (state S.Store connection.old) (state S.Store connection.new)) }
-    ensures crash { (k : _) → Awaits (state S.Store connection.old) k
-        → Survives (state S.Store connection.old) (state S.Store connection.new)
-        (λ _. IsTrue (state S.Store connection.old).is_open → ⊥) }
+    ensures crash { Survives (state S.Store connection.old) (state S.Store connection.new)
+        (λ _. ⊥) }
 {
     // it ensures that what is shown was committed, where no transaction is open
     let _alone = connection.is_autocommit();

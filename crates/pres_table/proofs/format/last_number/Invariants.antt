@@ -1,5 +1,5 @@
 use Rattle.std.proofs.Common.{◌≡◌, ◌<◌, ◌≤◌, ◌^◌, false}
-use Rattle.sqlite.specs.State.{HasCleanDisk}
+use Rattle.sqlite.specs.State.{HasCleanDisk, IsUnchanged, Survives}
 use Rattle.sqlite.specs.View.{doubt}
 use Rattle.sqlite.specs.Held.{state}
 use Rattle.pres_table.specs.Kept.{IsOurs}
@@ -14,4 +14,6 @@ invariant-rows g l =
     × (doubt old.is_clean ≤ doubt now.is_clean)
     × (l.fn.connection.in_transaction ≡ false → l.rows.conn.now.in_transaction ≡ false)
     × (l.last < 2 ^ 63)
+    × Survives old now (λ _. ⊥)
+    × (HasCleanDisk now → IsUnchanged old now)
     × (HasCleanDisk now → IsOurs old → Counting g.S.Store l.fn.connection l.rows.conn.now l.last)

@@ -1,4 +1,4 @@
-use Rattle.std.proofs.Common.{◌≡◌, ℕ, IsTrue}
+use Rattle.std.proofs.Common.{◌≡◌, ℕ}
 use Rattle.sqlite.specs.State.{HasCleanDisk, Survives}
 use Rattle.sqlite.specs.Held.{state}
 use Rattle.pres_table.specs.Kept.{Awaits}
@@ -10,5 +10,5 @@ invariant-rows g l =
     let old = state g.S.Store l.fn.connection in
     let now = state g.S.Store l.rows.conn.now in
     (l.rows.conn.ghost_name ≡ l.initial.rows.conn.ghost_name)
-    × ((k : ℕ) → Awaits old k → Survives old now (λ _. IsTrue old.is_open → ⊥))
+    × Survives old now (λ _. ⊥)
     × (HasCleanDisk now → (k : ℕ) → Awaits old k → Progress g.S.Store g.T.Take.takes l.fn.connection l.fn.taker l.rows.conn.now l.taker l.before)

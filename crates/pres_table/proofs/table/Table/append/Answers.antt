@@ -22,3 +22,12 @@ returns-clause-saved g c =
     let b : Saved = record { moment = c.args.moment; body = c.args.body.now } in
     rw (← c.self.view_is) (λ clean serves before holds count.
     saved_more old new c.self.inside.last b c.millis.ensures.bound c.utf8.body (c.in_ok-insert.ensures.ok clean serves) before holds count)
+
+pub returns-clause-durable : goal.returns-clause-durable
+returns-clause-durable g c = rw (← c.self.view_is) (λ clean serves. c.in_ok-insert.ensures.durable clean serves)
+
+pub returns-clause-outlasts : goal.returns-clause-outlasts
+returns-clause-outlasts g c = rw (← c.self.view_is) (λ clean serves rows last. c.insert.ensures.outlasts clean serves rows last)
+
+pub returns-in_err-insert-clause-outlasts : goal.returns-in_err-insert-clause-outlasts
+returns-in_err-insert-clause-outlasts g c = rw (← c.self.view_is) (λ clean serves rows last. c.insert.ensures.outlasts clean serves rows last)

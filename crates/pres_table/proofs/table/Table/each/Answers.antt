@@ -12,7 +12,7 @@ pub returns-clause-left : goal.returns-clause-left
 returns-clause-left g c = rw (← c.self.view_is) (λ clean serves. c.go_over.ensures.left clean (c.self.inside.last + 1) serves)
 
 pub returns-clause-crash : goal.returns-clause-crash
-returns-clause-crash g c = rw (← c.self.view_is) (λ serves. c.go_over.ensures.crash (c.self.inside.last + 1) serves)
+returns-clause-crash g c = rw (← c.self.view_is) c.go_over.ensures.crash
 
 pub returns-clause-serves : goal.returns-clause-serves
 returns-clause-serves g c =
@@ -20,7 +20,7 @@ returns-clause-serves g c =
     let new = state g.S.Store c.go_over.new.connection in
     let k = c.self.inside.last + 1 in
     rw (← c.self.view_is) (λ serves clean.
-    let early : HasCleanDisk old = omega (arith, (c.go_over.ensures.crash k serves).clean, clean) in
+    let early : HasCleanDisk old = omega (arith, c.go_over.ensures.crash.clean, clean) in
     awaits_left old new k (serves early) (c.go_over.ensures.left clean k serves))
 
 pub returns-clause-same : goal.returns-clause-same

@@ -10,3 +10,14 @@ returns-in-Ok-clause-serves g c = grind (arith, common_steps)
 
 pub returns-in-Ok-clause-found : goal.returns-in-Ok-clause-found
 returns-in-Ok-clause-found g c = grind (arith, common_steps)
+
+pub returns-in-Ok-clause-same : goal.returns-in-Ok-clause-same
+returns-in-Ok-clause-same g c = λ clean.
+    let same = (c.in-Ok.ensures.same clean).0 in
+    record { was_open = same.was_open; now = same.now_is; committed = same.committed_is }
+
+pub returns-in-Ok-clause-crash : goal.returns-in-Ok-clause-crash
+returns-in-Ok-clause-crash g c = c.find.ensures.crash
+
+pub returns-in-Err-clause-crash : goal.returns-in-Err-clause-crash
+returns-in-Err-clause-crash g c = c.find.ensures.crash
