@@ -7,6 +7,7 @@ use Rattle.pres_server.specs.declared.input.Input.{Input}
 use Rattle.pres_server.specs.Heard.{State}
 use Rattle.pres_server.specs.Streams.{answers}
 use Rattle.pres_server.specs.Turns.{Decision, refused, quiet, makes, turn, moment_of, batch_of, state_after, state_heard, IsRefusal, is_made}
+use Rattle.pres_keeper.specs.Keepers.{IsOfStore}
 use Rattle.pres_engine.specs.declared.fault.EngineFault.{EngineFault}
 use Rattle.pres_engine.specs.declared.fault.EngineFault.TheVariants as why
 
@@ -26,11 +27,12 @@ abbrev pub IsRefused : Option State → Input → ℕ → (Decision → Type 0) 
 IsRefused None input now why = ⊥
 IsRefused (Some s) input now why = why (turn s input now)
 
--- A turn isn't done: a refused one leaves the server as it was, and after want of memory behind the commit there is none.
+-- A turn isn't done: a refused one leaves the server as it was, and after want of memory behind the commit there is none. A batch
+-- isn't kept where memory or the database refuses.
 abbrev pub IsNotTurned : Option State → Input → ℕ → Option State → EngineFault → Type 0
 IsNotTurned old input now new (why.Refused f) = (new ≡ old) × IsRefused old input now (λ d. d ≡ refused f)
 IsNotTurned old input now new why.Memory = (new ≡ old) × IsRefused old input now (λ d. IsRefusal d OutOfMemory)
-IsNotTurned old input now new (why.Keeper f) = (new ≡ old) × IsRefused old input now (λ d. is_made d ≡ true)
+IsNotTurned old input now new (why.Keeper f) = (new ≡ old) × IsRefused old input now (λ d. is_made d ≡ true) × IsOfStore f
 IsNotTurned old input now new why.Down = (new ≡ None) × ((old ≡ None) ⊎ IsRefused old input now (λ d. is_made d ≡ true))
 
 -- what the turn makes is kept behind the log
@@ -45,6 +47,6 @@ KeepsGone keeps _ input now _ = Unit {0}
 
 -- a turn that isn't done, of the server that waited
 abbrev pub IsUndone : State → Option State → EngineFault → Type 0
-IsUndone s new (why.Keeper f) = new ≡ Some s
+IsUndone s new (why.Keeper f) = (new ≡ Some s) × IsOfStore f
 IsUndone s new why.Down = new ≡ None
 IsUndone s new e = ⊥

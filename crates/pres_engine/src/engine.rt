@@ -47,15 +47,18 @@ impl<K: Keeper + Drop> Drop for Engine<K> {
 }
 
 impl<K: Keeper + Drop> Engine<K> {
-    /// The server that the keeper's batches make. Refused as the keeper refuses it.
+    /// The server that the keeper's batches make. Refused as the keeper refuses it: `Keeper` with
+    /// Memory, Database, or `BadRow` with the number of the first row that is no batch, or none that
+    /// may follow those before it.
     pub fn open(mut keeper: K) -> Result<Engine<K>, (EngineFault, K)>
         requires ready { K.ready keeper }
         ensures made { IfOk result (λ e. Runs (λ s. s ≡ made_from s.log) e.server) }
         ensures runs { IfOk result (λ e. is_some e.server ≡ true) }
         ensures exact { IfOk result (λ e. (log : Log) → K.works e.keeper → K.keeps keeper log
             → Runs (λ s. s.log ≡ log) e.server) }
-        ensures refused { IfErr result (λ e. (log : Log) → K.works e.1 → K.keeps keeper log
-            → (f : _) × (e.0 ≡ Unkept f) × IsNoServer log f) }
+        ensures refused { IfErr result (λ e. (f : _) × (e.0 ≡ Unkept f)
+            × (K.works e.1 → IsNoServer (K.readable keeper) f)) }
+        ensures same { IfErr result (λ e. K.works e.1 → K.readable e.1 ≡ K.readable keeper) }
         ensures left { IfErr result (λ e. (log : Log) → K.works e.1 → K.keeps keeper log
             → K.keeps e.1 log) }
         ensures ready { IfErr result (λ e. K.ready e.1) }

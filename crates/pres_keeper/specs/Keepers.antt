@@ -1,5 +1,5 @@
 -- What is kept of a server, and why no server is made of it.
-use Rattle.std.specs.Prelude.{◌≡◌, ◌⊎◌, List, map}
+use Rattle.std.specs.Prelude.{◌≡◌, ◌⊎◌, ℕ, ◌+◌, Bool, true, false, List, length, map}
 use Rattle.pres_log.specs.declared.entry.Entry.{Entry}
 use Rattle.pres_log.specs.Logs.{Log}
 use Rattle.pres_body.specs.Reads.{with_one_null}
@@ -7,6 +7,7 @@ use Rattle.pres_table.specs.declared.fault.SavedFault.{SavedFault}
 use Rattle.pres_table.specs.declared.fault.SavedFault.TheVariants.{Memory, Database, BadRow}
 use Rattle.pres_server.specs.declared.replay.ReplayFault.{ReplayFault}
 use Rattle.pres_server.specs.declared.replay.ReplayFault.TheVariants.{Memory as OutOfMemory, NotLegal}
+use Rattle.pres_server.specs.LegalLog.{IsLegal}
 use Rattle.pres_server.specs.Replays.{IsFirstIllegal}
 
 -- no value is held as null and not as none; so it is with what a turn makes
@@ -22,8 +23,29 @@ bad_batch (NotLegal k) = BadRow k
 abbrev pub IsOfStore : SavedFault → Type 0
 IsOfStore e = (e ≡ Memory) ⊎ (e ≡ Database)
 
--- why no server is made of a log: the batch with that number is the first that may not follow, or memory or the
--- database refused
-abbrev pub IsNoServer : Log → SavedFault → Type 0
-IsNoServer log (BadRow k) = IsFirstIllegal log k
-IsNoServer log e = IsOfStore e
+-- what can be read of what is held: the batches before the first row that is none, and whether there is no such row
+pub record Readable : Type 0 where
+  pub batches : Log
+  pub is_all : Bool
+
+-- a log that is read to its end
+abbrev pub whole : Log → Readable
+whole log = record { batches = log; is_all = true }
+
+-- row k is the first that is no batch
+abbrev pub IsFirstUnread : Readable → ℕ → Type 0
+IsFirstUnread held k = (held.is_all ≡ false) × (k ≡ length held.batches + 1)
+
+-- row k is the first that is no batch, or none that may follow those before it
+abbrev pub IsFirstBad : Readable → ℕ → Type 0
+IsFirstBad held k = IsFirstIllegal held.batches k ⊎ (IsLegal held.batches × IsFirstUnread held k)
+
+-- why the batches aren't read: that row is the first that is none, or memory or the database refused
+abbrev pub IsUnread : Readable → SavedFault → Type 0
+IsUnread held (BadRow k) = IsFirstUnread held k
+IsUnread held e = IsOfStore e
+
+-- why no server is made: that row is the first bad one, or memory or the database refused
+abbrev pub IsNoServer : Readable → SavedFault → Type 0
+IsNoServer held (BadRow k) = IsFirstBad held k
+IsNoServer held e = IsOfStore e

@@ -3,12 +3,13 @@ use Rattle.std.specs.Prelude.{◌≡◌, [], ◌∷◌, ◌++◌}
 use Rattle.pres_log.specs.Logs.{Log}
 use Rattle.pres_server.specs.Heard.{State, Pending}
 use Rattle.pres_server.specs.Turns.{batch_of}
+use Rattle.pres_keeper.specs.Keepers.{IsOfStore}
 use Rattle.pres_keeper.specs.declared.settlement.Unsettled.{Unsettled}
 use Rattle.pres_keeper.specs.declared.settlement.Unsettled.TheVariants.{Refused, Reopen}
 
--- a refused batch leaves the server as it was
+-- a batch that memory or the database refused leaves the server as it was
 abbrev pub IsUndone : State → Unsettled → Type 0
-IsUndone before (Refused e server) = server ≡ before
+IsUndone before (Refused e server) = (server ≡ before) × IsOfStore e
 IsUndone before Reopen = Unit {0}
 
 -- the log with the turn's batch

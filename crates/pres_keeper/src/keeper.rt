@@ -4,7 +4,7 @@ ghost use Rattle.std.specs.Prelude.{◌≡◌, ◌+◌, ◌++◌, ◌∷◌, [],
 ghost use Rattle.pres_log.specs.declared.entry.Batch.{Batch as Logged};
 ghost use Rattle.pres_log.specs.Logs.{Log, number};
 ghost use Rattle.pres_server.specs.Replays.{made_from};
-ghost use Rattle.pres_keeper.specs.Keepers.{HasOneNull, IsNoServer, bad_batch};
+ghost use Rattle.pres_keeper.specs.Keepers.{Readable, whole, HasOneNull, IsOfStore, IsUnread, IsNoServer, bad_batch};
 
 use pres_ids::Count;
 use pres_log::Batch;
@@ -30,8 +30,14 @@ pub trait Keeper {
     // What its store gave back is what was written, and the store is open.
     ghost works: { Self → Type 0 };
 
+    // What can be read of what it holds, a log or not.
+    ghost readable: { Self → Readable };
+
     // It holds exactly the batches of this log.
     ghost keeps: { Self → Log → Type 0 };
+
+    // The batch was added to its store, in the form in which the store saves it.
+    ghost stores: { Self → Logged → Self → Type 0 };
 
     // Its store was shut when a call began, and gave back what was written until the call ended.
     ghost shut: { Self → Self → Type 0 };
@@ -39,9 +45,9 @@ pub trait Keeper {
     // What a crash may leave in the middle of the commit of a batch behind this log.
     ghost leaves: { Self → Log → Logged → Self → Type 0 };
 
-    /// Adds the batch, for good. A refusal leaves the batches as they were, as long as the store
-    /// works; after a crash they are found without the batch or with it. A store that was shut
-    /// refuses everything.
+    /// Adds the batch, for good. Memory or Database: a refusal leaves the batches as they were, as
+    /// long as the store works; after a crash they are found without the batch or with it. A store
+    /// that was shut refuses everything.
     fn commit(&mut self, batch: &Batch) -> Result<(), SavedFault>
         ensures ready { ready self.old → ready self.new }
         ensures worked { ready self.old → works self.new → works self.old }
@@ -49,13 +55,16 @@ pub trait Keeper {
         ensures ok { (log : Log) → ready self.old → works self.new → keeps self.old log
             → batch.now.first ≡ number log + 1 → HasOneNull batch.now.entries
             → OnOk result (keeps self.new (log ++ batch.now ∷ [])) }
+        ensures stored { ready self.old → works self.new
+            → OnOk result (stores self.old batch.now self.new) }
         ensures err { (log : Log) → ready self.old → works self.new → keeps self.old log
             → OnErr result (keeps self.new log) }
+        ensures fault { IfErr result IsOfStore }
         ensures crash { (log : Log) → ready self.old → keeps self.old log
             → batch.now.first ≡ number log + 1 → HasOneNull batch.now.entries
             → leaves self.old log batch.now self.new };
 
-    /// The batches in their order.
+    /// The batches in their order, or `BadRow` with the number of the first row that is none.
     fn batches(&mut self) -> Result<Vec<Batch>, SavedFault>
         ensures ready { ready self.old → ready self.new }
         ensures worked { ready self.old → works self.new → works self.old }
@@ -64,12 +73,16 @@ pub trait Keeper {
             → IfOk result (λ batches. keeps self.new batches.items) }
         ensures exact { (log : Log) → ready self.old → works self.new → keeps self.old log
             → IfOk result (λ batches. batches.items ≡ log) }
+        ensures refused { ready self.old → works self.new
+            → IfErr result (IsUnread (readable self.old)) }
+        ensures same { ready self.old → works self.new
+            → readable self.new ≡ readable self.old }
         ensures stays { (log : Log) → ready self.old → works self.new
             → keeps self.old log → keeps self.new log };
 
     /// The server that its batches make, where they are a legal log, with each open session heard
-    /// of at the log's greatest moment. `BadRow` with the number of the first batch that may not
-    /// follow.
+    /// of at the log's greatest moment. `BadRow` with the number of the first row that is no batch,
+    /// or none that may follow those before it.
     fn server(&mut self) -> Result<Server, SavedFault>
         ensures ready { ready self.old → ready self.new }
         ensures worked { ready self.old → works self.new → works self.old }
@@ -79,8 +92,14 @@ pub trait Keeper {
             → IfOk result (λ server. keeps self.new server.log) }
         ensures exact { (log : Log) → ready self.old → works self.new → keeps self.old log
             → IfOk result (λ server. server.log ≡ log) }
-        ensures refused { (log : Log) → ready self.old → works self.new → keeps self.old log
-            → IfErr result (IsNoServer log) }
+        ensures refused { ready self.old → works self.new
+            → IfErr result (IsNoServer (readable self.old)) }
+        ensures same { ready self.old → works self.new
+            → readable self.new ≡ readable self.old }
         ensures stays { (log : Log) → ready self.old → works self.new
             → keeps self.old log → keeps self.new log };
+
+    // The batches of a log are read to the end.
+    ghost kept_is_read: { (kept : Self) (log : Log) → keeps kept log
+        → readable kept ≡ whole log };
 }

@@ -37,9 +37,14 @@ impl MemKeeper {
 }
 
 impl Keeper for MemKeeper {
-    ghost use Rattle.std.specs.Prelude.{◌≡◌, ⊤};
+    ghost use Rattle.std.specs.Prelude.{◌≡◌, ◌++◌, ◌∷◌, [], ⊤, ap};
+    ghost use Rattle.pres_keeper.specs.Keepers.{whole};
+
+    ghost readable = { λ kept. whole kept };
 
     ghost keeps = { λ kept log. kept ≡ log };
+
+    ghost stores = { λ old batch new. new ≡ old ++ batch ∷ [] };
 
     ghost ready = { λ _. ⊤ };
 
@@ -48,6 +53,8 @@ impl Keeper for MemKeeper {
     ghost shut = { λ _ _. ⊥ };
 
     ghost leaves = { λ _ _ _ _. ⊤ };
+
+    ghost kept_is_read = { λ kept log keeps. ap whole keeps };
 
     fn commit(&mut self, batch: &Batch) -> Result<(), SavedFault> {
         self.batches.push(batch.copy(self.alloc)?)?;

@@ -13,7 +13,8 @@ use pres_table::SavedFault;
 /// Why a turn isn't done.
 #[derive(Drop)]
 pub enum Unsettled {
-    /// The keeper refused its batch: nothing is changed, and this is the server as it was.
+    /// The keeper refused its batch, as Memory or Database: nothing is changed, and this is the
+    /// server as it was.
     Refused(SavedFault, Server),
     /// It is kept, but for want of memory the server is gone. It has to be made again from what
     /// the keeper holds.
