@@ -37,7 +37,8 @@ impl MemKeeper {
 }
 
 impl Keeper for MemKeeper {
-    ghost use Rattle.std.specs.Prelude.{◌≡◌, ◌++◌, ◌∷◌, [], ⊤, ap};
+    ghost use Rattle.std.specs.Prelude.{◌≡◌, ◌++◌, ◌∷◌, [], ⊤};
+    ghost use Rattle.std.proofs.Common.{ap};
     ghost use Rattle.pres_keeper.specs.Keepers.{whole};
 
     ghost readable = { λ kept. whole kept };
