@@ -16,6 +16,8 @@ use Rattle.pres_log.specs.declared.entry.Batch.{Batch}
 use Rattle.pres_log.specs.declared.entry.Entry.{Entry}
 use Rattle.pres_log.specs.Batches.{may_hold}
 use Rattle.pres_log.specs.Logs.{Log, number}
+use Rattle.serde_json.specs.Written.{compact_text}
+use Rattle.pres_body.specs.Entries.{entries_json}
 use Rattle.pres_body.specs.Reads.{entries_in, with_one_null}
 use Rattle.pres_table.specs.declared.fault.SavedFault.{SavedFault}
 use Rattle.pres_table.specs.Saved.{Saved, stored, rows_in, shown_row, shown_rows}
@@ -25,8 +27,14 @@ use Rattle.pres_table.proofs.Finding.{greatest_push}
 use Rattle.pres_table.proofs.Growing.{map_push}
 use Rattle.pres_keeper.specs.Keepers.{HasOneNull}
 use Rattle.pres_saved.specs.Saved.{batch_of, batch_in, saved_log}
-use Rattle.pres_saved.specs.Keeps.{Works, IsReady, KeepsLog, LeavesLog}
+use Rattle.pres_saved.specs.Keeps.{Works, IsReady, KeepsLog, LeavesLog, saved_batch}
 use Rattle.pres_saved.proofs.Reading.{kept_next, kept_more, kept_count}
+
+pub saves : (b : Batch) (s : Saved) → s.moment ≡ b.moment → s.body ≡ compact_text (entries_json b.entries) → s ≡ saved_batch b
+saves b s moment body = ap (λ m. saved m s.body) moment ∙ ap (saved b.moment) body
+  where
+    saved : ℕ → List ℕ → Saved
+    saved m text = record { moment = m; body = text }
 
 in_range : (n : ℕ) → n ≤ greatest_number → nat_le n greatest_number ≡ true
 in_range n h = grind (arith, nat_tests)

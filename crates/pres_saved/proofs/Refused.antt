@@ -1,25 +1,50 @@
 -- Why rows are refused, by what going over them came to.
-use Rattle.std.proofs.Common.{refl, sym, ◌∙◌, ap, subst, ◌≡◌, inl, inr, ◌+◌, List, [], ◌∷◌, length, Result, Ok, Err, Some, append-nil, arith}
-use Rattle.std.specs.Result.{IfErr}
+use Rattle.std.proofs.Common.{refl, sym, ◌∙◌, ap, subst, ◌≡◌, ◌⊎◌, inl, inr, ℕ, ◌+◌, List, [], ◌∷◌, ◌++◌, length, Option, Result, Ok, Err, Some, None, arith}
+use Rattle.std.proofs.lemmas.List.{append_assoc}
 use Rattle.sqlite.specs.Order.{Row}
+use Rattle.pres_log.specs.declared.entry.Batch.{Batch}
 use Rattle.pres_log.specs.Logs.{Log, number}
 use Rattle.pres_table.specs.declared.fault.SavedFault.{SavedFault}
-use Rattle.pres_table.specs.declared.fault.SavedFault.TheVariants.{Memory, Database, NotOurs, BadRow, Version}
-use Rattle.pres_table.specs.Saved.{Saved, saved_front}
+use Rattle.pres_table.specs.declared.fault.SavedFault.TheVariants.{BadRow}
+use Rattle.pres_table.specs.Saved.{Saved, saved_rows, saved_front}
 use Rattle.pres_table.specs.Taking.{TakesAll, GoesOver, MeetsBadRow, IsRefused}
-use Rattle.pres_server.specs.LegalLog.{IsLegal}
-use Rattle.pres_keeper.specs.Keepers.{IsOfStore, IsNoServer}
-use Rattle.pres_saved.specs.Saved.{batch_in, log_after, saved_log}
-use Rattle.pres_saved.specs.Taking.{Extends, IsNotTaken, Follows, IsNoFollower, IsUnread, IsUnserved}
+use Rattle.pres_server.specs.LegalLog.{IsLegal, MayFollow}
+use Rattle.pres_keeper.specs.Keepers.{Readable, IsOfStore, IsFirstUnread, IsFirstBad, IsUnread, IsNoServer}
+use Rattle.pres_saved.specs.Saved.{batch_in, log_after, front_by, log_front, saved_log, readable_by, readable_rows}
+use Rattle.pres_saved.specs.Taking.{Extends, HasNoRoom, IsNotTaken, Follows, IsNoFollower}
 use Rattle.pres_saved.proofs.Counted.{due_is}
 use Rattle.pres_saved.proofs.Reading.{taken_log, log_of_read, stopped_log, log_unread, log_stopped, length_after}
-use Rattle.pres_saved.proofs.Remade.{follows_all, legal_all, first_illegal}
+use Rattle.pres_saved.proofs.Remade.{follows_all, legal_all, then_front, front_is, front_stops, front_grows, read_batches}
 
 -- ---- of rows that are read
 
-store_unread : (shown : List Row) (e : SavedFault) → IsOfStore e → IsUnread shown e
-store_unread shown e (inl is) = subst (IsUnread shown) (sym is) (inl refl)
-store_unread shown e (inr is) = subst (IsUnread shown) (sym is) (inr refl)
+-- the first row that is no batch, where these come before it
+first_unread : (shown : List Row) (mid : Log) (k : ℕ) → saved_log shown ≡ Err k → log_front [] (saved_front shown) ≡ mid → k ≡ length mid + 1 → IsFirstUnread (readable_rows shown) k
+first_unread shown mid k stopped front due =
+    subst (λ r. IsFirstUnread (readable_by (log_front [] (saved_front shown)) r) k) (sym stopped) (refl, due ∙ ap (λ l. length l + 1) (sym front))
+
+of_store : (log : Log) (e : SavedFault) → HasNoRoom log e → IsOfStore e
+of_store log e (inl is) = inl is
+of_store log e (inr is) = inr is.0
+
+store_unread : (held : Readable) (e : SavedFault) → IsOfStore e → IsUnread held e
+store_unread held e (inl is) = subst (IsUnread held) (sym is) (inl refl)
+store_unread held e (inr is) = subst (IsUnread held) (sym is) (inr refl)
+
+-- a row that isn't read, behind rows that made the log
+row_unread : (shown : List Row) (log : Log) (k : ℕ) → saved_rows shown ≡ Err k → log_after [] (saved_front shown) ≡ Ok log → IsFirstUnread (readable_rows shown) k
+row_unread shown log k bad made =
+    let count = length_after (saved_front shown) [] log made in
+    let due = due_is shown k bad in
+    first_unread shown log k (log_unread shown log k bad made) (front_is (saved_front shown) [] log made) (omega (arith, due, count))
+
+-- a row whose text is that of no batch
+text_unread : (shown : List Row) (given rest : List Saved) (row : Saved) (mid : Log) → saved_front shown ≡ given ++ row ∷ rest → log_after [] given ≡ Ok mid → batch_in (number mid) row ≡ None
+    → IsFirstUnread (readable_rows shown) (length mid + 1)
+text_unread shown given rest row mid parts made none =
+    first_unread shown mid (length mid + 1)
+    (log_stopped shown (length mid + 1) (ap (log_after []) parts ∙ stopped_log given rest row [] mid made none))
+    (ap (log_front []) parts ∙ then_front given (row ∷ rest) [] mid made ∙ front_stops mid row rest none) refl
 
 module _ {T : Type 0} (log_of : T → Log) where
   abbrev pub Adds : T → Saved → T → Type 0
@@ -34,31 +59,51 @@ module _ {T : Type 0} (log_of : T → Log) where
   pub all_read : (shown : List Row) (old new : T) → log_of old ≡ [] → GoesOver Adds Leaves shown old new (Ok tt) → saved_log shown ≡ Ok (log_of new)
   all_read shown old new none (read, taken) = log_of_read shown (saved_front shown) (log_of new) read (made_of (saved_front shown) old new none taken)
 
-  bad_unread : (shown : List Row) (old new : T) (e : SavedFault) → log_of old ≡ [] → MeetsBadRow Adds Leaves shown old new e → IsUnread shown e
+  bad_unread : (shown : List Row) (old new : T) (e : SavedFault) → log_of old ≡ [] → MeetsBadRow Adds Leaves shown old new e → IsUnread (readable_rows shown) e
   bad_unread shown old new e none bad =
-      subst (IsUnread shown) (sym bad.why) (log_unread shown (log_of new) bad.k bad.bad (made_of (saved_front shown) old new none bad.taken))
+      subst (IsUnread (readable_rows shown)) (sym bad.why) (row_unread shown (log_of new) bad.k bad.bad (made_of (saved_front shown) old new none bad.taken))
 
-  refused_unread : (shown : List Row) (old new : T) (e : SavedFault) → log_of old ≡ [] → IsRefused Adds Leaves (saved_front shown) old new e → IsUnread shown e
+  refused_unread : (shown : List Row) (old new : T) (e : SavedFault) → log_of old ≡ [] → IsRefused Adds Leaves (saved_front shown) old new e → IsUnread (readable_rows shown) e
   refused_unread shown old new e none it = elim it.refused [
-    | inl nothing ↦ subst (IsUnread shown) (sym nothing.why)
-        (log_stopped shown (length (log_of it.mid) + 1)
-        (ap (log_after []) it.parts ∙ stopped_log it.given it.rest it.row [] (log_of it.mid) (made_of it.given old it.mid none it.taken) nothing.unread))
-    | inr store ↦ store_unread shown e store
+    | inl nothing ↦ subst (IsUnread (readable_rows shown)) (sym nothing.why)
+        (text_unread shown it.given it.rest it.row (log_of it.mid) it.parts (made_of it.given old it.mid none it.taken) nothing.unread)
+    | inr room ↦ store_unread (readable_rows shown) e (of_store (log_of it.mid) e room)
   ]
 
-  pub unread : (shown : List Row) (old new : T) (e : SavedFault) → log_of old ≡ [] → GoesOver Adds Leaves shown old new (Err e) → IsUnread shown e
+  pub unread : (shown : List Row) (old new : T) (e : SavedFault) → log_of old ≡ [] → GoesOver Adds Leaves shown old new (Err e) → IsUnread (readable_rows shown) e
   unread shown old new e none (inl bad) = bad_unread shown old new e none bad
   unread shown old new e none (inr (inl it)) = refused_unread shown old new e none it
-  unread shown old new e none (inr (inr early)) = store_unread shown e early.why
+  unread shown old new e none (inr (inr early)) = store_unread (readable_rows shown) e early.why
 
 -- ---- of rows that make a server
 
-store_unserved : (shown : List Row) (e : SavedFault) → IsOfStore e → IsUnserved shown e
-store_unserved shown e (inl is) = subst (IsUnserved shown) (sym is) (inl refl)
-store_unserved shown e (inr is) = subst (IsUnserved shown) (sym is) (inr refl)
+store_unserved : (held : Readable) (e : SavedFault) → IsOfStore e → IsNoServer held e
+store_unserved held e (inl is) = subst (IsNoServer held) (sym is) (inl refl)
+store_unserved held e (inr is) = subst (IsNoServer held) (sym is) (inr refl)
 
-same_row : (row other : Saved) (rest later : List Saved) → row ∷ rest ≡ other ∷ later → other ≡ row
-same_row row other rest later e = cc
+-- the batches before a row that is none are legal
+legal_front : (shown : List Row) (mid : Log) → log_front [] (saved_front shown) ≡ mid → IsLegal mid → IsLegal (readable_rows shown).batches
+legal_front shown mid front legal = subst IsLegal (sym (read_batches shown ∙ front)) legal
+
+-- a row that may not follow: it saves no batch, or one that may not
+bad_by : (shown : List Row) (given rest : List Saved) (row : Saved) (mid : Log) (o : Option Batch) → batch_in (number mid) row ≡ o
+    → saved_front shown ≡ given ++ row ∷ rest → log_after [] given ≡ Ok mid → IsLegal mid → ((b : Batch) → batch_in (number mid) row ≡ Some b → MayFollow mid b → ⊥)
+    → IsFirstBad (readable_rows shown) (length mid + 1)
+bad_by shown given rest row mid None is parts made legal refused =
+    let front = ap (log_front []) parts ∙ then_front given (row ∷ rest) [] mid made ∙ front_stops mid row rest is in
+    inr (legal_front shown mid front legal, text_unread shown given rest row mid parts made is)
+bad_by shown given rest row mid (Some b) is parts made legal refused =
+    let more = front_grows rest (mid ++ b ∷ []) in
+    inl (record {
+      before = mid;
+      batch = b;
+      later = more.0;
+      parts = read_batches shown ∙ ap (log_front []) parts ∙ then_front given (row ∷ rest) [] mid made
+          ∙ ap (λ o. front_by mid o (λ l. log_front l rest)) is ∙ more.1 ∙ append_assoc mid (b ∷ []) more.0;
+      number = refl;
+      legal = legal;
+      refused = refused b is;
+    })
 
 module _ {T : Type 0} (log_of : T → Log) where
   abbrev pub Joins : T → Saved → T → Type 0
@@ -77,55 +122,21 @@ module _ {T : Type 0} (log_of : T → Log) where
   all_served shown old new none (read, taken) =
       (log_of_read shown (saved_front shown) (log_of new) read (served_of (saved_front shown) old new none taken), legal_of (saved_front shown) old new none taken)
 
-  bad_unserved : (shown : List Row) (old new : T) (e : SavedFault) → log_of old ≡ [] → MeetsBadRow Joins Stays shown old new e → IsUnserved shown e
+  bad_unserved : (shown : List Row) (old new : T) (e : SavedFault) → log_of old ≡ [] → MeetsBadRow Joins Stays shown old new e → IsNoServer (readable_rows shown) e
   bad_unserved shown old new e none bad =
-      let front = saved_front shown in
-      let made = served_of front old new none bad.taken in
-      let count = length_after front [] (log_of new) made in
-      let due = due_is shown bad.k bad.bad in
-      let last : bad.k ≡ length (log_of new) + 1 = omega (arith, due, count) in
-      subst (IsUnserved shown) (sym bad.why) (record {
-        before = log_of new;
-        given = front;
-        rest = [];
-        parts = sym (append-nil front);
-        read = made;
-        legal = legal_of front old new none bad.taken;
-        due = last;
-        refused = λ row later b is. absurd (cc);
-        unread = λ is. bad.bad;
-      })
+      let made = served_of (saved_front shown) old new none bad.taken in
+      let legal = legal_of (saved_front shown) old new none bad.taken in
+      subst (IsNoServer (readable_rows shown)) (sym bad.why)
+      (inr (legal_front shown (log_of new) (front_is (saved_front shown) [] (log_of new) made) legal, row_unread shown (log_of new) bad.k bad.bad made))
 
-  refused_unserved : (shown : List Row) (old new : T) (e : SavedFault) → log_of old ≡ [] → IsRefused Joins Stays (saved_front shown) old new e → IsUnserved shown e
+  refused_unserved : (shown : List Row) (old new : T) (e : SavedFault) → log_of old ≡ [] → IsRefused Joins Stays (saved_front shown) old new e → IsNoServer (readable_rows shown) e
   refused_unserved shown old new e none it = elim it.refused [
-    | inl nothing ↦ subst (IsUnserved shown) (sym nothing.why) (record {
-      before = log_of it.mid;
-      given = it.given;
-      rest = it.row ∷ it.rest;
-      parts = it.parts;
-      read = served_of it.given old it.mid none it.taken;
-      legal = legal_of it.given old it.mid none it.taken;
-      due = refl;
-      refused = λ row later b is read. nothing.refused b (subst (λ r. batch_in (number (log_of it.mid)) r ≡ Some b) (same_row it.row row it.rest later is) read);
-      unread = λ is. absurd (cc);
-    })
-    | inr store ↦ store_unserved shown e store
+    | inl nothing ↦ subst (IsNoServer (readable_rows shown)) (sym nothing.why)
+        (bad_by shown it.given it.rest it.row (log_of it.mid) _ refl it.parts (served_of it.given old it.mid none it.taken) (legal_of it.given old it.mid none it.taken) nothing.refused)
+    | inr room ↦ store_unserved (readable_rows shown) e (of_store (log_of it.mid) e room)
   ]
 
-  pub unserved : (shown : List Row) (old new : T) (e : SavedFault) → log_of old ≡ [] → GoesOver Joins Stays shown old new (Err e) → IsUnserved shown e
+  pub unserved : (shown : List Row) (old new : T) (e : SavedFault) → log_of old ≡ [] → GoesOver Joins Stays shown old new (Err e) → IsNoServer (readable_rows shown) e
   unserved shown old new e none (inl bad) = bad_unserved shown old new e none bad
   unserved shown old new e none (inr (inl it)) = refused_unserved shown old new e none it
-  unserved shown old new e none (inr (inr early)) = store_unserved shown e early.why
-
--- ---- of the batches of a log
-
-no_server : (shown : List Row) (log : Log) → saved_log shown ≡ Ok log → (e : SavedFault) → IsUnserved shown e → IsNoServer log e
-no_server shown log kept (BadRow k) h = first_illegal shown log k kept h
-no_server shown log kept Memory h = h
-no_server shown log kept Database h = h
-no_server shown log kept NotOurs h = h
-no_server shown log kept Version h = h
-
-pub no_server_if : {A : Type 0} (shown : List Row) (log : Log) → saved_log shown ≡ Ok log → (r : Result A SavedFault) → IfErr r (IsUnserved shown) → IfErr r (IsNoServer log)
-no_server_if shown log kept (Ok server) h = tt
-no_server_if shown log kept (Err e) h = no_server shown log kept e h
+  unserved shown old new e none (inr (inr early)) = store_unserved (readable_rows shown) e early.why

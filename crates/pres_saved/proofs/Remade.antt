@@ -1,18 +1,17 @@
 -- A server that is made again of saved rows.
-use Rattle.std.proofs.Common.{refl, sym, ◌∙◌, ap, subst, ◌≡◌, ℕ, ◌+◌, List, [], ◌∷◌, ◌++◌, length, Option, Some, None, Ok, append-nil}
+use Rattle.std.proofs.Common.{refl, sym, ◌∙◌, ap, subst, ◌≡◌, ℕ, ◌+◌, List, [], ◌∷◌, ◌++◌, length, Option, Some, None, Result, Ok, Err, append-nil}
 use Rattle.std.proofs.lemmas.List.{append_assoc}
 use Rattle.std.specs.Result.{result_unwrap_or}
 use Rattle.sqlite.specs.Order.{Row}
 use Rattle.pres_log.specs.declared.entry.Batch.{Batch}
 use Rattle.pres_log.specs.Logs.{Log, number}
-use Rattle.pres_table.specs.Saved.{Saved}
+use Rattle.pres_table.specs.Saved.{Saved, saved_front}
 use Rattle.pres_table.specs.Taking.{TakesAll}
 use Rattle.pres_server.specs.LegalLog.{IsLegal, MayFollow}
-use Rattle.pres_server.specs.Replays.{IsFirstIllegal}
 use Rattle.pres_server.proofs.Whole.{legal_after}
-use Rattle.pres_saved.specs.Saved.{batch_in, log_then, log_after, saved_log}
-use Rattle.pres_saved.specs.Taking.{Extends, Follows, IsFirstBad}
-use Rattle.pres_saved.proofs.Reading.{no_err, then_log, read_of}
+use Rattle.pres_saved.specs.Saved.{batch_in, log_then, log_after, front_by, log_front, saved_log, readable_by, readable_rows}
+use Rattle.pres_saved.specs.Taking.{Extends, Follows}
+use Rattle.pres_saved.proofs.Reading.{no_err, read_of}
 
 -- those that may follow stand behind one another
 pub follows_all : {T : Type 0} (log_of : T → Log) (given : List Saved) (old new : T) → TakesAll (λ before row after. Follows (log_of before) row (log_of after)) given old new
@@ -25,35 +24,41 @@ legal_all log_of [] old new legal t = subst (λ taker. IsLegal (log_of taker)) (
 legal_all log_of (row ∷ more) old new legal t =
     legal_all log_of more t.0 new (subst IsLegal (sym t.1.extends.extended) (legal_after (log_of old) t.1.extends.batch legal t.1.may)) t.2
 
--- ---- what stands behind
+-- ---- the batches before the first row that saves none
 
-prefix_by : (old new : Log) (o : Option Batch) (more : List Saved) → ((l : Log) → log_after l more ≡ Ok new → (later : Log) × (new ≡ l ++ later)) → log_then old o (λ l. log_after l more) ≡ Ok new → (later : Log) × (new ≡ old ++ later)
-prefix_by old new None more ih e = absurd (no_err _ new _ refl e)
-prefix_by old new (Some b) more ih e =
-    let found = ih (old ++ b ∷ []) e in
-    (b ∷ found.0, found.1 ∙ append_assoc old (b ∷ []) found.0)
+front_further : (old mid : Log) (o : Option Batch) (more rest : List Saved)
+    → ((l : Log) → log_after l more ≡ Ok mid → log_front l (more ++ rest) ≡ log_front mid rest)
+    → log_then old o (λ l. log_after l more) ≡ Ok mid
+    → front_by old o (λ l. log_front l (more ++ rest)) ≡ log_front mid rest
+front_further old mid None more rest ih e = absurd (no_err _ mid _ refl e)
+front_further old mid (Some b) more rest ih e = ih (old ++ b ∷ []) e
 
-pub after_prefix : (rows : List Saved) (old new : Log) → log_after old rows ≡ Ok new → (later : Log) × (new ≡ old ++ later)
-after_prefix [] old new e = ([], sym (ap (λ r. result_unwrap_or r new) e) ∙ sym (append-nil old))
-after_prefix (row ∷ more) old new e = prefix_by old new (batch_in (number old) row) more (λ l. after_prefix more l new) e
+-- the rest goes on from the log of the first
+pub then_front : (given rest : List Saved) (old mid : Log) → log_after old given ≡ Ok mid → log_front old (given ++ rest) ≡ log_front mid rest
+then_front [] rest old mid e = ap (λ l. log_front l rest) (ap (λ r. result_unwrap_or r old) e)
+then_front (row ∷ more) rest old mid e = front_further old mid (batch_in (number old) row) more rest (λ l. then_front more rest l mid) e
 
--- ---- the first that may not follow
+-- where all save one they are the log
+pub front_is : (given : List Saved) (old mid : Log) → log_after old given ≡ Ok mid → log_front old given ≡ mid
+front_is given old mid e = ap (log_front old) (sym (append-nil given)) ∙ then_front given [] old mid e
 
-first_by : (log mid : Log) (row : Saved) (rest : List Saved) (k : ℕ) (o : Option Batch) → batch_in (number mid) row ≡ o → IsLegal mid
-    → ((b : Batch) → batch_in (number mid) row ≡ Some b → MayFollow mid b → ⊥) → k ≡ length mid + 1
-    → log_then mid o (λ l. log_after l rest) ≡ Ok log → IsFirstIllegal log k
-first_by log mid row rest k None is legal refused due e = absurd (no_err _ log _ refl e)
-first_by log mid row rest k (Some b) is legal refused due e =
-    let found = after_prefix rest (mid ++ b ∷ []) log e in
-    record { before = mid; batch = b; later = found.0; parts = found.1 ∙ append_assoc mid (b ∷ []) found.0; number = due; legal = legal; refused = refused b is }
+-- a row that saves none ends them
+pub front_stops : (log : Log) (row : Saved) (rest : List Saved) → batch_in (number log) row ≡ None → log_front log (row ∷ rest) ≡ log
+front_stops log row rest none = ap (λ o. front_by log o (λ more. log_front more rest)) none
 
--- rows that are all batches, of which one may not follow
-pub first_illegal : (shown : List Row) (log : Log) (k : ℕ) → saved_log shown ≡ Ok log → IsFirstBad shown k → IsFirstIllegal log k
-first_illegal shown log k kept bad = by bad.rest refl
-  where
-    by : (rest : List Saved) → bad.rest ≡ rest → IsFirstIllegal log k
-    by [] is = absurd (no_err k _ _ (bad.unread is) (read_of shown log kept).all)
-    by (row ∷ later) is =
-        first_by log bad.before row later k _ refl bad.legal (λ b. bad.refused row later b is) bad.due
-        (sym (then_log bad.given (row ∷ later) [] bad.before bad.read)
-        ∙ ap (λ rest. log_after [] (bad.given ++ rest)) (sym is) ∙ ap (log_after []) (sym bad.parts) ∙ (read_of shown log kept).made)
+front_grows_by : (old : Log) (o : Option Batch) (more : List Saved) → ((l : Log) → (later : Log) × (log_front l more ≡ l ++ later)) → (later : Log) × (front_by old o (λ l. log_front l more) ≡ old ++ later)
+front_grows_by old None more ih = ([], sym (append-nil old))
+front_grows_by old (Some b) more ih = let found = ih (old ++ b ∷ []) in (b ∷ found.0, found.1 ∙ append_assoc old (b ∷ []) found.0)
+
+-- they stand behind what was there
+pub front_grows : (rows : List Saved) (old : Log) → (later : Log) × (log_front old rows ≡ old ++ later)
+front_grows [] old = ([], sym (append-nil old))
+front_grows (row ∷ more) old = front_grows_by old (batch_in (number old) row) more (λ l. front_grows more l)
+
+batches_by : (front : Log) (r : Result Log ℕ) → ((log : Log) → r ≡ Ok log → front ≡ log) → (readable_by front r).batches ≡ front
+batches_by front (Ok log) same = sym (same log refl)
+batches_by front (Err k) same = refl
+
+-- what can be read are these batches
+pub read_batches : (shown : List Row) → (readable_rows shown).batches ≡ log_front [] (saved_front shown)
+read_batches shown = batches_by _ (saved_log shown) (λ log all. front_is (saved_front shown) [] log (read_of shown log all).made)

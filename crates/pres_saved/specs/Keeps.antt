@@ -1,14 +1,17 @@
 -- What a keeper over a database holds.
-use Rattle.std.specs.Prelude.{◌≡◌, [], ◌∷◌, ◌++◌, map, Ok, IsTrue}
+use Rattle.std.specs.Prelude.{◌≡◌, ◌+◌, [], ◌∷◌, ◌++◌, map, Ok, IsTrue}
 use Rattle.sqlite.specs.Store.{Ghosts}
 use Rattle.sqlite.specs.State.{HasCleanDisk, Survives}
 use Rattle.sqlite.specs.Held.{state}
 use Rattle.pres_log.specs.declared.entry.Batch.{Batch}
 use Rattle.pres_log.specs.Logs.{Log}
-use Rattle.pres_table.specs.Kept.{Kept, Serves}
+use Rattle.serde_json.specs.Written.{compact_text}
+use Rattle.pres_body.specs.Entries.{entries_json}
+use Rattle.pres_table.specs.Kept.{Kept, Serves, AddsRow}
 use Rattle.pres_table.specs.Opened.{greatest_in}
-use Rattle.pres_table.specs.Saved.{shown_row, shown_rows}
-use Rattle.pres_saved.specs.Saved.{saved_log}
+use Rattle.pres_table.specs.Saved.{Saved, shown_row, shown_rows}
+use Rattle.pres_keeper.specs.Keepers.{Readable}
+use Rattle.pres_saved.specs.Saved.{saved_log, readable_rows}
 
 -- the disk gave back what was written, and the store is open
 pub record Works {S : Type 0} (g : Ghosts S) (t : Kept S) : Type 0 where
@@ -28,6 +31,18 @@ pub record IsReady {S : Type 0} (g : Ghosts S) (t : Kept S) : Type 0 where
 -- its rows are the batches of the log
 abbrev pub KeepsLog : {S : Type 0} → Ghosts S → Kept S → Log → Type 0
 KeepsLog g t log = saved_log (shown_rows (state g t.connection)) ≡ Ok log
+
+-- what can be read of its rows
+abbrev pub readable_in : {S : Type 0} → Ghosts S → Kept S → Readable
+readable_in g t = readable_rows (shown_rows (state g t.connection))
+
+-- a batch is saved as its moment and the JSON text of its entries
+abbrev pub saved_batch : Batch → Saved
+saved_batch batch = record { moment = batch.moment; body = compact_text (entries_json batch.entries) }
+
+-- the batch is saved in one more row, numbered behind the last, which is committed
+abbrev pub SavesBatch : {S : Type 0} → Ghosts S → Kept S → Batch → Kept S → Type 0
+SavesBatch g old batch new = AddsRow (state g old.connection) (state g new.connection) (old.last + 1) (saved_batch batch)
 
 -- what a crash in the middle of a commit may leave: what a crash before it could, or the log with the batch
 abbrev pub LeavesLog : {S : Type 0} → Ghosts S → Kept S → Log → Batch → Kept S → Type 0

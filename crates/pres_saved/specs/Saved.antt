@@ -1,5 +1,5 @@
 -- What saved rows stand for: the batches of a log, each under the number that is due.
-use Rattle.std.specs.Prelude.{ℕ, ◌+◌, nat_le, if◌then◌else◌, List, [], ◌∷◌, ◌++◌, length, Option, Some, None, option_and_then, Result, Ok, Err}
+use Rattle.std.specs.Prelude.{ℕ, ◌+◌, false, nat_le, if◌then◌else◌, List, [], ◌∷◌, ◌++◌, length, Option, Some, None, option_and_then, Result, Ok, Err}
 use Rattle.sqlite.specs.Order.{Row}
 use Rattle.pres_ids.specs.Numbers.{greatest_number}
 use Rattle.pres_log.specs.declared.entry.Batch.{Batch}
@@ -7,6 +7,7 @@ use Rattle.pres_log.specs.declared.entry.Entry.{Entry}
 use Rattle.pres_log.specs.Logs.{Log, number}
 use Rattle.pres_body.specs.Reads.{entries_in}
 use Rattle.pres_table.specs.Saved.{Saved, saved_rows, saved_front}
+use Rattle.pres_keeper.specs.Keepers.{Readable, whole}
 
 abbrev pub batch_of : ℕ → ℕ → List Entry → Option Batch
 batch_of first moment es = if nat_le first greatest_number then Some (record { first = first; moment = moment; entries = es }) else None
@@ -33,3 +34,20 @@ if_all_read (Ok rows) (Ok log) = Ok log
 -- has a text that isn't, or the row itself isn't read
 abbrev pub saved_log : List Row → Result Log ℕ
 saved_log shown = if_all_read (saved_rows shown) (log_after [] (saved_front shown))
+
+abbrev pub front_by : Log → Option Batch → (Log → Log) → Log
+front_by log None more = log
+front_by log (Some b) more = more (log ++ b ∷ [])
+
+-- the log with the batches of those of these rows that come before the first that saves none
+abbrev pub log_front : Log → List Saved → Log
+log_front log [] = log
+log_front log (row ∷ later) = front_by log (batch_in (number log) row) (λ more. log_front more later)
+
+abbrev pub readable_by : Log → Result Log ℕ → Readable
+readable_by front (Ok log) = whole log
+readable_by front (Err k) = record { batches = front; is_all = false }
+
+-- what can be read of the rows that a table shows
+abbrev pub readable_rows : List Row → Readable
+readable_rows shown = readable_by (log_front [] (saved_front shown)) (saved_log shown)

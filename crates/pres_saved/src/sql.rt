@@ -11,8 +11,8 @@ ghost use Rattle.pres_table.specs.Schemas.{no_schema};
 ghost use Rattle.pres_table.specs.Saved.{shown_rows};
 ghost use Rattle.pres_server.specs.Replays.{made_from};
 ghost use Rattle.pres_saved.specs.Saved.{saved_log};
-ghost use Rattle.pres_saved.specs.Keeps.{IsReady, WasShut, KeepsLog};
-ghost use Rattle.pres_saved.specs.Taking.{IsUnread, IsUnserved};
+ghost use Rattle.pres_keeper.specs.Keepers.{IsUnread, IsNoServer};
+ghost use Rattle.pres_saved.specs.Keeps.{IsReady, WasShut, KeepsLog, readable_in};
 
 use crate::taker::{Batches, Remaking};
 use pres_body::print_entries;
@@ -120,7 +120,7 @@ impl<S: Alter + Drop> SqlKeeper<S> {
             → IfOk result (λ batches.
             saved_log (shown_rows (state S.Store self.old.connection)) ≡ Ok batches.items) }
         ensures refused { HasCleanDisk (state S.Store self.new.connection) → Serves S.Store self.old
-            → IfErr result (IsUnread (shown_rows (state S.Store self.old.connection))) }
+            → IfErr result (IsUnread (readable_in S.Store self.old)) }
         ensures left { HasCleanDisk (state S.Store self.new.connection) → Serves S.Store self.old
             → IsLeft (state S.Store self.old.connection) (state S.Store self.new.connection) }
         ensures shut { Serves S.Store self.old → WasShut S.Store self.old self.new
@@ -150,7 +150,7 @@ impl<S: Alter + Drop> SqlKeeper<S> {
             saved_log (shown_rows (state S.Store self.old.connection)) ≡ Ok server.log) }
         ensures made { IfOk result (λ server. server ≡ made_from server.log) }
         ensures refused { HasCleanDisk (state S.Store self.new.connection) → Serves S.Store self.old
-            → IfErr result (IsUnserved (shown_rows (state S.Store self.old.connection))) }
+            → IfErr result (IsNoServer (readable_in S.Store self.old)) }
         ensures left { HasCleanDisk (state S.Store self.new.connection) → Serves S.Store self.old
             → IsLeft (state S.Store self.old.connection) (state S.Store self.new.connection) }
         ensures shut { Serves S.Store self.old → WasShut S.Store self.old self.new
@@ -182,17 +182,25 @@ impl<S: Alter + Drop> SqlKeeper<S> {
 }
 
 impl<S: Alter + Drop> Keeper for SqlKeeper<S> {
-    ghost use Rattle.pres_saved.specs.Keeps.{IsReady, Works, WasShut, KeepsLog, LeavesLog};
+    ghost use Rattle.std.proofs.Common.{ap};
+    ghost use Rattle.pres_saved.specs.Saved.{readable_by};
+    ghost use Rattle.pres_saved.specs.Keeps.{IsReady, Works, WasShut, KeepsLog, LeavesLog, SavesBatch, readable_in};
 
     ghost ready = { λ kept. IsReady S.Store kept };
 
     ghost works = { λ kept. Works S.Store kept };
 
+    ghost readable = { λ kept. readable_in S.Store kept };
+
     ghost keeps = { λ kept log. KeepsLog S.Store kept log };
+
+    ghost stores = { λ old batch new. SavesBatch S.Store old batch new };
 
     ghost shut = { λ old new. WasShut S.Store old new };
 
     ghost leaves = { λ old log batch new. LeavesLog S.Store old log batch new };
+
+    ghost kept_is_read = { λ kept log keeps. ap (readable_by _) keeps };
 
     fn commit(&mut self, batch: &Batch) -> Result<(), SavedFault> {
         // they ensure that the number and the moment are in range

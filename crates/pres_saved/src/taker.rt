@@ -36,7 +36,8 @@ fn read_batch(alloc: Global, before: u64, row: &SavedRow) -> Result<Option<Batch
 
 // The refusal of the row behind so many batches.
 fn bad_row(before: usize) -> SavedFault
-    ensures { (result ≡ SavedFault.BadRow (before + 1)) ⊎ (result ≡ SavedFault.Database) }
+    ensures { (result ≡ SavedFault.BadRow (before + 1))
+        ⊎ ((result ≡ SavedFault.Database) × (greatest_number ≤ before)) }
 {
     match number_after(before as u64) {
         Some(number) => SavedFault::BadRow(Count::up_to(number)),

@@ -28,17 +28,25 @@ impl Refusing {
 }
 
 impl Keeper for Refusing {
-    ghost use Rattle.std.specs.Prelude.{◌≡◌, ⊤};
+    ghost use Rattle.std.specs.Prelude.{◌≡◌, ◌++◌, ◌∷◌, [], ⊤};
+    ghost use Rattle.std.proofs.Common.{ap};
+    ghost use Rattle.pres_keeper.specs.Keepers.{whole};
 
     ghost ready = { λ _. ⊤ };
 
     ghost works = { λ _. ⊤ };
 
+    ghost readable = { λ k. whole k.kept };
+
     ghost keeps = { λ k log. k.kept ≡ log };
+
+    ghost stores = { λ old batch new. new.kept ≡ old.kept ++ batch ∷ [] };
 
     ghost shut = { λ _ _. ⊥ };
 
     ghost leaves = { λ _ _ _ _. ⊤ };
+
+    ghost kept_is_read = { λ _ _ keeps. ap whole keeps };
 
     fn commit(&mut self, batch: &Batch) -> Result<(), SavedFault> {
         let place = self.commits;

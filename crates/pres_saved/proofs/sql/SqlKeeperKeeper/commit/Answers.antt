@@ -1,8 +1,13 @@
-use Rattle.std.proofs.Common.{subst}
+use Rattle.std.proofs.Common.{subst, ap, ◌∙◌, ◌+◌}
+use Rattle.std.specs.Result.{OnOk}
 use Rattle.std.specs.String.{string_bytes}
 use Rattle.pres_ids.specs.Numbers.{IsNumber}
+use Rattle.serde_json.specs.Written.{compact_text}
+use Rattle.sqlite.specs.Held.{state}
+use Rattle.pres_body.specs.Entries.{entries_json}
+use Rattle.pres_table.specs.Kept.{AddsRow}
 use Rattle.pres_table.specs.Saved.{Saved}
-use Rattle.pres_saved.proofs.Committing.{printed, still_ready, committed, crashed}
+use Rattle.pres_saved.proofs.Committing.{saves, printed, still_ready, committed, crashed}
 use Rattle.pres_saved.proofs.sql.SqlKeeperKeeper.commit.Goals as goal
 
 pub returns-clause-ready : goal.returns-clause-ready
@@ -34,3 +39,12 @@ returns-clause-crash g c =
     crashed g.S.Store c.self.inside.table c.append.new.self s c.append.result (c.append.ensures.serves ready.serves)
     (λ clean. c.append.ensures.ok clean ready.serves) (λ clean. c.append.ensures.err clean ready.serves) c.append.ensures.last
     log b c.millis.ensures.bound c.as_str.utf8 one ready keeps (c.append.ensures.crash ready.serves))
+
+pub returns-clause-stored : goal.returns-clause-stored
+returns-clause-stored g c =
+    let b = c.args.batch.now in
+    let s : Saved = record { moment = c.moment-moment.result; body = c.as_str.result.now } in
+    let text = c.as_str.ensures.value ∙ c.in_ok-text.ensures.text ∙ ap (λ es. compact_text (entries_json es)) c.entries.ensures.entries in
+    rw (← c.self.view_is) (λ ready works.
+    subst (λ saved. OnOk c.append.result (AddsRow (state g.S.Store c.self.inside.table.connection) (state g.S.Store c.append.new.self.connection) (c.self.inside.table.last + 1) saved))
+    (saves b s c.moment-moment.ensures text) (c.append.ensures.ok works.clean ready.serves))
