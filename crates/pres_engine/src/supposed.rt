@@ -72,11 +72,17 @@ impl<K: Keeper, P: Premise> Keeper for Supposed<K, P> {
 
     ghost works = { λ kept. P.holds × K.works kept };
 
+    ghost readable = { λ kept. K.readable kept };
+
     ghost keeps = { λ kept log. K.keeps kept log };
+
+    ghost stores = { λ old batch new. K.stores old batch new };
 
     ghost shut = { λ old new. P.holds × K.shut old new };
 
     ghost leaves = { λ old log batch new. P.holds → K.leaves old log batch new };
+
+    ghost kept_is_read = { λ kept log keeps. K.kept_is_read kept log keeps };
 
     fn commit(&mut self, batch: &Batch) -> Result<(), SavedFault> {
         self.keeper.commit(batch)

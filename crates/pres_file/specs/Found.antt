@@ -27,6 +27,10 @@ pub record Finds (image : Image) (s : State) : Type 0 where
   pub holds : (db : Trees) → HoldsDatabase image db → s.committed.trees ≡ db
   pub nothing : IsBlankFile new_page_size image → IsEmpty s.committed.trees
 
+-- the database holds no table, index or view, or what it holds was made by our statements
+abbrev pub HoldsOurs : {S : Type 0} → Ghosts S → Held S → Type 0
+HoldsOurs g connection = (connection.schema ≡ no_schema) ⊎ IsOurs (state g connection)
+
 -- The keeper over a connection is new exactly where its database has no table, index or view. It is ready where it is new or the tables
 -- are ours. As long as its disk gives back what was written, a new one keeps no batch, and one over tables of ours the log that their
 -- rows save; and a disk that was in doubt stays so.

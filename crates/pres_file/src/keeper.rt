@@ -145,8 +145,8 @@ fn found<S: Alter + Drop>(
     }
 }
 
-// The keeper over the database, which is let go where it is refused.
-fn keeper_for<S: Alter + Drop>(
+/// The same, and the database is let go where it is refused.
+pub fn keeper_for<S: Alter + Drop>(
     alloc: Global,
     connection: Connection<S>,
 ) -> Result<Opened<S>, SavedFault>

@@ -4,5 +4,5 @@
 mod keeper;
 mod open;
 
-pub use keeper::{Opened, keeper_from, keeper_in, keeper_over};
+pub use keeper::{Opened, keeper_for, keeper_from, keeper_in, keeper_over};
 pub use open::connect;

@@ -1,16 +1,17 @@
 //! `presence serve`: a server over TCP, kept in a file.
 
-ghost use Rattle.std.specs.Prelude.{◌≡◌, ◌≢◌, ◌^◌, ◌++◌, ℕ, IfErr, OnOk};
+ghost use Rattle.std.specs.Prelude.{◌≡◌, ◌≢◌, false, ◌^◌, ◌++◌, ℕ, IfErr, OnOk};
 ghost use Rattle.std.specs.Io.KnownBytes.{Appends};
+ghost use Rattle.pres_file.specs.Found.{HoldsOurs};
 ghost use Rattle.pres_service.specs.declared.fault.ServiceFault.TheVariants as fault;
 ghost use Rattle.pres_service.specs.Outputs.{listening_line, number_line};
 
 use crate::fault::ServiceFault;
 use pres_engine::{Premise, Supposed};
-use pres_file::{Opened, keeper_in};
+use pres_file::{Opened, connect, keeper_for};
 use pres_net::{Core, Hub, Keeper, Moment, OpenGate, StreamBell, WallClock, serve_connections};
 use pres_saved::SqlKeeper;
-use sqlite::Alter;
+use sqlite::{Alter, Connection, Unknown};
 use std::alloc::Global;
 use std::io::Write;
 use std::marker::Brand;
@@ -48,8 +49,8 @@ where
         (listening_line serving.entry.address.now ++ number_line number)) }
     ensures silent { IfErr result (λ e. e ≢ fault.Input → output.new ≡ output.old) }
 {
-    let Opened { keeper, is_new } = keeper_in(host, serving.file)?;
-    let number = granted(rt, alloc, keeper, serving, is_new, output, faults)?;
+    let connection = connect(host, serving.file, Unknown)?;
+    let number = granted(rt, alloc, connection, serving, output, faults)?;
     match writeln!(output, "number {number}") {
         Ok(()) => Ok(()),
         Err(_) => Err(ServiceFault::Input),
@@ -61,40 +62,43 @@ where
 fn granted<S: Alter + Drop + Send, R, W: Write, F: Write>(
     rt: &R,
     alloc: Global,
-    keeper: SqlKeeper<S>,
+    connection: Connection<S>,
     serving: Serving<'_>,
-    is_new: bool,
     output: &mut W,
     faults: &mut F,
 ) -> Result<u64, ServiceFault>
 where
     R: Net<Listener = TcpListener, Stream = TcpStream> + Threads + Wait + Clock + Sync,
+    requires mode { connection.in_transaction ≡ false }
     ensures said { OnOk result (Appends (W.contents output.old) (W.contents output.new)
         (listening_line serving.entry.address.now)) }
     ensures silent { IfErr result (λ e. e ≢ fault.Input → output.new ≡ output.old) }
 {
-    supposing::<Brand, SqlKeeper<S>, R, W, F>(rt, alloc, keeper, serving, is_new, output, faults)
+    supposing::<Brand, S, R, W, F>(rt, alloc, connection, serving, output, faults)
 }
 
-// The same, where a premise says that the keeper is ready.
-fn supposing<P: Premise + Send, K: Keeper + Drop + Send, R, W: Write, F: Write>(
+// The same, where a premise says that what was found was made by our statements.
+fn supposing<P: Premise + Send, S: Alter + Drop + Send, R, W: Write, F: Write>(
     rt: &R,
     alloc: Global,
-    keeper: K,
+    connection: Connection<S>,
     serving: Serving<'_>,
-    is_new: bool,
     output: &mut W,
     faults: &mut F,
 ) -> Result<u64, ServiceFault>
 where
     R: Net<Listener = TcpListener, Stream = TcpStream> + Threads + Wait + Clock + Sync,
-    requires { P.holds → K.ready keeper }
+    requires mode { connection.in_transaction ≡ false }
+    requires ours { P.holds → HoldsOurs S.Store connection }
     ensures said { OnOk result (Appends (W.contents output.old) (W.contents output.new)
         (listening_line serving.entry.address.now)) }
     ensures silent { IfErr result (λ e. e ≢ fault.Input → output.new ≡ output.old) }
 {
-    let keeper = Supposed::<K, P>::new(keeper);
-    counted::<Supposed<K, P>, R, W, F>(rt, alloc, keeper, serving, is_new, output, faults)
+    let Opened { keeper, is_new } = keeper_for(alloc, connection)?;
+    let keeper = Supposed::<SqlKeeper<S>, P>::new(keeper);
+    counted::<Supposed<SqlKeeper<S>, P>, R, W, F>(
+        rt, alloc, keeper, serving, is_new, output, faults,
+    )
 }
 
 // The same over a keeper.

@@ -1,6 +1,6 @@
-use Rattle.pres_saved.specs.Keeps.{IsReady}
+use Rattle.pres_file.specs.Found.{HoldsOurs}
 use Rattle.pres_service.proofs.serve.granted.Given as goal
 
--- what is taken for granted: the keeper is ready
+-- what is taken for granted: what was found was made by our statements
 abbrev pub ghosts-supposing : goal.ghosts-supposing
-ghosts-supposing g a = record { holds = IsReady g.S.Store a.keeper }
+ghosts-supposing g a = record { holds = HoldsOurs g.S.Store a.connection }
