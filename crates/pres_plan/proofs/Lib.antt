@@ -3,4 +3,5 @@ pub mod Fitting
 pub mod Grows
 pub mod Kept
 pub mod Left
+pub mod Orders
 pub mod Steps

@@ -2,6 +2,7 @@
 use Rattle.std.proofs.Common.{refl, sym, ◌∙◌, ap, ◌≡◌, ◌+◌, ◌-◌, ◌<◌, ◌≤◌, ℕ, List, [], ◌∷◌, ◌++◌, map, length, length-append, Bool, true, false, not, cond, ◌||◌, filter, Result, Ok, Err, subst, arith, append-nil, ◌↔◌}
 use Prim.Native.Nat.{suc}
 use Rattle.std.specs.List.{list_any}
+use Rattle.std.specs.List.Sorted.{IsStrictlySortedBy}
 use Rattle.std.specs.Result.{IsErr, IsErrAnd, IsErrOf}
 use Rattle.std.specs.Prelude.{nat_lt, nat_le}
 use Rattle.std.proofs.lemmas.Bool.{leb-true, leb-false, le-leb, lt-leb, lt-ltb}
@@ -12,7 +13,7 @@ use Rattle.pres_plan.specs.declared.fault.PlanFault.{PlanFault}
 use Rattle.pres_plan.specs.declared.fault.PlanFault.TheVariants.{Memory, Full}
 use Rattle.pres_plan.specs.declared.row.Action.TheVariants.{Put, Keep}
 use Rattle.pres_plan.specs.declared.row.PlanRow.{PlanRow}
-use Rattle.pres_plan.specs.Plans.{path_of, covers, is_left, puts_above, plan_of, puts, cancels, IsPlan}
+use Rattle.pres_plan.specs.Plans.{path_of, covers, is_left, puts_above, plan_of, puts, cancels, row_cmp, IsPlan}
 use Rattle.pres_plan.proofs.Left.{filter_same, plan-puts, plan-cancel, left_by_cancel}
 use Rattle.pres_plan.proofs.Grows.{plan_of-plan}
 
@@ -32,9 +33,9 @@ same_test a b m n f g = by_tests (nat_le a b) (nat_le m n) refl refl where
   by_tests false true d e = let low = leb-false a b d in let high = g (leb-true m n e) in absurd (omega arith)
   by_tests false false d e = refl
 
--- a plan with few rows
-pub is_plan : (xs rows : List PlanRow) → rows ≡ plan_of xs → length rows ≤ 256 → IsPlan rows
-is_plan xs rows e few = record { whole = ap plan_of e ∙ plan_of-plan xs ∙ sym e; few = few }
+-- a plan with few rows in order
+pub is_plan : (xs rows : List PlanRow) → rows ≡ plan_of xs → length rows ≤ 256 → IsStrictlySortedBy row_cmp (plan_of xs) → IsPlan rows
+is_plan xs rows e few order = record { whole = ap plan_of e ∙ plan_of-plan xs ∙ sym e; few = few; in_order = subst (λ (l : List PlanRow). IsStrictlySortedBy row_cmp l) (sym e) order }
 
 -- ---- puts
 

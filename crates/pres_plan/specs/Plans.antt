@@ -1,8 +1,13 @@
 -- Plans: what stands of a session's puts and cancels, and what is written at its end. Puts, updates and cancels
 -- behave as those of onDisconnect of Firebase Realtime Database.
-use Rattle.std.specs.Prelude.{◌≡◌, ◌≤◌, ◌&&◌, ◌||◌, ℕ, Bool, true, false, not, List, [], ◌∷◌, ◌++◌, map, length, filter, if◌then◌else◌}
+use Rattle.std.specs.Prelude.{◌≡◌, ◌≤◌, ◌&&◌, ◌||◌, ℕ, Bool, true, false, not, Option, Some, None, List, [], ◌∷◌, ◌++◌, All, map, length, filter, if◌then◌else◌}
+use Rattle.std.specs.Borrow.{Bor}
 use Rattle.std.specs.List.{list_any}
-use Rattle.pres_tree.specs.Paths.{Path, is_prefix, meet}
+use Rattle.std.specs.List.Sorted.{IsStrictlySortedBy}
+use Rattle.std.specs.Ordering.{nat_cmp, ordering_then}
+use Rattle.std.specs.declared.cmp.Ordering.{Ordering}
+use Rattle.std.specs.declared.cmp.Ordering.TheVariants.{Less}
+use Rattle.pres_tree.specs.Paths.{Path, path_cmp, is_prefix, meet}
 use Rattle.pres_tree.specs.Rows.{Rows, IsValue, value_at}
 use Rattle.pres_tree.specs.declared.scalar.Scalar.{Scalar}
 use Rattle.pres_write.specs.declared.basic.Basic.{Basic}
@@ -62,10 +67,34 @@ plan_of actions = let left = lasting actions in filter (matters left) left
 abbrev pub most_rows : ℕ
 most_rows = 256
 
--- what every plan keeps: its rows stand for themselves, and they are few
+-- rows are ordered by the numbers of the messages that asked for them, then by path
+abbrev pub row_cmp : PlanRow → PlanRow → Ordering
+row_cmp a b = ordering_then (nat_cmp a.q b.q) (path_cmp (path_of a.action) (path_of b.action))
+
+-- the number and the path come after those of each row
+abbrev pub ComesLast : ℕ → Path → List PlanRow → Type 0
+ComesLast q path rows = All (λ row. ordering_then (nat_cmp row.q q) (path_cmp (path_of row.action) path) ≡ Less) rows
+
+-- what every plan keeps: its rows stand for themselves, they are few, and they are in strict order
 pub record IsPlan (rows : List PlanRow) : Type 0 where
   pub whole : plan_of rows ≡ rows
   pub few : length rows ≤ most_rows
+  pub in_order : IsStrictlySortedBy row_cmp rows
+
+-- ---- rows that are lent by their parts
+
+-- an action: the path, and the draft, none where the place keeps its value
+abbrev pub action_of : Path → Option (Rows Slot) → Action
+action_of path None = Keep path
+action_of path (Some draft) = Put (path, draft)
+
+abbrev pub lent_draft : Option (Bor (Rows Slot)) → Option (Rows Slot)
+lent_draft None = None
+lent_draft (Some draft) = Some draft.now
+
+-- a row: its number and its action
+abbrev pub lent_row : ℕ × Bor Path × Option (Bor (Rows Slot)) → PlanRow
+lent_row parts = record { q = parts.0; action = action_of parts.1.now (lent_draft parts.2) }
 
 -- ---- the end
 

@@ -5,7 +5,9 @@ mod fault;
 pub mod laws;
 mod plan;
 mod row;
+mod rows;
 
 pub use fault::PlanFault;
 pub use plan::{MOST_ROWS, Plan};
 pub use row::{Action, DueRow, PlanRow};
+pub use rows::Rows;

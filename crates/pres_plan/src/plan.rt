@@ -2,16 +2,18 @@
 
 ghost use Rattle.std.specs.Prelude.{◌≡◌, ◌↔◌, ◌<◌, ◌≤◌, ◌++◌, ◌∷◌, ℕ, [], All, false, length, map, nat_le, not, filter, is_ok, if◌then◌else◌, IfOk, IfErr, IsErrOf, OnOk, OnErr};
 ghost use Rattle.std.specs.List.{list_any};
+ghost use Rattle.std.specs.List.Sorted.{IsStrictlySortedBy};
 ghost use Rattle.pres_tree.specs.Paths.{is_prefix, overlap};
-ghost use Rattle.pres_plan.specs.Plans.{most_rows, path_of, covers, is_left, puts_above, plan_of, puts, cancels, due, due_rows};
+ghost use Rattle.pres_plan.specs.Plans.{most_rows, row_cmp, ComesLast, path_of, covers, is_left, puts_above, plan_of, puts, cancels, due, due_rows};
 ghost use Rattle.pres_plan.specs.declared.fault.PlanFault.TheVariants.{Full, Memory};
 
 use crate::fault::PlanFault;
 use crate::row::{Action, DueRow, PlanRow};
+use crate::rows::Rows;
 use pres_ids::Number;
 use pres_session::Pays;
 use pres_tree::{Path, Tree};
-use pres_write::{Basic, Items, Moment, Placement};
+use pres_write::{Basic, Items, Moment, Placement, Puts};
 use std::alloc::{AllocError, Global};
 use std::marker::Model;
 use std::slice::from_ref;
@@ -54,17 +56,28 @@ impl Plan {
         }
     }
 
-    /// Its rows.
-    pub fn rows(&self) -> &[PlanRow]
-        ensures rows { result.now ≡ self.now }
+    /// Its rows, in the order of their messages, and those of one message in path order. They take
+    /// no memory.
+    pub fn rows(&self) -> Rows<'_>
+        ensures rows { result ≡ self.now }
         ensures plan { plan_of self.now ≡ self.now }
         ensures few { length self.now ≤ most_rows }
+        ensures in_order { IsStrictlySortedBy row_cmp self.now }
     {
-        self.rows.as_slice()
+        Rows::of(self.rows.as_slice())
     }
 
     /// Whether an update of these places leaves at most `MOST_ROWS` rows.
-    pub fn may_update(&self, placements: &[Placement]) -> bool
+    pub fn may_update(&self, placements: &Puts) -> bool
+        ensures { (q : ℕ) →
+            result ≡ nat_le (length (plan_of (self.now ++ puts q placements.now))) most_rows }
+    {
+        self.has_room(placements.as_slice())
+    }
+
+    // Whether puts of these placements, of which none is at or above another, leave at most
+    // `MOST_ROWS` rows.
+    fn has_room(&self, placements: &[Placement]) -> bool
         requires { overlap (map (λ p. p.0) placements.now) ≡ false }
         ensures { (q : ℕ) →
             result ≡ nat_le (length (plan_of (self.now ++ puts q placements.now))) most_rows }
@@ -92,14 +105,13 @@ impl Plan {
     /// Leaves a draft, in the place of all that was left at the path and below it. Full where the
     /// plan would have more than `MOST_ROWS` rows.
     pub fn put(&mut self, alloc: Global, q: Number, placement: Placement) -> Result<(), PlanFault>
-        // a plan that is held as a map of its paths takes its order from the numbers
-        requires later { All (λ row. row.q < q) self.old }
+        requires last { ComesLast q placement.0 self.old }
         ensures ok { OnOk result (self.new ≡ plan_of (self.old ++ puts q (placement ∷ []))) }
         ensures full { IsErrOf result Full
             ↔ (most_rows < length (plan_of (self.old ++ puts q (placement ∷ [])))) }
         ensures unchanged { OnErr result (self.new ≡ self.old) }
     {
-        if !self.may_update(from_ref(&placement)) {
+        if !self.has_room(from_ref(&placement)) {
             return Err(PlanFault::Full);
         }
         let action = Action::Put(placement);
@@ -108,25 +120,19 @@ impl Plan {
         Ok(())
     }
 
-    /// Leaves drafts at several places, as puts in this order. Full where the plan would have more
+    /// Leaves drafts at several places, as puts in path order. Full where the plan would have more
     /// than `MOST_ROWS` rows.
-    pub fn update(
-        &mut self,
-        alloc: Global,
-        q: Number,
-        placements: Items<Placement>,
-    ) -> Result<(), PlanFault>
-        requires later { All (λ row. row.q < q) self.old }
-        requires apart { overlap (map (λ p. p.0) placements) ≡ false }
+    pub fn update(&mut self, alloc: Global, q: Number, placements: Puts) -> Result<(), PlanFault>
+        requires last { All (λ p. ComesLast q p.0 self.old) placements }
         ensures ok { OnOk result (self.new ≡ plan_of (self.old ++ puts q placements)) }
         ensures full { IsErrOf result Full
             ↔ (most_rows < length (plan_of (self.old ++ puts q placements))) }
         ensures unchanged { OnErr result (self.new ≡ self.old) }
     {
-        if !self.may_update(placements.as_slice()) {
+        if !self.may_update(&placements) {
             return Err(PlanFault::Full);
         }
-        let rows = put_rows(alloc, q, placements)?;
+        let rows = put_rows(alloc, q, placements.into_items())?;
         replace(&mut self.rows, rows)?;
         Ok(())
     }
@@ -134,7 +140,7 @@ impl Plan {
     /// Takes back what was left at the path and below it. Where a put above the path stays, a row
     /// lets the place keep its value; Full where the plan would have more than `MOST_ROWS` rows.
     pub fn cancel(&mut self, alloc: Global, q: Number, path: &Path) -> Result<(), PlanFault>
-        requires later { All (λ row. row.q < q) self.old }
+        requires last { ComesLast q path.now self.old }
         ensures ok { OnOk result (self.new ≡ plan_of (self.old ++ cancels q path.now)) }
         ensures full { IsErrOf result Full
             ↔ (most_rows < length (plan_of (self.old ++ cancels q path.now))) }

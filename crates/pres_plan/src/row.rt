@@ -3,11 +3,11 @@
 ghost use Rattle.std.specs.Prelude.{◌≡◌, IfOk};
 ghost use Rattle.pres_tree.specs.Rows.{Fits, value_at};
 ghost use Rattle.pres_write.specs.Basics.{basic};
-ghost use Rattle.pres_plan.specs.Plans.{path_of, is_put, due_write, due_row};
+ghost use Rattle.pres_plan.specs.Plans.{path_of, is_put, lent_row, due_write, due_row};
 
 use pres_ids::Number;
 use pres_tree::{Path, Tree};
-use pres_write::{Basic, Moment, Placement, settle};
+use pres_write::{Basic, Draft, Moment, Placement, settle};
 use std::alloc::{AllocError, Global};
 
 /// What is left for a place.
@@ -35,16 +35,6 @@ impl Action {
         ensures { result ≡ is_put self.now }
     {
         matches!(self, Action::Put(_))
-    }
-
-    /// An equal action.
-    pub fn copy(&self, alloc: Global) -> Result<Action, AllocError>
-        ensures { IfOk result (λ made. made ≡ self.now) }
-    {
-        match self {
-            Action::Put(placement) => Ok(Action::Put(placement.copy(alloc)?)),
-            Action::Keep(path) => Ok(Action::Keep(path.copy(alloc)?)),
-        }
     }
 
     // The write that it comes to on the tree at the moment.
@@ -91,6 +81,16 @@ pub struct PlanRow {
 }
 
 impl PlanRow {
+    // Its number, its path, and its draft, none where the place keeps its value.
+    pub(crate) fn parts(&self) -> (Number, &Path, Option<&Draft>)
+        ensures { lent_row result ≡ self.now }
+    {
+        match &self.action {
+            Action::Put(placement) => (self.q, placement.path(), Some(placement.draft())),
+            Action::Keep(path) => (self.q, path, None),
+        }
+    }
+
     // The write that it comes to on the tree at the moment, with the number of its message.
     pub(crate) fn due(
         &self,

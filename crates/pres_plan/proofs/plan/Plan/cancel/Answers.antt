@@ -2,7 +2,8 @@ use Rattle.std.proofs.Common.{◌≡◌, ◌≤◌, ◌++◌, List, length, ap, 
 use Rattle.std.specs.List.{list_any}
 use Rattle.pres_plan.specs.declared.row.PlanRow.{PlanRow}
 use Rattle.pres_plan.specs.Plans.{puts_above, plan_of, cancels}
-use Rattle.pres_plan.proofs.Steps.{is_plan, keep_done, clear_done, few_rows, not_refused, out_of_memory}
+use Rattle.pres_plan.proofs.Orders.{cancel_in_order}
+use Rattle.pres_plan.proofs.Steps.{is_plan, is_same_plan, keep_done, clear_done, few_rows, not_refused, out_of_memory}
 use Rattle.pres_plan.proofs.plan.Plan.cancel.Goals as goal
 
 cleared : (c : goal.After-take_back) → (c.take_back.new.rows.items ≡ plan_of (c.args.self.now ++ cancels c.args.q c.args.path.now)) × (length c.take_back.new.rows.items ≤ 256)
@@ -14,7 +15,9 @@ cleared c =
     (step.0 ∙ ap (λ l. plan_of (l ++ cancels c.args.q c.args.path.now)) c.self.view_is, step.1)
 
 pub invariant_of-self : goal.invariant_of-self
-invariant_of-self c = is_plan (c.args.self.now ++ cancels c.args.q c.args.path.now) c.take_back.new.rows.items (cleared c).0 (cleared c).1
+invariant_of-self c =
+    is_plan (c.args.self.now ++ cancels c.args.q c.args.path.now) c.take_back.new.rows.items (cleared c).0 (cleared c).1
+    (cancel_in_order c.args.self.now c.args.q c.args.path.now (is_same_plan c.self.view_is c.self.invariant).in_order c.requires.last)
 
 pub returns-then-not-has_put_above-clause-ok : goal.returns-then-not-has_put_above-clause-ok
 returns-then-not-has_put_above-clause-ok c = (cleared c).0
@@ -34,7 +37,9 @@ few : (c : goal.In_ok-replace) → length (plan_of (c.args.self.now ++ cancels c
 few c = few_rows c.args.self.now (λ q. cancels q c.args.path.now) c.may_cancel.result c.may_cancel.ensures c.if-not-may_cancel.false c.args.q
 
 pub invariant_of-self-2 : goal.invariant_of-self-2
-invariant_of-self-2 c = is_plan (c.args.self.now ++ cancels c.args.q c.args.path.now) c.replace.new.rows.items (done c) (subst (λ (l : List PlanRow). length l ≤ 256) (sym (done c)) (few c))
+invariant_of-self-2 c =
+    is_plan (c.args.self.now ++ cancels c.args.q c.args.path.now) c.replace.new.rows.items (done c) (subst (λ (l : List PlanRow). length l ≤ 256) (sym (done c)) (few c))
+    (cancel_in_order c.args.self.now c.args.q c.args.path.now (is_same_plan c.self.view_is c.self.invariant).in_order c.requires.last)
 
 pub returns-in_err-replace-clause-full : goal.returns-in_err-replace-clause-full
 returns-in_err-replace-clause-full c =

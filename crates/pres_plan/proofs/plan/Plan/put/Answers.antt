@@ -2,31 +2,32 @@ use Rattle.std.proofs.Common.{refl, ◌≡◌, ◌≤◌, [], ◌∷◌, ◌++�
 use Rattle.std.specs.Prelude.{nat_le}
 use Rattle.pres_plan.specs.declared.row.PlanRow.{PlanRow}
 use Rattle.pres_plan.specs.Plans.{plan_of, puts}
-use Rattle.pres_plan.proofs.Steps.{is_plan, puts_done, is_full, few_rows, not_refused, out_of_memory}
+use Rattle.pres_plan.proofs.Orders.{put_in_order}
+use Rattle.pres_plan.proofs.Steps.{is_plan, is_same_plan, puts_done, is_full, few_rows, not_refused, out_of_memory}
 use Rattle.pres_plan.proofs.plan.Plan.put.Goals as goal
 use Rattle.std.proofs.Common.{arith}
 use Rattle.std.proofs.lemmas.Grind.{common_steps}
 
-pub returns-then-not-may_update-clause-full : goal.returns-then-not-may_update-clause-full
-returns-then-not-may_update-clause-full c =
-    is_full c.args.self.now (λ q. puts q (c.args.placement ∷ [])) c.may_update.result
-    (λ q. c.may_update.ensures q ∙ ap (λ ps. nat_le (length (plan_of (c.args.self.now ++ puts q ps))) 256) c.from_ref.ensures.value)
-    c.if-not-may_update.true c.args.q
+pub returns-then-not-has_room-clause-full : goal.returns-then-not-has_room-clause-full
+returns-then-not-has_room-clause-full c =
+    is_full c.args.self.now (λ q. puts q (c.args.placement ∷ [])) c.has_room.result
+    (λ q. c.has_room.ensures q ∙ ap (λ ps. nat_le (length (plan_of (c.args.self.now ++ puts q ps))) 256) c.from_ref.ensures.value)
+    c.if-not-has_room.true c.args.q
 
 pub returns-in_err-one-clause-full : goal.returns-in_err-one-clause-full
 returns-in_err-one-clause-full c =
     out_of_memory c.from_residual.result (length (plan_of (c.args.self.now ++ puts c.args.q (c.args.placement ∷ []))))
-    (few_rows c.args.self.now (λ q. puts q (c.args.placement ∷ [])) c.may_update.result
-    (λ q. c.may_update.ensures q ∙ ap (λ ps. nat_le (length (plan_of (c.args.self.now ++ puts q ps))) 256) c.from_ref.ensures.value)
-    c.if-not-may_update.false c.args.q)
+    (few_rows c.args.self.now (λ q. puts q (c.args.placement ∷ [])) c.has_room.result
+    (λ q. c.has_room.ensures q ∙ ap (λ ps. nat_le (length (plan_of (c.args.self.now ++ puts q ps))) 256) c.from_ref.ensures.value)
+    c.if-not-has_room.false c.args.q)
     c.from_residual.ensures
 
 pub returns-in_err-replace-clause-full : goal.returns-in_err-replace-clause-full
 returns-in_err-replace-clause-full c =
     out_of_memory c.from_residual-in_err-replace.result (length (plan_of (c.args.self.now ++ puts c.args.q (c.args.placement ∷ []))))
-    (few_rows c.args.self.now (λ q. puts q (c.args.placement ∷ [])) c.may_update.result
-    (λ q. c.may_update.ensures q ∙ ap (λ ps. nat_le (length (plan_of (c.args.self.now ++ puts q ps))) 256) c.from_ref.ensures.value)
-    c.if-not-may_update.false c.args.q)
+    (few_rows c.args.self.now (λ q. puts q (c.args.placement ∷ [])) c.has_room.result
+    (λ q. c.has_room.ensures q ∙ ap (λ ps. nat_le (length (plan_of (c.args.self.now ++ puts q ps))) 256) c.from_ref.ensures.value)
+    c.if-not-has_room.false c.args.q)
     c.from_residual-in_err-replace.ensures
 
 done : (c : goal.In_ok-replace) → c.replace.new.rows.items ≡ plan_of (c.args.self.now ++ puts c.args.q (c.args.placement ∷ []))
@@ -36,12 +37,14 @@ done c =
 
 few : (c : goal.In_ok-replace) → length (plan_of (c.args.self.now ++ puts c.args.q (c.args.placement ∷ []))) ≤ 256
 few c =
-    few_rows c.args.self.now (λ q. puts q (c.args.placement ∷ [])) c.may_update.result
-    (λ q. c.may_update.ensures q ∙ ap (λ ps. nat_le (length (plan_of (c.args.self.now ++ puts q ps))) 256) c.from_ref.ensures.value)
-    c.if-not-may_update.false c.args.q
+    few_rows c.args.self.now (λ q. puts q (c.args.placement ∷ [])) c.has_room.result
+    (λ q. c.has_room.ensures q ∙ ap (λ ps. nat_le (length (plan_of (c.args.self.now ++ puts q ps))) 256) c.from_ref.ensures.value)
+    c.if-not-has_room.false c.args.q
 
 pub invariant_of-self-2 : goal.invariant_of-self-2
-invariant_of-self-2 c = is_plan (c.args.self.now ++ puts c.args.q (c.args.placement ∷ [])) c.replace.new.rows.items (done c) (subst (λ (l : List PlanRow). length l ≤ 256) (sym (done c)) (few c))
+invariant_of-self-2 c =
+    is_plan (c.args.self.now ++ puts c.args.q (c.args.placement ∷ [])) c.replace.new.rows.items (done c) (subst (λ (l : List PlanRow). length l ≤ 256) (sym (done c)) (few c))
+    (put_in_order c.args.self.now c.args.q c.args.placement (is_same_plan c.self.view_is c.self.invariant).in_order c.requires.last)
 
 pub returns-clause-ok : goal.returns-clause-ok
 returns-clause-ok c = done c

@@ -3,7 +3,7 @@ use Rattle.std.specs.List.{list_any}
 use Rattle.pres_tree.specs.Paths.{is_prefix}
 use Rattle.pres_plan.specs.Plans.{path_of}
 use Rattle.pres_plan.proofs.Steps.{is_same_plan, length-kept, room_for_puts}
-use Rattle.pres_plan.proofs.plan.Plan.may_update.Goals as goal
+use Rattle.pres_plan.proofs.plan.Plan.has_room.Goals as goal
 
 pub overflow_sub-result : goal.overflow_sub-result
 overflow_sub-result c =

@@ -1,0 +1,52 @@
+//! Walks through the rows of a plan.
+
+ghost use Rattle.std.specs.Prelude.{◌≡◌, length};
+ghost use Rattle.std.specs.Iterator.{at_most};
+ghost use Rattle.std.specs.Map.Iter.{TakesFirst};
+ghost use Rattle.pres_plan.specs.Plans.{lent_row};
+
+use crate::row::PlanRow;
+use pres_ids::Number;
+use pres_tree::Path;
+use pres_write::Draft;
+use std::marker::Model;
+
+/// The rows of a plan that are left to go over, in order: of each the number of the message that
+/// asked for it, its path, and its draft, none where the place keeps its value. Contracts see the
+/// list of the rows.
+#[derive(Drop)]
+pub struct Rows<'a> {
+    rest: &'a [PlanRow],
+}
+
+impl<'a> Model for Rows<'a> {
+    ghost use Rattle.std.specs.Prelude.{List};
+    ghost use Rattle.pres_plan.specs.declared.row.PlanRow.{PlanRow};
+
+    ghost Value = { List PlanRow };
+
+    ghost view = { λ it. it.rest.now };
+}
+
+impl<'a> Rows<'a> {
+    // Those of the list.
+    pub(crate) fn of(rows: &'a [PlanRow]) -> Rows<'a>
+        ensures { result ≡ rows.now }
+    {
+        Rows { rest: rows }
+    }
+}
+
+impl<'a> Iterator for Rows<'a> {
+    type Item = (Number, &'a Path, Option<&'a Draft>);
+
+    ghost next_gives = { TakesFirst lent_row };
+
+    ghost remaining = { λ s. at_most (length s) };
+
+    fn next(&mut self) -> Option<(Number, &'a Path, Option<&'a Draft>)> {
+        let (row, rest) = self.rest.split_first()?;
+        self.rest = rest;
+        Some(row.parts())
+    }
+}
