@@ -6,3 +6,5 @@ pub mod Members
 pub mod Sets
 pub mod Gone
 pub mod Rows
+pub mod Probed
+pub mod Held

@@ -163,7 +163,7 @@ are_with k x ls ps e h =
     (put_has listener_cmp k (λ l. is_place_of l x) e (λ y t. ap (λ m. is_place_of m x) (sym (listener_apart k y t)) ∙ e) ls) ps
     (all_then (λ y. list_any (λ l. is_place_of l y) ls ≡ true) (λ y. list_any (λ l. is_place_of l y) (insert_key listener_cmp ls k) ≡ true) (λ y f. put_keeps listener_cmp k (λ l. is_place_of l y) ls f) ps h)
 
-none_same : (k : Listener) (ls : List Listener) → list_any (same_listener k) ls ≡ false → AllByRecursion (λ l. not (same_listener k l) ≡ true) ls
+pub none_same : (k : Listener) (ls : List Listener) → list_any (same_listener k) ls ≡ false → AllByRecursion (λ l. not (same_listener k l) ≡ true) ls
 none_same k [] h = tt
 none_same k (l ∷ ls) h = let each = or_parts (same_listener k l) _ h in (ap not each.0, none_same k ls each.1)
 

@@ -1,12 +1,12 @@
 //! The places that are listened to, in path order: so whom a write touches is found without those
 //! that listen elsewhere.
 
-ghost use Rattle.std.specs.Prelude.{◌≡◌, Bool, true, not, filter, Some, IfOk, OnOk};
+ghost use Rattle.std.specs.Prelude.{◌≡◌, Bool, true, Some, IfOk, OnOk};
 ghost use Rattle.std.specs.List.{list_any, AllByRecursion};
 ghost use Rattle.std.specs.List.Sorted.{IsStrictlySortedBy};
 ghost use Rattle.pres_tree.specs.Paths.{meet};
-ghost use Rattle.pres_fan.specs.Listeners.{listener_cmp, same_listener, listener_of, is_touched};
-ghost use Rattle.pres_fan.specs.Places.{reaches, is_this, is_place_of, is_one_of};
+ghost use Rattle.pres_fan.specs.Listeners.{listener_cmp, same_listener, is_touched};
+ghost use Rattle.pres_fan.specs.Places.{reaches, is_this, is_place_of};
 ghost use Rattle.pres_fan.specs.declared.listeners.Listener.{Listener};
 
 use crate::listeners::Listener;
@@ -52,49 +52,6 @@ impl Place {
             Some(other) => session == other,
             None => false,
         }
-    }
-
-    // Whether it is the session's at the path.
-    pub(crate) fn is_at(&self, session: &SessionId, path: &Path) -> bool
-        ensures { result ≡ is_place_of (listener_of session.now path.now) self.now }
-    {
-        path == &self.path && self.is_of(session)
-    }
-}
-
-/// Takes the session's place at the path away. Where memory to look it up is refused, all places are
-/// looked through.
-pub(crate) fn remove_place(
-    places: &mut BTreeSet<Place>,
-    alloc: Global,
-    session: &SessionId,
-    path: &Path,
-)
-    ensures { places.new.keys
-        ≡ filter (λ x. not (is_place_of (listener_of session.now path.now) x)) places.old.keys }
-{
-    // it ensures that they are in order
-    let _ = places.len();
-    match Place::of(alloc, path, session) {
-        Ok(place) => {
-            places.remove(&place);
-        }
-        Err(_) => places.retain(|place| !place.is_at(session, path)),
-    }
-}
-
-/// Takes the session's places at the paths away.
-pub(crate) fn remove_places(
-    places: &mut BTreeSet<Place>,
-    alloc: Global,
-    session: &SessionId,
-    paths: &BTreeSet<Path>,
-)
-    ensures { places.new.keys
-        ≡ filter (λ x. not (is_one_of session.now paths.now.keys x)) places.old.keys }
-{
-    for path in paths {
-        remove_place(places, alloc, session, path);
     }
 }
 

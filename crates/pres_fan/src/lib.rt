@@ -6,6 +6,7 @@ mod index;
 pub mod laws;
 mod listeners;
 mod paths;
+mod probes;
 
 pub use fault::FanFault;
 pub use listeners::{Listener, Listeners, MOST_PATHS, Touched};

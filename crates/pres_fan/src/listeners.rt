@@ -8,8 +8,9 @@ ghost use Rattle.pres_fan.specs.declared.fault.FanFault.TheVariants.{Full, Memor
 ghost use Rattle.pres_fan.specs.declared.listeners.Listener.{Listener};
 
 use crate::fault::FanFault;
-use crate::index::{Place, met, remove_place, remove_places};
+use crate::index::{Place, met};
 use crate::paths::SessionPaths;
+use crate::probes::Probes;
 use pres_ids::SessionId;
 use pres_tree::Path;
 use pres_write::{Basic, Items};
@@ -89,23 +90,26 @@ impl Touched {
 /// listeners, in order.
 #[derive(Drop)]
 pub struct Listeners {
-    alloc: Global,
     paths: SessionPaths,
     // Where they listen, by which those that a write touches are found.
     places: BTreeSet<Place>,
+    // In which a session's places are looked up.
+    probes: Probes,
 }
 
 impl Model for Listeners {
     ghost use Rattle.std.specs.Prelude.{List};
     ghost use Rattle.pres_fan.specs.Listeners.{IsListeners};
     ghost use Rattle.pres_fan.specs.Places.{ArePlacesOf};
+    ghost use Rattle.pres_fan.specs.Probes.{HaveProbes};
     ghost use Rattle.pres_fan.specs.declared.listeners.Listener.{Listener};
 
     ghost Value = { List Listener };
 
     ghost view = { λ l. l.paths };
 
-    ghost invariant = { λ l. IsListeners l.paths × ArePlacesOf l.paths l.places.keys };
+    ghost invariant = { λ l. IsListeners l.paths × ArePlacesOf l.paths l.places.keys
+        × HaveProbes l.paths l.probes.places.entries };
 }
 
 impl Listeners {
@@ -114,9 +118,9 @@ impl Listeners {
         ensures { result ≡ [] }
     {
         Listeners {
-            alloc,
             paths: SessionPaths::new(alloc),
             places: BTreeSet::new(alloc),
+            probes: Probes::new(alloc),
         }
     }
 
@@ -151,32 +155,34 @@ impl Listeners {
         if !self.may_listen(session, &path) {
             return Err(FanFault::Full);
         }
+        self.probes.give(alloc, session)?;
         let place = Place::of(alloc, &path, session)?;
         self.paths.add(alloc, session, path)?;
         if let Err(refused) = self.places.insert(place) {
             let place = refused.value;
-            self.paths.remove(session, &place.path);
+            drop(self.paths.remove(session, &place.path));
             return Err(FanFault::Memory);
         }
         Ok(())
     }
 
-    /// The session listens to the place no more. Nothing is refused: where there is no memory to look its
-    /// place up, all places are looked through.
+    /// The session listens to the place no more. It takes no memory, and nothing is refused.
     pub fn off(&mut self, session: &SessionId, path: &Path)
         ensures { self.new ≡ without session.now path.now self.old }
     {
-        self.paths.remove(session, path);
-        remove_place(&mut self.places, self.alloc, session, path);
+        if let Some(path) = self.paths.remove(session, path) {
+            self.probes.remove_place(&mut self.places, session, path);
+        }
     }
 
-    /// The session listens to nothing more, and nothing is refused, as in `off`.
+    /// The session listens to nothing more. It takes no memory, and nothing is refused.
     pub fn drop_session(&mut self, session: &SessionId)
         ensures { self.new ≡ without_session session.now self.old }
     {
         if let Some(paths) = self.paths.remove_session(session) {
-            remove_places(&mut self.places, self.alloc, session, &paths);
+            self.probes.remove_places(&mut self.places, session, paths);
         }
+        self.probes.drop_session(session);
     }
 
     /// The sessions that listen to a place that the writes touch, each once, with those places, in

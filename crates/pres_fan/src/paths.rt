@@ -1,6 +1,6 @@
 //! What each session listens to.
 
-ghost use Rattle.std.specs.Prelude.{List, ◌≡◌, [], length, OnOk, OnErr};
+ghost use Rattle.std.specs.Prelude.{List, ◌≡◌, [], length, is_some, IfSome, OnOk, OnErr};
 ghost use Rattle.std.specs.List.{list_any};
 ghost use Rattle.pres_fan.specs.Listeners.{paths_of, listener_of, same_listener, with_listener, without, without_session};
 ghost use Rattle.pres_fan.specs.Sets.{keys_in};
@@ -81,12 +81,16 @@ impl SessionPaths {
         Ok(())
     }
 
-    // The session listens to the path no more. It takes no memory.
-    pub(crate) fn remove(&mut self, session: &SessionId, path: &Path)
-        ensures { self.new ≡ without session.now path.now self.old }
+    // The session listens to the path no more: the path, if it did. It takes no memory.
+    pub(crate) fn remove(&mut self, session: &SessionId, path: &Path) -> Option<Path>
+        ensures left { self.new ≡ without session.now path.now self.old }
+        ensures path { IfSome result (λ taken. taken ≡ path.now) }
+        ensures listened { is_some result
+            ≡ list_any (same_listener (listener_of session.now path.now)) self.old }
     {
-        if let Some(paths) = self.sets.get_mut(session) {
-            paths.remove(path);
+        match self.sets.get_mut(session) {
+            Some(paths) => paths.take(path),
+            None => None,
         }
     }
 
