@@ -24,3 +24,4 @@ pub mod Follows
 pub mod Anew
 pub mod Replayed
 pub mod Views
+pub mod LastingOns

@@ -1,5 +1,5 @@
 -- What holds of every legal log and of every turn.
-use Rattle.std.specs.Prelude.{◌≡◌, ◌+◌, ◌&&◌, ℕ, Bool, false, List, [], ◌∷◌, ◌++◌, length, take, IsTrue, Option, Some}
+use Rattle.std.specs.Prelude.{◌≡◌, ◌+◌, ◌&&◌, ◌||◌, ℕ, Bool, false, not, List, [], ◌∷◌, ◌++◌, length, take, IsTrue, Option, Some}
 use Rattle.std.specs.List.{list_any, AllByRecursion}
 use Rattle.pres_tree.specs.declared.scalar.Scalar.{Scalar}
 use Rattle.pres_tree.specs.Paths.{Path, same_path}
@@ -17,7 +17,8 @@ use Rattle.pres_log.specs.declared.entry.Entry.TheVariants as entry
 use Rattle.pres_log.specs.Logs.{Log, entries, tree}
 use Rattle.pres_server.specs.declared.input.Input.{Input}
 use Rattle.pres_server.specs.Heard.{State}
-use Rattle.pres_server.specs.Sessions.{is_open}
+use Rattle.pres_server.specs.Sessions.{is_open, own}
+use Rattle.pres_server.specs.Listening.{listened}
 use Rattle.pres_server.specs.SessionPlans.{due_at}
 use Rattle.pres_server.specs.Streams.{stream, sent_for, numbered_from}
 use Rattle.pres_wire.specs.Views.{told, seen_in}
@@ -72,3 +73,22 @@ pub record ViewIsTrue (s : SessionId) (q : ℕ) (p : Path) (before later : List 
 -- From the Snap that answers an On, with no later Off of its path, each view is the value at its own number.
 abbrev pub ViewsAreTrue : SessionId → ℕ → Path → List Entry → List Entry → Type 0
 ViewsAreTrue s q p before later = IsTrue (is_open s before) → list_any (unlistens s p) later ≡ false → ViewIsTrue s q p before later
+
+-- the entry is an On of p
+abbrev pub is_on : Path → Entry → Bool
+is_on p (entry.On t q path) = same_path path p
+is_on p _ = false
+
+-- the entry is an Off of p
+abbrev pub is_off : Path → Entry → Bool
+is_off p (entry.Off t q path) = same_path path p
+is_off p _ = false
+
+-- an On of p with no later Off of it
+abbrev pub has_lasting_on : Path → List Entry → Bool
+has_lasting_on p [] = false
+has_lasting_on p (e ∷ later) = (is_on p e && not (list_any (is_off p) later)) || has_lasting_on p later
+
+-- A session listens to a path exactly where its own entries have an On of it with no later Off of it.
+abbrev pub ListensByOns : SessionId → Path → List Entry → Type 0
+ListensByOns s p es = list_any (same_path p) (listened s es) ≡ has_lasting_on p (own s es)

@@ -139,7 +139,7 @@ impl Index {
         let Some(live) = self.places.session(&session.client) else {
             return false;
         };
-        self.comes_next(session, q) && live.plan().may_update(puts.as_slice())
+        self.comes_next(session, q) && live.plan().may_update(puts)
     }
 
     // Whether the open session may take back what it left at the path, by its next message.

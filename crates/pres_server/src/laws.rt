@@ -8,7 +8,7 @@ ghost use Rattle.pres_log.specs.declared.entry.Batch.{Batch};
 ghost use Rattle.pres_log.specs.declared.entry.Entry.{Entry};
 ghost use Rattle.pres_server.specs.declared.input.Input.{Input};
 ghost use Rattle.pres_server.specs.Heard.{State};
-ghost use Rattle.pres_server.specs.Laws.{TurnIsLegal, LegalIsSound, StreamSteps, StreamGrows, EndsAreDue, StreamTells, ViewsAreTrue};
+ghost use Rattle.pres_server.specs.Laws.{TurnIsLegal, LegalIsSound, StreamSteps, StreamGrows, EndsAreDue, StreamTells, ViewsAreTrue, ListensByOns};
 
 /// A turn on a legal log leaves a legal log.
 pub fn turns_are_legal()
@@ -48,4 +48,11 @@ pub fn streams_tell_the_tree()
 pub fn views_are_true()
     ensures { (session : SessionId) (q : ℕ) (path : Path) (before later : List Entry)
         → ViewsAreTrue session q path before later }
+{}
+
+/// A session listens to a path exactly where its own entries have an On of it with no later Off of
+/// it.
+pub fn ons_last_until_their_offs()
+    ensures { (session : SessionId) (path : Path) (es : List Entry)
+        → ListensByOns session path es }
 {}

@@ -68,7 +68,7 @@ fn leave_in(
     ensures session { OnOk result
         (Some live.new ≡ live_after moment (entry.Left session.now q puts) (Some live.old)) }
 {
-    match live.plan_mut().update(alloc, q, puts.into_items()) {
+    match live.plan_mut().update(alloc, q, puts) {
         Ok(()) => Ok(answer_in(live, moment)),
         Err(PlanFault::Memory) => Err(Reopen),
         Err(PlanFault::Full) => unreachable!(),

@@ -356,7 +356,7 @@ impl Index {
         let Some(live) = self.places.session(&session.client) else {
             unreachable!()
         };
-        if live.plan().may_update(puts.as_slice()) {
+        if live.plan().may_update(&puts) {
             return Entry::Left { session, q, puts };
         }
         let why = Limit::Plan;
