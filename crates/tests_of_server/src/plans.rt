@@ -4,18 +4,16 @@
 //! case of room is how many puts were left, and one action more; it answers whether there is room,
 //! why the action is refused, and how many rows there are then.
 
-ghost use Rattle.std.specs.Prelude.{◌≡◌, ◌<◌, false, map, All, IsTrue};
-ghost use Rattle.pres_tree.specs.Paths.{overlap};
+ghost use Rattle.std.specs.Prelude.{◌<◌, All, IsTrue};
 
 use crate::said::{expect_said, expect_text};
-use pres_plan::{Action, Plan, PlanFault};
+use pres_plan::{Plan, PlanFault};
 use pres_tree::{Path, Tree, TreeJson};
 use pres_wire::Number;
-use pres_write::{Basic, Draft, DraftJson, Items, Moment, Placement, apply};
+use pres_write::{Basic, Draft, DraftJson, Moment, Placement, Puts, apply};
 use serde_json::Value;
 use std::alloc::Global;
 use std::process::Abort;
-use std::slice::from_ref;
 
 // What a line of a table is about.
 #[derive(Clone, Copy)]
@@ -57,34 +55,32 @@ fn placement(rt: &impl Abort, alloc: Global, text: &str) -> Placement {
     Placement::new(path, draft).expect(rt, "a placement")
 }
 
-// Two placements that don't meet.
-fn pair(rt: &impl Abort, alloc: Global, first: Placement, second: Placement) -> Items<Placement>
-    ensures { overlap (map (λ p. p.0) result) ≡ false }
-{
-    let (above, below) = (first.path(), second.path());
-    if above.is_prefix_of(below) || below.is_prefix_of(above) {
-        panic!(rt; "places that meet");
-    }
+// The one put of a path and a value.
+fn one_put(rt: &impl Abort, alloc: Global, text: &str) -> Puts {
     let mut places = Vec::new(alloc);
-    places.push(first).expect(rt, "memory");
-    places.push(second).expect(rt, "memory");
-    Items::of(places)
+    places.push(placement(rt, alloc, text)).expect(rt, "memory");
+    Puts::new(places).expect(rt, "a put")
 }
 
-// Two placements behind one another.
-fn placements(rt: &impl Abort, alloc: Global, text: &str) -> Items<Placement>
-    ensures { overlap (map (λ p. p.0) result) ≡ false }
-{
+// Two puts behind one another.
+fn two_puts(rt: &impl Abort, alloc: Global, text: &str) -> Puts {
     let (first, second) = text.split_once(", ").expect(rt, "two places");
-    let first = placement(rt, alloc, first);
-    pair(rt, alloc, first, placement(rt, alloc, second))
+    let mut places = Vec::new(alloc);
+    places.push(placement(rt, alloc, first)).expect(rt, "memory");
+    places.push(placement(rt, alloc, second)).expect(rt, "memory");
+    Puts::new(places).expect(rt, "places in path order, and apart")
 }
 
 // Whether the number is later than that of each row.
 fn is_later(plan: &Plan, q: Number) -> bool
     ensures { IsTrue result → All (λ row. row.q < q) plan.now }
 {
-    plan.rows().iter().all(|row| row.q < q)
+    for (number, _, _) in plan.rows() {
+        if number >= q {
+            return false;
+        }
+    }
+    true
 }
 
 // Why the action is refused, where it is.
@@ -100,7 +96,7 @@ fn refusal(
     }
     match action.split_once(' ') {
         Some(("put", text)) => plan.put(alloc, q, placement(rt, alloc, text)).err(),
-        Some(("update", text)) => plan.update(alloc, q, placements(rt, alloc, text)).err(),
+        Some(("update", text)) => plan.update(alloc, q, two_puts(rt, alloc, text)).err(),
         Some(("cancel", text)) => plan
             .cancel(alloc, q, &Path::parse(alloc, text).expect(rt, "a path"))
             .err(),
@@ -126,25 +122,12 @@ fn left(rt: &impl Abort, alloc: Global, actions: &str) -> Plan {
     plan
 }
 
-fn kind(action: &Action) -> &'static str {
-    if action.is_put() { "put" } else { "keep" }
-}
-
-// The same of a copy.
-fn copied_kind(rt: &impl Abort, alloc: Global, action: &Action) -> &'static str {
-    let copied = action.copy(alloc).expect(rt, "memory");
-    let kind = kind(&copied);
-    drop(copied);
-    kind
-}
-
 // The kinds of the rows.
 fn kinds(rt: &impl Abort, alloc: Global, plan: &Plan) -> String {
     let mut text = String::new(alloc);
-    for row in plan.rows() {
-        text.push_str(copied_kind(rt, alloc, &row.action))
-            .expect(rt, "memory");
-        text.push(' ').expect(rt, "memory");
+    for (_, _, draft) in plan.rows() {
+        let kind = if draft.is_some() { "put " } else { "keep " };
+        text.push_str(kind).expect(rt, "memory");
     }
     text
 }
@@ -216,8 +199,8 @@ fn filled(rt: &impl Abort, alloc: Global, rows: u64) -> Plan {
 // Whether the plan has room for the action.
 fn has_room(rt: &impl Abort, alloc: Global, plan: &Plan, action: &str) -> bool {
     match action.split_once(' ') {
-        Some(("put", text)) => plan.may_update(from_ref(&placement(rt, alloc, text))),
-        Some(("update", text)) => plan.may_update(placements(rt, alloc, text).as_slice()),
+        Some(("put", text)) => plan.may_update(&one_put(rt, alloc, text)),
+        Some(("update", text)) => plan.may_update(&two_puts(rt, alloc, text)),
         Some(("cancel", text)) => plan.may_cancel(&Path::parse(alloc, text).expect(rt, "a path")),
         _ => panic!(rt; "no action"),
     }
@@ -227,7 +210,7 @@ fn has_room(rt: &impl Abort, alloc: Global, plan: &Plan, action: &str) -> bool {
 fn refused(rt: &impl Abort, alloc: Global, mut plan: Plan, action: &str) -> String {
     let q = Number::new(300).expect(rt, "a number");
     let fault = refusal(rt, alloc, &mut plan, q, action);
-    format!(in alloc; "{fault:?} {}", plan.rows().len()).expect(rt, "memory")
+    format!(in alloc; "{fault:?} {}", plan.rows().count()).expect(rt, "memory")
 }
 
 // Whether a plan of so many puts has room for the action, and what the action comes to.
