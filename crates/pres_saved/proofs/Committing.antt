@@ -124,10 +124,10 @@ module _ {S : Type 0} (g : Ghosts S) (old new : Kept S) where
           by (Ok _) h = kept_more before after old.last log b s low text h keeps (count ready (worked survives works) keeps) one
           by (Err e) h = tt
 
-      pub crashed : IsReady g old → KeepsLog g old log → Survives before after (λ db. IsTrue before.is_open → db 2 ≡ rows_in before ++ stored (old.last + 1) s ∷ [])
+      pub crashed : IsReady g old → KeepsLog g old log → Survives before after (λ db. IsTrue before.is_open × (db 2 ≡ rows_in before ++ stored (old.last + 1) s ∷ []))
           → LeavesLog g old log b new
       crashed ready keeps survives =
           survives_weaker before after _ _
-          (λ clean db rows works. ap (λ found. saved_log (map shown_row found)) (rows works.is_open)
+          (λ clean db rows works. ap (λ found. saved_log (map shown_row found)) rows.1
           ∙ kept_next (rows_in before) old.last log b s low text keeps (count ready works keeps) one)
           survives

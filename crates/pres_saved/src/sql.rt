@@ -4,7 +4,7 @@ ghost use Rattle.std.specs.Prelude.{◌≡◌, ◌≤◌, ◌⊎◌, [], false, 
 ghost use Rattle.sqlite.specs.Held.{state};
 ghost use Rattle.sqlite.specs.State.{HasCleanDisk, Survives};
 ghost use Rattle.sqlite.specs.View.{doubt};
-ghost use Rattle.pres_table.specs.Kept.{Serves, IsLeft, IsOurs};
+ghost use Rattle.pres_table.specs.Kept.{Serves, IsSame, IsLeft, IsOurs};
 ghost use Rattle.pres_table.specs.Made.{HoldsFormat, Makes, FailsToMake, making_fault};
 ghost use Rattle.pres_table.specs.Opened.{HasFormat, LacksFormat};
 ghost use Rattle.pres_table.specs.Schemas.{no_schema};
@@ -84,7 +84,7 @@ impl<S: Alter + Drop> SqlKeeper<S> {
 
     /// Finds the tables that `create` made, with their rows. NotOurs where the statement that asks
     /// for the format isn't understood or has no answer, Version where it answers another format
-    /// than 1.
+    /// than 1. Whatever the database holds stays as it was.
     pub fn open(
         alloc: Global,
         connection: Connection<S>,
@@ -103,8 +103,9 @@ impl<S: Alter + Drop> SqlKeeper<S> {
         ensures err { IfErr result (λ e. HasCleanDisk (state S.Store e.1)
             → ((mid : _) × LacksFormat (state S.Store connection) (state S.Store mid) e.0)
             ⊎ ((e.0 ≡ SavedFault.Memory) ⊎ (e.0 ≡ SavedFault.Database))) }
+        ensures same { IfOk result (λ k. HasCleanDisk (state S.Store k.connection)
+            → IsSame (state S.Store connection) (state S.Store k.connection)) }
         ensures left { IfErr result (λ e. HasCleanDisk (state S.Store e.1)
-            → IsOurs (state S.Store connection)
             → IsLeft (state S.Store connection) (state S.Store e.1)) }
     {
         match Table::open(connection) {
@@ -126,9 +127,8 @@ impl<S: Alter + Drop> SqlKeeper<S> {
         ensures shut { Serves S.Store self.old → WasShut S.Store self.old self.new
             → is_ok result ≡ false }
         ensures last { self.new.last ≡ self.old.last }
-        ensures crash { Serves S.Store self.old
-            → Survives (state S.Store self.old.connection) (state S.Store self.new.connection)
-            (λ _. IsTrue (state S.Store self.old.connection).is_open → ⊥) }
+        ensures crash { Survives (state S.Store self.old.connection)
+            (state S.Store self.new.connection) (λ _. ⊥) }
         ensures serves { Serves S.Store self.old → Serves S.Store self.new }
     {
         let mut all = Batches {
@@ -156,9 +156,8 @@ impl<S: Alter + Drop> SqlKeeper<S> {
         ensures shut { Serves S.Store self.old → WasShut S.Store self.old self.new
             → is_ok result ≡ false }
         ensures last { self.new.last ≡ self.old.last }
-        ensures crash { Serves S.Store self.old
-            → Survives (state S.Store self.old.connection) (state S.Store self.new.connection)
-            (λ _. IsTrue (state S.Store self.old.connection).is_open → ⊥) }
+        ensures crash { Survives (state S.Store self.old.connection)
+            (state S.Store self.new.connection) (λ _. ⊥) }
         ensures serves { Serves S.Store self.old → Serves S.Store self.new }
     {
         let mut made = Remaking {
