@@ -1,5 +1,5 @@
 -- How the tables are found.
-use Rattle.std.proofs.Common.{◌≡◌, ◌⊎◌, inl, inr, ℕ, ◌+◌, ◌<◌, ◌≤◌, ◌^◌, max, ℤ, negsuc, IfSome, List, [], ◌∷◌, ◌++◌, map, Option, Some, None, unwrap_or, Result, Ok, Err, IfOk, OnOk, pos, false, refl, sym, ap, subst, ◌∙◌, arith, Less}
+use Rattle.std.proofs.Common.{◌≡◌, inl, inr, ℕ, ◌+◌, ◌<◌, ◌≤◌, ◌^◌, max, ℤ, negsuc, IfSome, List, [], ◌∷◌, ◌++◌, map, Option, Some, None, unwrap_or, Result, Ok, Err, IfOk, OnOk, pos, false, refl, sym, ap, subst, ◌∙◌, arith, Less}
 use Rattle.std.specs.List.{AllByRecursion}
 use Rattle.std.proofs.lemmas.Bool.{cases_lt}
 use Rattle.sqlite.specs.Store.{Ghosts}

@@ -1,8 +1,8 @@
-use Rattle.std.proofs.Common.{rules, ◌≡◌, false, inl, inr, [], IsTrue, arith, subst, sym, ◌∙◌, to_z, w64, pos}
+use Rattle.std.proofs.Common.{rules, ◌≡◌, false, inl, inr, [], IsTrue, arith, subst, to_z, w64, pos}
 use Rattle.std.proofs.lemmas.Int.{ints}
 use Rattle.std.proofs.lemmas.Grind.{common_steps}
 use Rattle.sqlite.specs.Held.{state}
-use Rattle.sqlite.specs.State.{HasCleanDisk, IsUnchanged, IsRolledBack, Survives, CommitsBy, IsNotRun}
+use Rattle.sqlite.specs.State.{HasCleanDisk, IsUnchanged, Survives, CommitsBy}
 use Rattle.sqlite.proofs.StateLemmas.{survives_weaker}
 use Rattle.pres_table.specs.Kept.{IsLeft}
 use Rattle.pres_table.specs.Saved.{Saved}
