@@ -1,5 +1,5 @@
 -- The first line that is slow, and the first that is marked.
-use Rattle.std.proofs.Common.{refl, sym, ◌∙◌, ap, subst, ◌≡◌, ◌<◌, ℕ, suc, Bool, true, false, not, cond, ◌&&◌, true≢false, Option, Some, None, is_some, is_eq, option_map, IfSome, List, [], ◌∷◌, filter, length, arith}
+use Rattle.std.proofs.Common.{refl, sym, ◌∙◌, ap, subst, ◌≡◌, ◌<◌, ℕ, suc, Bool, true, false, not, cond, ◌&&◌, true≢false, Less, Option, Some, None, is_some, is_eq, option_map, IfSome, List, [], ◌∷◌, filter, length, arith}
 use Rattle.std.specs.Prelude.{IsSomeAnd, IfNone}
 use Rattle.std.specs.Option.{option_or}
 use Rattle.std.specs.Map.{keys_of, lookup, remove_entry, set_value}
@@ -8,7 +8,7 @@ use Rattle.std.specs.BTreeMap.{is_at}
 use Rattle.std.specs.Cmp.{eq_by_cmp_equiv}
 use Rattle.std.specs.List.Sorted.{IsStrictlySortedBy}
 use Rattle.std.proofs.lemmas.Map.{lookup-none}
-use Rattle.std.proofs.lemmas.Map.Entries.{none_past_head}
+use Rattle.std.proofs.lemmas.Map.Entries.{none_past_head, none_below_head}
 use Rattle.std.proofs.lemmas.Map.Keys.{sorted_tail, IsDistinct-from_sorted}
 use Rattle.pres_ids.specs.declared.id.SessionId.{SessionId}
 use Rattle.pres_ids.specs.declared.id.Why.{Why}
@@ -17,7 +17,7 @@ use Rattle.pres_ids.specs.Ids.{same_session}
 use Rattle.pres_fan.specs.Listeners.{session_cmp}
 use Rattle.pres_fan.proofs.Orders.{session_total, session_same, session_itself, same_by_cmp}
 use Rattle.pres_lines.specs.declared.place.Place.{Place}
-use Rattle.pres_lines.specs.Lines.{Line, Lines, line_at, is_slow, marked, first_slow, first_marked, mark_first_slow, unmarked, ChangesAt}
+use Rattle.pres_lines.specs.Lines.{Line, Lines, line_at, is_slow, marked, first_slow, first_marked, mark_first_slow, unmarked, IsFirst, IsFirstSlow, IsFirstMarked, ChangesAt}
 use Rattle.pres_lines.specs.Places.{line_of, lines_of, IsOwn}
 
 -- ---- lines in order
@@ -71,7 +71,39 @@ each_behind P s e lines p q = subst (λ o. IfSome o P) (sym (head_line s e lines
   by true = p
   by false = q
 
+-- a session before the first one in order has no line
+none_below : (t : SessionId) (e : SessionId × Line) (lines : Lines) → InOrder (e ∷ lines) → session_cmp t e.0 ≡ Less → line_at t (e ∷ lines) ≡ None
+none_below t e lines h less = find_lookup t (e ∷ lines) ∙ lookup-none (is_at (session_cmp t)) (e ∷ lines) (none_below_head session_total t e lines h less)
+
+-- ---- the first that is such a one
+
+abbrev first_such : (Line → Bool) → Lines → Option SessionId
+first_such such [] = None
+first_such such (e ∷ lines) = cond (such e.1) (Some e.0) (first_such such lines)
+
+such_is_first : (such : Line → Bool) (lines : Lines) → InOrder lines → IfSome (first_such such lines) (λ s. IsFirst such s lines)
+such_is_first such [] h = tt
+such_is_first such (e ∷ lines) h = by (such e.1) refl (such_is_first such lines (tail_in_order e lines h)) where
+  by : (b : Bool) → such e.1 ≡ b → IfSome (first_such such lines) (λ s. IsFirst such s lines) → IfSome (cond b (Some e.0) (first_such such lines)) (λ s. IsFirst such s (e ∷ lines))
+  by true k r = record {
+    is = at_head (λ l. such l ≡ true) e lines k;
+    none_before = λ t less. subst (λ o. IfSome o (λ l. such l ≡ false)) (sym (none_below t e lines h less)) tt;
+  }
+  by false k r = on (first_such such lines) r where
+    on : (o : Option SessionId) → IfSome o (λ s. IsFirst such s lines) → IfSome o (λ s. IsFirst such s (e ∷ lines))
+    on None q = tt
+    on (Some s) q = record {
+      is = behind (λ l. such l ≡ true) s e lines h q.is;
+      none_before = λ t less. each_behind (λ l. such l ≡ false) t e lines k (q.none_before t less);
+    }
+
 -- ---- the first that is slow
+
+pub slow_is_first : (lines : Lines) → InOrder lines → IfSome (first_slow lines) (λ s. IsFirstSlow s lines)
+slow_is_first lines h = subst (λ o. IfSome o (λ s. IsFirstSlow s lines)) (sym (same lines)) (such_is_first is_slow lines h) where
+  same : (ls : Lines) → first_slow ls ≡ first_such is_slow ls
+  same [] = refl
+  same (e ∷ ls) = ap (cond (is_slow e.1) (Some e.0)) (same ls)
 
 pub slow_line : (lines : Lines) → InOrder lines → IfSome (first_slow lines) (λ s. IsSomeAnd (line_at s lines) (λ l. is_slow l ≡ true))
 slow_line [] h = tt
@@ -192,6 +224,24 @@ marked_line (e ∷ lines) h = by e.1.mark refl (marked_line lines (tail_in_order
     on : (o : Option (SessionId × Why)) → IfSome o (λ x. IsSomeAnd (line_at x.0 lines) (λ l. l.mark ≡ Some x.1)) → IfSome o (λ x. IsSomeAnd (line_at x.0 (e ∷ lines)) (λ l. l.mark ≡ Some x.1))
     on None q = tt
     on (Some x) q = behind (λ l. l.mark ≡ Some x.1) x.0 e lines h q
+
+pub marked_is_first : (lines : Lines) → InOrder lines → IfSome (first_marked lines) (λ e. IsFirstMarked e lines)
+marked_is_first lines h = on (first_marked lines) (marked_line lines h) (subst (λ o. IfSome o (λ s. IsFirst has_mark s lines)) (sym (same lines)) (such_is_first has_mark lines h)) where
+  has_mark : Line → Bool
+  has_mark l = is_some l.mark
+
+  same : (ls : Lines) → option_map (λ (e : SessionId × Why). e.0) (first_marked ls) ≡ first_such has_mark ls
+  same [] = refl
+  same (e ∷ ls) = by e.1.mark (same ls) where
+    by : (o : Option Why) → option_map (λ (x : SessionId × Why). x.0) (first_marked ls) ≡ first_such has_mark ls
+        → option_map (λ (x : SessionId × Why). x.0) (option_or (option_map (λ w. (e.0, w)) o) (first_marked ls)) ≡ cond (is_some o) (Some e.0) (first_such has_mark ls)
+    by (Some w) r = refl
+    by None r = r
+
+  on : (o : Option (SessionId × Why)) → IfSome o (λ x. IsSomeAnd (line_at x.0 lines) (λ l. l.mark ≡ Some x.1)) → IfSome (option_map (λ (x : SessionId × Why). x.0) o) (λ s. IsFirst has_mark s lines)
+      → IfSome o (λ e. IsFirstMarked e lines)
+  on None why first = tt
+  on (Some e) why first = record { first = first; why = why }
 
 pub none_marked : (lines : Lines) → is_some (first_marked lines) ≡ false → (s : SessionId) → IfSome (line_at s lines) (λ l. l.mark ≡ None)
 none_marked [] h s = tt

@@ -1,6 +1,7 @@
 -- What is known of each session's ring, by session.
-use Rattle.std.specs.Prelude.{◌≡◌, ◌&&◌, ℕ, Bool, not, if◌then◌else◌, List, [], ◌∷◌, filter, length, Option, Some, None, is_some, unwrap_or}
+use Rattle.std.specs.Prelude.{◌≡◌, ◌&&◌, ℕ, Bool, true, false, not, if◌then◌else◌, List, [], ◌∷◌, filter, length, Option, Some, None, is_some, unwrap_or, IfSome, IsSomeAnd}
 use Rattle.std.specs.Option.{option_map, option_or}
+use Rattle.std.specs.declared.cmp.Ordering.TheVariants.{Less}
 use Rattle.std.specs.FinMap.Entries.{find}
 use Rattle.pres_ids.specs.declared.id.SessionId.{SessionId}
 use Rattle.pres_ids.specs.declared.id.Why.{Why}
@@ -61,6 +62,20 @@ mark_first_slow (e ∷ lines) = if is_slow e.1 then (e.0, marked why.Slow e.1) �
 abbrev pub first_marked : Lines → Option (SessionId × Why)
 first_marked [] = None
 first_marked (e ∷ lines) = option_or (option_map (λ w. (e.0, w)) e.1.mark) (first_marked lines)
+
+-- the line of s is such a one, and none of a session before it in order is
+pub record IsFirst (such : Line → Bool) (s : SessionId) (lines : Lines) : Type 0 where
+  pub is : IsSomeAnd (line_at s lines) (λ l. such l ≡ true)
+  pub none_before : (t : SessionId) → session_cmp t s ≡ Less → IfSome (line_at t lines) (λ l. such l ≡ false)
+
+-- s is the first session in order whose line is slow
+abbrev pub IsFirstSlow : SessionId → Lines → Type 0
+IsFirstSlow s lines = IsFirst is_slow s lines
+
+-- the session is the first in order whose line is marked, for this reason
+pub record IsFirstMarked (e : SessionId × Why) (lines : Lines) : Type 0 where
+  pub first : IsFirst (λ l. is_some l.mark) e.0 lines
+  pub why : IsSomeAnd (line_at e.0 lines) (λ l. l.mark ≡ Some e.1)
 
 -- how many lines have no mark
 abbrev pub unmarked : Lines → ℕ

@@ -7,7 +7,7 @@ ghost use Rattle.pres_ids.specs.declared.id.SessionId.{SessionId};
 ghost use Rattle.pres_ids.specs.declared.id.Why.TheVariants.{Slow};
 ghost use Rattle.pres_fan.specs.Listeners.{session_cmp};
 ghost use Rattle.pres_ring.specs.Told.{is_gone};
-ghost use Rattle.pres_lines.specs.Lines.{line_at, has_line, fed, is_slow, struck, marked, first_slow, first_marked, mark_first_slow, unmarked, kept_or_blank, ChangesAt};
+ghost use Rattle.pres_lines.specs.Lines.{line_at, has_line, fed, is_slow, struck, marked, first_slow, first_marked, mark_first_slow, unmarked, kept_or_blank, IsFirstSlow, IsFirstMarked, ChangesAt};
 ghost use Rattle.pres_lines.specs.Steps.{IsToldWith, LineAfter, LineFits};
 
 use crate::place::Place;
@@ -180,8 +180,7 @@ impl Lines {
     pub fn next_slow(&mut self, alloc: Global) -> Option<Result<SessionId, AllocError>>
         ensures found { is_some result ≡ is_some (first_slow self.old) }
         ensures session { IfSome result (λ r. IfOk r (λ s. first_slow self.old ≡ Some s)) }
-        ensures slow { IfSome (first_slow self.old)
-            (λ s. IsSomeAnd (line_at s self.old) (λ l. is_slow l ≡ true)) }
+        ensures first { IfSome (first_slow self.old) (λ s. IsFirstSlow s self.old) }
         ensures marked { IfSome (first_slow self.old)
             (λ s. ChangesAt s (option_map (marked Slow)) self.old self.new) }
         ensures fewer { IfSome result (λ r. unmarked self.new < unmarked self.old) }
@@ -234,8 +233,7 @@ impl Lines {
     pub fn first_marked(&self, alloc: Global) -> Option<Result<(SessionId, Why), AllocError>>
         ensures found { is_some result ≡ is_some (first_marked self.now) }
         ensures session { IfSome result (λ r. IfOk r (λ e. first_marked self.now ≡ Some e)) }
-        ensures line { IfSome (first_marked self.now)
-            (λ e. IsSomeAnd (line_at e.0 self.now) (λ l. l.mark ≡ Some e.1)) }
+        ensures first { IfSome (first_marked self.now) (λ e. IsFirstMarked e self.now) }
         ensures none { IfNone result
             ((s : SessionId) → IfSome (line_at s self.now) (λ l. l.mark ≡ None)) }
         ensures ordered { IsStrictlySortedBy session_cmp (keys_of self.now) }

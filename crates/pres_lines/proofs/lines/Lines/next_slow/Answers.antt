@@ -1,8 +1,7 @@
 use Rattle.std.proofs.Common.{◌≡◌, ◌<◌, ◌∙◌, ap, subst, sym, true, is_some, None, IfSome, option_map}
-use Rattle.std.specs.Prelude.{IsSomeAnd}
 use Rattle.pres_ids.specs.declared.id.Why.TheVariants.{Slow}
-use Rattle.pres_lines.specs.Lines.{Lines, line_at, is_slow, marked, first_slow, unmarked, ChangesAt}
-use Rattle.pres_lines.proofs.Firsts.{none_of, slow_line, slow_marked, slow_fewer, none_slow, if_some, if_none}
+use Rattle.pres_lines.specs.Lines.{Lines, marked, first_slow, unmarked, IsFirstSlow, ChangesAt}
+use Rattle.pres_lines.proofs.Firsts.{none_of, slow_is_first, slow_marked, slow_fewer, none_slow, if_some, if_none}
 use Rattle.pres_lines.proofs.lines.Lines.next_slow.Goals as goal
 use Rattle.std.proofs.Common.{arith}
 use Rattle.std.proofs.lemmas.Grind.{common_steps}
@@ -14,9 +13,9 @@ none_known new now is none = ap first_slow (sym is) ∙ none
 pub returns-then-self-clause-found : goal.returns-then-self-clause-found
 returns-then-self-clause-found c = sym (ap is_some (none_known _ _ c.self.view_is (c.self.invariant.1 c.if-self.true)))
 
-pub returns-then-self-clause-slow : goal.returns-then-self-clause-slow
-returns-then-self-clause-slow c =
-    subst (λ o. IfSome o (λ s. IsSomeAnd (line_at s c.args.self.now) (λ l. is_slow l ≡ true))) (sym (none_known _ _ c.self.view_is (c.self.invariant.1 c.if-self.true))) tt
+pub returns-then-self-clause-first : goal.returns-then-self-clause-first
+returns-then-self-clause-first c =
+    subst (λ o. IfSome o (λ s. IsFirstSlow s c.args.self.now)) (sym (none_known _ _ c.self.view_is (c.self.invariant.1 c.if-self.true))) tt
 
 pub returns-then-self-clause-marked : goal.returns-then-self-clause-marked
 returns-then-self-clause-marked c =
@@ -31,8 +30,8 @@ invariant_of-self c = (
   λ _. ap first_slow c.self.view_is ∙ none_of (first_slow c.args.self.now) (sym c.first_slow-found.ensures.found ∙ sym c.is_some.ensures ∙ c.if-is_some.false),
 )
 
-pub returns-then-is_some-clause-slow : goal.returns-then-is_some-clause-slow
-returns-then-is_some-clause-slow c = slow_line c.args.self.now c.mark_first_slow.ensures.ordered
+pub returns-then-is_some-clause-first : goal.returns-then-is_some-clause-first
+returns-then-is_some-clause-first c = slow_is_first c.args.self.now c.mark_first_slow.ensures.ordered
 
 pub returns-then-is_some-clause-marked : goal.returns-then-is_some-clause-marked
 returns-then-is_some-clause-marked c =
@@ -51,5 +50,5 @@ returns-else-is_some-clause-none_slow c = if_none _ _ (none_slow c.args.self.now
 pub returns-then-is_some-clause-none_slow : goal.returns-then-is_some-clause-none_slow
 returns-then-is_some-clause-none_slow c = grind (arith, common_steps)
 
-pub returns-else-is_some-clause-slow : goal.returns-else-is_some-clause-slow
-returns-else-is_some-clause-slow c = grind (arith, common_steps)
+pub returns-else-is_some-clause-first : goal.returns-else-is_some-clause-first
+returns-else-is_some-clause-first c = grind (arith, common_steps)
