@@ -1,5 +1,5 @@
 -- A session that is opened: its Welcome is the last of the answers, and alone for it.
-use Rattle.std.proofs.Common.{refl, sym, ◌∙◌, ap, subst, ◌≡◌, ℕ, List, [], ◌∷◌, ◌++◌, Bool, true, false, not, ◌&&◌, ◌||◌, cond, append_assoc, append-nil, Option, Some, None, is_some, IfSome}
+use Rattle.std.proofs.Common.{refl, sym, ◌∙◌, ap, subst, ◌≡◌, ◌≤◌, ◌+◌, ℕ, List, [], ◌∷◌, ◌++◌, length, Bool, true, false, not, ◌&&◌, ◌||◌, cond, append_assoc, append-nil, Option, Some, None, is_some, IfSome}
 use Rattle.std.specs.List.{list_any}
 use Rattle.std.proofs.lemmas.List.Folds.{list_any-append}
 use Rattle.pres_ids.specs.declared.id.SessionId.{SessionId}
@@ -28,7 +28,7 @@ use Rattle.pres_ring.proofs.OpenAfter.{open_after}
 use Rattle.pres_ring.proofs.Turns.{only_hello_opens, hello_is_not_quiet}
 use Rattle.pres_ring.proofs.Welcomed.{hello_is_welcomed}
 use Rattle.pres_lines.specs.Lines.{Line, Lines, line_at, fed, kept_or_blank, ChangesAt}
-use Rattle.pres_lines.specs.Steps.{IsToldWith, IsPut, LeavesOrIsPut, LineAfter}
+use Rattle.pres_lines.specs.Steps.{IsToldWith, IsPut, LeavesOrIsPut, LineAfter, LineFits}
 use Rattle.pres_engine.specs.declared.fault.EngineFault.{EngineFault}
 use Rattle.pres_engine.specs.declared.fault.EngineFault.TheVariants as fault
 use Rattle.pres_engine.specs.Engines.{Runs}
@@ -83,6 +83,10 @@ put_before t s ms w None after is other put = put
 put_before t s ms w (Some l) after is other put =
     subst (λ b. LeavesOrIsPut b l (those_for t (ms ++ w ∷ [])) after) (sym (gone_before t s ms w is))
     (subst (λ xs. LeavesOrIsPut (list_any (is_gone_for t) ms) l xs after) (sym (those_before t s ms w is other)) put)
+
+pub fits_before : (t s : SessionId) (ms : List Down) (w : Down) (line after : Option Line) → IsWelcome s w → same_session t s ≡ false → LineFits t ms line after → LineFits t (ms ++ w ∷ []) line after
+fits_before t s ms w line after is other fits =
+    subst (λ xs. IfSome line (λ l. IfSome l.sent (λ sent. length sent + length xs ≤ 256 → IfSome after (λ new. new.sent ≡ Some (sent ++ xs))))) (sym (those_before t s ms w is other)) fits
 
 -- ---- what is told with further messages is told without them
 
@@ -286,6 +290,7 @@ module _ (old new : Option State) (s : SessionId) (now : ℕ) (outs : List Down)
             parted = here.parted;
             own = here.own;
             others = λ t k. subst (λ line. LineAfter t (answers (entries made_here.state.log) made_here.es) line (line_at t after)) (others_here t k) (here.others t k);
+            fits = λ t k. subst (λ line. LineFits t (answers (entries made_here.state.log) made_here.es) line (line_at t after)) (others_here t k) (here.fits t k);
             outbox = here.outbox;
           };
         }

@@ -1,23 +1,27 @@
 -- A server's engine with the lines of its sessions.
-use Rattle.std.specs.Prelude.{◌≡◌, ◌⊎◌, ℕ, Bool, true, false, List, [], ◌∷◌, ◌++◌, Option, Some, None, is_some, IfSome}
+use Rattle.std.specs.Prelude.{◌≡◌, ◌⊎◌, ℕ, Bool, true, false, List, [], ◌∷◌, ◌++◌, Option, Some, None, is_some, option_map, IfSome}
 use Rattle.pres_ids.specs.declared.id.SessionId.{SessionId}
+use Rattle.pres_ids.specs.declared.id.Why.TheVariants as why
 use Rattle.pres_wire.specs.declared.up.Up.TheVariants as up
 use Rattle.pres_wire.specs.declared.down.Down.{Down}
 use Rattle.pres_log.specs.declared.entry.Entry.{Entry}
-use Rattle.pres_log.specs.Logs.{entries}
+use Rattle.pres_log.specs.Logs.{Log, entries}
 use Rattle.pres_server.specs.declared.input.Input.{Input}
 use Rattle.pres_server.specs.declared.input.Input.TheVariants as input
-use Rattle.pres_server.specs.Heard.{State}
+use Rattle.pres_server.specs.Heard.{State, first_client}
 use Rattle.pres_server.specs.Sessions.{is_open}
+use Rattle.pres_server.specs.Replays.{made_from}
 use Rattle.pres_server.specs.Streams.{answers}
 use Rattle.pres_server.specs.Turns.{turn, makes, moment_of, state_after}
 use Rattle.pres_ids.specs.Ids.{ClientId, same_session}
 use Rattle.pres_ring.specs.Ends.{Taking}
 use Rattle.pres_ring.specs.Told.{told, those_for, IsToldOf, IsWelcome}
-use Rattle.pres_lines.specs.Lines.{Line, Lines, line_at, is_slow}
-use Rattle.pres_lines.specs.Steps.{LineAfter}
-use Rattle.pres_engine.specs.Engines.{Run}
-use Rattle.pres_engine.specs.Turned.{IsTurned, IsNotTurned}
+use Rattle.pres_lines.specs.Lines.{Line, Lines, line_at, is_slow, marked, IsFirstSlow, ChangesAt}
+use Rattle.pres_lines.specs.Steps.{LineAfter, LineFits}
+use Rattle.pres_table.specs.declared.fault.SavedFault.{SavedFault}
+use Rattle.pres_keeper.specs.Keepers.{Readable, IsNoServer}
+use Rattle.pres_engine.specs.Engines.{Run, Runs}
+use Rattle.pres_engine.specs.Turned.{IsTurned, IsNotTurned, KeepsGone}
 use Rattle.pres_engine.specs.declared.fault.EngineFault.{EngineFault}
 use Rattle.pres_engine.specs.declared.fault.EngineFault.TheVariants as refusal
 
@@ -53,9 +57,19 @@ abbrev pub is_hello : Input → Bool
 is_hello (input.Up (up.Hello s)) = true
 is_hello _ = false
 
--- the turn is done, and its answers are put on the lines
+-- the turn is done, and its answers are put on the lines, none of which gives one up where 256 were put at most
 abbrev pub IsAnswered : Option State → Input → ℕ → Option State → Lines → Lines → Type 0
-IsAnswered old input now new before after = (outs : List Down) × IsTurned old input now new outs × ((s : SessionId) → LineAfter s outs (line_at s before) (line_at s after))
+IsAnswered old input now new before after =
+    (outs : List Down) × IsTurned old input now new outs
+    × ((s : SessionId) → LineAfter s outs (line_at s before) (line_at s after))
+    × ((s : SessionId) → LineFits s outs (line_at s before) (line_at s after))
+
+-- the input isn't answered: memory is refused with the server as it was, or its turn isn't done
+abbrev pub IsNotAnswered : Option State → Input → ℕ → Option State → EngineFault → Type 0
+IsNotAnswered old input now new refusal.Memory = new ≡ old
+IsNotAnswered old input now new (refusal.Refused f) = IsNotTurned old input now new (refusal.Refused f)
+IsNotAnswered old input now new (refusal.Keeper f) = IsNotTurned old input now new (refusal.Keeper f)
+IsNotAnswered old input now new refusal.Down = IsNotTurned old input now new refusal.Down
 
 -- ---- a session that is opened
 
@@ -75,6 +89,7 @@ pub record LinesJoined (s : SessionId) (ms : List Down) (before after : Lines) (
   pub parted : ms ≡ earlier ++ last ∷ []
   pub own : line_at s after ≡ Some (record { sent = Some (last ∷ []); mark = None })
   pub others : (t : SessionId) → same_session t s ≡ false → LineAfter t ms (line_at t before) (line_at t after)
+  pub fits : (t : SessionId) → same_session t s ≡ false → LineFits t ms (line_at t before) (line_at t after)
   pub outbox : end ≡ record { session = s; taken = []; ahead = last ∷ [] }
 
 -- the Hello of s is done, and its answers are put on the lines, behind which s has its own
@@ -86,33 +101,64 @@ pub record IsJoined (s : SessionId) (now : ℕ) (old new : Option State) (before
   pub runs : new ≡ Some (state_after state (moment_of state.log now) made)
   pub lines : LinesJoined s (answers (entries state.log) made) before after end
 
--- A session isn't opened: memory is refused with the server as it was, or the turn of its Hello isn't done.
+-- a session isn't opened, as its Hello isn't answered
 abbrev pub IsNotJoined : SessionId → ℕ → Option State → Option State → EngineFault → Type 0
-IsNotJoined s now old new refusal.Memory = new ≡ old
-IsNotJoined s now old new (refusal.Refused f) = IsNotTurned old (input.Up (up.Hello s)) now new (refusal.Refused f)
-IsNotJoined s now old new (refusal.Keeper f) = IsNotTurned old (input.Up (up.Hello s)) now new (refusal.Keeper f)
-IsNotJoined s now old new refusal.Down = IsNotTurned old (input.Up (up.Hello s)) now new refusal.Down
+IsNotJoined s now old new e = IsNotAnswered old (input.Up (up.Hello s)) now new e
 
 -- ---- sessions that are slow
 
--- these sessions are ended as slow, one after the other, and at last the server may have gone down
-abbrev pub EndsSlow : ℕ → List SessionId → Option State → Option State → Type 0
-EndsSlow now [] old new = (new ≡ old) ⊎ (new ≡ None)
-EndsSlow now (t ∷ ts) None new = ⊥
-EndsSlow now (t ∷ ts) (Some s) new = (es : List Entry) × (turn s (input.Slow t) now ≡ makes es) × EndsSlow now ts (Some (state_after s (moment_of s.log now) es)) new
+-- The first session in order whose line is slow is open. Its line is marked so, and its end is answered on the lines; or
+-- it isn't, and the line stays marked.
+pub record EndsFirstSlow (now : ℕ) (s : SessionId) (old new : Option State) (before after : Lines) : Type 0 where
+  pub first : IsFirstSlow s before
+  pub opened : Runs (λ t. is_open s (entries t.log) ≡ true) old
+  pub middle : Lines
+  pub marks : ChangesAt s (option_map (marked why.Slow)) before middle
+  pub ended : IsAnswered old (input.Slow s) now new middle after ⊎ ((e : EngineFault) × IsNotAnswered old (input.Slow s) now new e × (after ≡ middle))
 
--- so are some
-abbrev pub AreEnded : ℕ → Option State → Option State → Type 0
-AreEnded now old new = (ts : List SessionId) × EndsSlow now ts old new
+-- these sessions are ended as slow, one after the other, until no line is slow
+abbrev pub EndsSlow : ℕ → List SessionId → Option State → Option State → Lines → Lines → Type 0
+EndsSlow now [] old new before after = (new ≡ old) × (after ≡ before) × NoneSlow after
+EndsSlow now (s ∷ ss) old new before after =
+    (middle : Option State) × (lines : Lines) × EndsFirstSlow now s old middle before lines × EndsSlow now ss middle new lines after
+
+-- each session whose line is slow is ended, in order
+abbrev pub AreEnded : ℕ → Option State → Option State → Lines → Lines → Type 0
+AreEnded now old new before after = (ss : List SessionId) × EndsSlow now ss old new before after
 
 -- ---- the start
 
--- an open session of each of these clients is ended at the restart, one after the other
+-- each of these clients is the first in byte order that has a session open, which is ended at the restart, one after the other
 abbrev pub EndsAtStart : ℕ → List ClientId → Option State → Option State → Type 0
 EndsAtStart now [] old new = new ≡ old
 EndsAtStart now (c ∷ cs) None new = ⊥
-EndsAtStart now (c ∷ cs) (Some s) new = (es : List Entry) × (turn s (input.Restart c) now ≡ makes es) × EndsAtStart now cs (Some (state_after s (moment_of s.log now) es)) new
+EndsAtStart now (c ∷ cs) (Some s) new =
+    (first_client s.heard ≡ Some c) × (es : List Entry) × (turn s (input.Restart c) now ≡ makes es) × EndsAtStart now cs (Some (state_after s (moment_of s.log now) es)) new
 
 -- so are those of some
 abbrev pub AreRestarted : ℕ → Option State → Option State → Type 0
 AreRestarted now old new = (cs : List ClientId) × EndsAtStart now cs old new
+
+-- no client is handed out: there is no server, or memory is refused for the first one that has a session open
+abbrev pub IsNoClient : Option State → EngineFault → Type 0
+IsNoClient None e = e ≡ refusal.Down
+IsNoClient (Some s) e = (e ≡ refusal.Memory) × (c : ClientId) × (first_client s.heard ≡ Some c)
+
+-- A start stops at the first client in byte order that has a session open, whose end isn't answered. The ends before it
+-- stand and are kept, and so is this one where the server went down behind its commit.
+pub record StopsAtStart (keeps : Log → Type 0) (now : ℕ) (old : Option State) (e : EngineFault) : Type 0 where
+  pub middle : Option State
+  pub ended : AreRestarted now old middle
+  pub client : ClientId
+  pub first : Runs (λ s. first_client s.heard ≡ Some client) middle
+  pub new : Option State
+  pub refused : IsNotAnswered middle (input.Restart client) now new e
+  pub kept : Runs (λ s. keeps s.log) new
+  pub gone : KeepsGone keeps middle (input.Restart client) now e
+
+-- A start is refused: no server is made of what can be read of the keeper, which keeps its log, if it holds one; or one is
+-- made of that log, and the start stops at a client.
+abbrev pub IsNotStarted : Readable → (Log → Type 0) → (Log → Type 0) → ℕ → EngineFault → Type 0
+IsNotStarted held kept keeps now e =
+    ((f : SavedFault) × (e ≡ refusal.Keeper f) × IsNoServer held f × ((log : Log) → kept log → keeps log))
+    ⊎ ((log : Log) × ((other : Log) → kept other → log ≡ other) × StopsAtStart keeps now (Some (made_from log)) e)

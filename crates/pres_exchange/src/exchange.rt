@@ -6,13 +6,15 @@ ghost use Rattle.pres_ids.specs.Ids.{same_session};
 ghost use Rattle.pres_log.specs.Logs.{Log, entries, number};
 ghost use Rattle.pres_server.specs.Replays.{made_from};
 ghost use Rattle.pres_server.specs.LegalLog.{IsLegal};
+ghost use Rattle.pres_server.specs.Heard.{first_client};
 ghost use Rattle.pres_server.specs.Sessions.{is_open, has_open};
 ghost use Rattle.pres_ring.specs.Told.{IsToldOf};
-ghost use Rattle.pres_lines.specs.Lines.{line_at, has_line, unmarked, first_slow, first_marked, fed, struck, ChangesAt};
-ghost use Rattle.pres_lines.specs.Steps.{IsToldWith, LineAfter};
+ghost use Rattle.pres_ids.specs.declared.id.Why.TheVariants.{Slow};
+ghost use Rattle.pres_lines.specs.Lines.{line_at, has_line, unmarked, first_slow, first_marked, marked, fed, struck, IsFirstSlow, IsFirstMarked, ChangesAt};
+ghost use Rattle.pres_lines.specs.Steps.{IsToldWith};
 ghost use Rattle.pres_engine.specs.Engines.{Runs};
 ghost use Rattle.pres_engine.specs.Turned.{IsNotTurned};
-ghost use Rattle.pres_exchange.specs.Exchanges.{AreTold, is_hello, StayMarked, IsAnswered, IsJoined, IsNotJoined, LastIsFor, LinesJoined, NoneSlow, AreEnded, AreRestarted};
+ghost use Rattle.pres_exchange.specs.Exchanges.{AreTold, is_hello, StayMarked, IsAnswered, IsJoined, IsNotJoined, LastIsFor, LinesJoined, NoneSlow, AreEnded, AreRestarted, IsNoClient, StopsAtStart, IsNotStarted};
 
 use crate::bells::{Bell, Bells};
 use pres_engine::{Engine, EngineFault, Input, Keeper};
@@ -68,8 +70,13 @@ fn first_open<K: Keeper + Drop>(
     ensures runs { IfOk result (λ found. is_some engine.now.server ≡ true) }
     ensures open { IfOk result (λ found. IfSome found (λ client.
         Runs (λ s. has_open client (entries s.log) ≡ true) engine.now.server)) }
+    ensures first { IfOk result (λ found. IfSome found (λ client.
+        Runs (λ s. first_client s.heard ≡ Some client) engine.now.server)) }
     ensures none { IfOk result (λ found. IfNone found
         (Runs (λ s. (t : SessionId) → is_open t (entries s.log) ≡ false) engine.now.server)) }
+    ensures refused { IfErr result (IsNoClient engine.now.server) }
+    ensures kept { K.works engine.now.keeper
+        → Runs (λ s. K.keeps engine.now.keeper s.log) engine.now.server }
     ensures counted { Runs (λ s. engine.now.number ≡ number s.log) engine.now.server }
 {
     // it ensures what the number counts
@@ -83,7 +90,7 @@ fn first_open<K: Keeper + Drop>(
     Ok(Some(client.copy(alloc)?))
 }
 
-// Ends each session that is open.
+// Ends each session that is open, in byte order of their clients.
 fn end_all<K: Keeper + Drop>(
     engine: &mut Engine<K>,
     alloc: Global,
@@ -93,12 +100,15 @@ fn end_all<K: Keeper + Drop>(
     ensures closed { OnOk result
         (Runs (λ s. (t : SessionId) → is_open t (entries s.log) ≡ false) engine.new.server) }
     ensures ended { OnOk result (AreRestarted now engine.old.server engine.new.server) }
+    ensures stopped { K.works engine.new.keeper
+        → IfErr result (StopsAtStart (K.keeps engine.new.keeper) now engine.old.server) }
     ensures worked { K.works engine.new.keeper → K.works engine.old.keeper }
 {
     while let Some(client) = first_open(alloc, engine)? {
-        drop(engine.turn(Input::Restart(client), now)?);
-        // it ensures that the log is legal
+        let turned = engine.turn(Input::Restart(client), now);
+        // it ensures that the log is legal, and is kept
         let _ = engine.number();
+        drop(turned?);
     }
     Ok(())
 }
@@ -117,8 +127,8 @@ impl<K: Keeper + Drop, B: Bell + Clone + Drop> Exchange<K, B> {
     }
 
     /// Starts over what the keeper holds, whose open sessions are ended first, in byte order of
-    /// their clients. Refused as the keeper refuses its server; or where an end is refused: then
-    /// some may have been ended.
+    /// their clients. Refused as the keeper refuses its server: Keeper, with Memory, Database or
+    /// BadRow; or where an end is refused: then those before it have been ended.
     pub fn start(alloc: Global, keeper: K, now: Moment) -> Result<Exchange<K, B>, (EngineFault, K)>
         requires ready { K.ready keeper }
         ensures runs { IfOk result (λ e. is_some e.run.server ≡ true) }
@@ -127,6 +137,8 @@ impl<K: Keeper + Drop, B: Bell + Clone + Drop> Exchange<K, B> {
         ensures ended { IfOk result (λ e. (log : Log) → K.works e.run.keeper → K.keeps keeper log
             → AreRestarted now (Some (made_from log)) e.run.server) }
         ensures lines { IfOk result (λ e. e.lines ≡ []) }
+        ensures refused { IfErr result (λ e. K.works e.1
+            → IsNotStarted (K.readable keeper) (K.keeps keeper) (K.keeps e.1) now e.0) }
         ensures ready { IfErr result (λ e. K.ready e.1) }
     {
         let mut engine = Engine::open(keeper)?;
@@ -219,6 +231,13 @@ impl<K: Keeper + Drop, B: Bell + Clone + Drop> Exchange<K, B> {
     // The first session in order that didn't take its messages in time, which is marked.
     fn next_slow(&mut self, alloc: Global) -> Option<Result<SessionId, AllocError>>
         ensures run { self.new.run ≡ self.old.run }
+        ensures found { is_some result ≡ is_some (first_slow self.old.lines) }
+        ensures session { IfSome result (λ r. IfOk r (λ s. first_slow self.old.lines ≡ Some s)) }
+        ensures first { IfSome (first_slow self.old.lines) (λ s. IsFirstSlow s self.old.lines) }
+        ensures opened { IfSome (first_slow self.old.lines)
+            (λ s. Runs (λ t. is_open s (entries t.log) ≡ true) self.new.run.server) }
+        ensures marked { IfSome (first_slow self.old.lines)
+            (λ s. ChangesAt s (option_map (marked Slow)) self.old.lines self.new.lines) }
         ensures fewer { IfSome result (λ r. unmarked self.new.lines < unmarked self.old.lines) }
         ensures marks { StayMarked self.old.lines self.new.lines }
         ensures none { IfNone result (self.new ≡ self.old) }
@@ -227,10 +246,11 @@ impl<K: Keeper + Drop, B: Bell + Clone + Drop> Exchange<K, B> {
         self.lines.next_slow(alloc)
     }
 
-    /// Ends each session that didn't take its messages in time, or, where that is refused, leaves
-    /// it marked.
+    /// Ends each session that didn't take its messages in time, in order, or, where that is refused,
+    /// leaves it marked.
     pub fn end_slow(&mut self, alloc: Global, now: Moment)
-        ensures ended { AreEnded now self.old.run.server self.new.run.server }
+        ensures ended { AreEnded now self.old.run.server self.new.run.server
+            self.old.lines self.new.lines }
         ensures rises { self.old.run.number ≤ self.new.run.number }
         ensures marks { StayMarked self.old.lines self.new.lines }
         ensures none_slow { NoneSlow self.new.lines }
@@ -247,6 +267,8 @@ impl<K: Keeper + Drop, B: Bell + Clone + Drop> Exchange<K, B> {
         ensures found { is_some result ≡ is_some (first_marked self.now.lines) }
         ensures session { IfSome result (λ r.
             IfOk r (λ e. first_marked self.now.lines ≡ Some e)) }
+        ensures first { IfSome (first_marked self.now.lines)
+            (λ e. IsFirstMarked e self.now.lines) }
         ensures open { IfSome (first_marked self.now.lines) (λ e.
             Runs (λ s. is_open e.0 (entries s.log) ≡ true) self.now.run.server) }
         ensures none { IfNone result

@@ -1,8 +1,8 @@
 use Rattle.std.proofs.Common.{◌≡◌, sym, ◌∙◌, ap, subst, [], ◌∷◌, ◌++◌}
 use Rattle.pres_ring.specs.Told.{those_for, IsWelcome}
 use Rattle.pres_lines.specs.Lines.{line_at, has_line}
-use Rattle.pres_lines.specs.Steps.{IsToldWith, LineAfter}
-use Rattle.pres_exchange.proofs.Joined.{same_parts, told_before, stays, put_before, own_line, other_line}
+use Rattle.pres_lines.specs.Steps.{IsToldWith, LineAfter, LineFits}
+use Rattle.pres_exchange.proofs.Joined.{same_parts, told_before, stays, put_before, fits_before, own_line, other_line}
 use Rattle.pres_exchange.proofs.exchange.welcome.Goals as goal
 
 pub deliver-requires : goal.deliver-requires
@@ -34,6 +34,10 @@ returns c =
             subst (λ ms. LineAfter t ms (line_at t c.args.lines.now) (line_at t c.attach.new.self)) (sym e)
             (put_before t s c.of.result m (line_at t c.args.lines.now) (line_at t c.attach.new.self) is k
             (subst (LineAfter t c.of.result (line_at t c.args.lines.now)) (sym (other_line s c.welcome-feed.result.0 m c.deliver.new.self c.attach.new.self c.welcome-feed.ensures.feed c.attach.ensures t k)) (c.deliver.ensures.delivered t)));
+        fits = λ t k.
+            subst (λ ms. LineFits t ms (line_at t c.args.lines.now) (line_at t c.attach.new.self)) (sym e)
+            (fits_before t s c.of.result m (line_at t c.args.lines.now) (line_at t c.attach.new.self) is k
+            (subst (LineFits t c.of.result (line_at t c.args.lines.now)) (sym (other_line s c.welcome-feed.result.0 m c.deliver.new.self c.attach.new.self c.welcome-feed.ensures.feed c.attach.ensures t k)) (c.deliver.ensures.fits t)));
         outbox = c.welcome-feed.ensures.outbox;
       };
     }

@@ -1,12 +1,14 @@
 use Rattle.std.proofs.Common.{◌≤◌, Option}
 use Rattle.pres_server.specs.Heard.{State}
-use Rattle.pres_lines.specs.Lines.{unmarked}
+use Rattle.pres_lines.specs.Lines.{Lines, unmarked}
 use Rattle.pres_exchange.specs.Exchanges.{StayMarked, AreEnded}
 use Rattle.pres_exchange.proofs.exchange.Exchange.end_slow.Given as goal
 
 -- what is ended from now on is ended from the beginning on, and the number didn't fall
 abbrev pub invariant-loop-next : goal.invariant-loop-next
-invariant-loop-next g l = ((after : Option State) → AreEnded l.now l.self.run.server after → AreEnded l.now l.fn.self.run.server after) × (l.fn.self.run.number ≤ l.self.run.number) × StayMarked l.fn.self.lines l.self.lines
+invariant-loop-next g l =
+    ((after : Option State) (behind : Lines) → AreEnded l.now l.self.run.server after l.self.lines behind → AreEnded l.now l.fn.self.run.server after l.fn.self.lines behind)
+    × (l.fn.self.run.number ≤ l.self.run.number) × StayMarked l.fn.self.lines l.self.lines
 
 abbrev pub decreases-loop-next : goal.decreases-loop-next
 decreases-loop-next g l = unmarked l.self.lines
