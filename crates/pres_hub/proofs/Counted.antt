@@ -1,5 +1,5 @@
 -- How many messages were accepted since the start, turn by turn.
-use Rattle.std.proofs.Common.{refl, sym, ◌∙◌, ap, subst, ◌≡◌, ◌≤◌, ◌<◌, ◌+◌, ◌^◌, ℕ, List, [], ◌∷◌, ◌++◌, drop, false, Option, Some, None, inl, inr, arith}
+use Rattle.std.proofs.Common.{refl, sym, ◌∙◌, ap, subst, ◌≡◌, ◌≤◌, ◌<◌, ◌+◌, ◌^◌, ℕ, List, [], ◌∷◌, ◌++◌, drop, false, Option, Some, None, arith}
 use Rattle.std.proofs.Math.Seq.{drop-length}
 use Rattle.std.proofs.lemmas.List.{drop-append-le, length-drop}
 use Rattle.pres_ids.specs.declared.id.SessionId.{SessionId}
@@ -21,7 +21,8 @@ use Rattle.pres_engine.specs.Engines.{Runs}
 use Rattle.pres_engine.specs.Turned.{IsDone, IsTurned}
 use Rattle.pres_ring.specs.Ends.{Taking}
 use Rattle.pres_lines.specs.Lines.{Lines}
-use Rattle.pres_exchange.specs.Exchanges.{is_hello, EndsSlow, IsJoined}
+use Rattle.pres_exchange.specs.Exchanges.{is_hello, AreEnded, IsJoined}
+use Rattle.pres_exchange.proofs.Ended.{slow_keeps}
 use Rattle.pres_hub.specs.Cores.{AreAccepted}
 
 -- nothing was accepted when the hub starts
@@ -57,16 +58,10 @@ same_accepted start count (Some s) new i now outs none turned h = by (turn s i n
       subst (AreAccepted start count) (sym done.0) (parts.0, parts.1 ∙ omega (arith, one))
 
 -- ends of slow sessions add nothing
-pub ended_accepted : (start count now : ℕ) (ts : List SessionId) (old new : Option State) → EndsSlow now ts old new → AreAccepted start count old → AreAccepted start count new
-ended_accepted start count now [] old new ended h = elim ended [
-  | inl e ↦ subst (AreAccepted start count) (sym e) h
-  | inr e ↦ subst (AreAccepted start count) (sym e) tt
-]
-ended_accepted start count now (t ∷ ts) None new ended h = absurd ended
-ended_accepted start count now (t ∷ ts) (Some s) new ended h =
-    let one : accepted ended.0 ≡ 0 = accepts_one s (input.Slow t) now ended.0 ended.1 in
-    let parts = made_accepted start count s.log s (moment_of s.log now) ended.0 h in
-    ended_accepted start count now ts (Some (state_after s (moment_of s.log now) ended.0)) new ended.2 (parts.0, parts.1 ∙ omega (arith, one))
+pub ended_accepted : (start count now : ℕ) (old new : Option State) (before after : Lines) → AreEnded now old new before after → AreAccepted start count old → AreAccepted start count new
+ended_accepted start count now old new before after ended h =
+    slow_keeps (AreAccepted start count) tt now (λ x s server outs opened turned k. same_accepted start count (Some x) server (input.Slow s) now outs refl turned k)
+    ended.0 old new before after ended.1 h
 
 pub no_hello : (i : Input) → messages_in i ≡ 0 → is_hello i ≡ false
 no_hello (input.Up m) h = absurd (cc h)

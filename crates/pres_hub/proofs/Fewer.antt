@@ -1,5 +1,5 @@
 -- How many entries a server can still take, which events that make any lessen.
-use Rattle.std.proofs.Common.{refl, sym, ap, subst, ◌≡◌, ◌≤◌, ◌<◌, ◌+◌, ◌-◌, ◌^◌, ℕ, List, [], ◌∷◌, ◌++◌, length, true, Option, Some, None, inl, inr, arith}
+use Rattle.std.proofs.Common.{refl, sym, ap, subst, ◌≡◌, ◌≤◌, ◌<◌, ◌+◌, ◌-◌, ◌^◌, ℕ, List, [], ◌∷◌, ◌++◌, length, true, Option, Some, None, arith}
 use Rattle.std.proofs.Math.Numerals.{lt_of_le_of_ne}
 use Rattle.pres_ids.specs.declared.id.SessionId.{SessionId}
 use Rattle.pres_ids.specs.declared.id.Why.{Why}
@@ -9,6 +9,7 @@ use Rattle.pres_log.specs.declared.entry.Entry.{Entry}
 use Rattle.pres_log.specs.Logs.{entries, number}
 use Rattle.pres_log.proofs.Entries.{number-push}
 use Rattle.pres_server.specs.declared.input.Input.{Input}
+use Rattle.pres_server.specs.declared.input.Input.TheVariants as input
 use Rattle.pres_server.specs.Heard.{State}
 use Rattle.pres_server.specs.LegalLog.{IsLegal}
 use Rattle.pres_server.proofs.Whole.{legal_leaves_room}
@@ -19,7 +20,8 @@ use Rattle.pres_ring.proofs.Turns.{lost_ends, slow_ends}
 use Rattle.pres_engine.specs.Engines.{Runs}
 use Rattle.pres_engine.specs.Turned.{IsDone, IsTurned}
 use Rattle.pres_lines.specs.Lines.{Lines}
-use Rattle.pres_exchange.specs.Exchanges.{EndsSlow}
+use Rattle.pres_exchange.specs.Exchanges.{AreEnded}
+use Rattle.pres_exchange.proofs.Ended.{slow_keeps}
 use Rattle.pres_hub.specs.Cores.{end_by}
 use Rattle.pres_hub.specs.Said.{IsCarriedOut}
 
@@ -42,15 +44,10 @@ turned_rises n s i now new outs turned h = by (turn s i now) turned where
       let more = number-push s.log (batch_of s.log (moment_of s.log now) es) in
       subst (Runs (λ x. n ≤ number x.log)) (sym done.0) (omega (arith, more, h))
 
-pub ended_rises : (n now : ℕ) (ts : List SessionId) (old new : Option State) → EndsSlow now ts old new → Runs (λ x. n ≤ number x.log) old → Runs (λ x. n ≤ number x.log) new
-ended_rises n now [] old new ended h = elim ended [
-  | inl e ↦ subst (Runs (λ x. n ≤ number x.log)) (sym e) h
-  | inr e ↦ subst (Runs (λ x. n ≤ number x.log)) (sym e) tt
-]
-ended_rises n now (t ∷ ts) None new ended h = absurd ended
-ended_rises n now (t ∷ ts) (Some s) new ended h =
-    let more = number-push s.log (batch_of s.log (moment_of s.log now) ended.0) in
-    ended_rises n now ts (Some (state_after s (moment_of s.log now) ended.0)) new ended.2 (omega (arith, more, h))
+pub ended_rises : (n now : ℕ) (old new : Option State) (before after : Lines) → AreEnded now old new before after → Runs (λ x. n ≤ number x.log) old → Runs (λ x. n ≤ number x.log) new
+ended_rises n now old new before after ended h =
+    slow_keeps (Runs (λ x. n ≤ number x.log)) tt now (λ x s server outs opened turned k. turned_rises n x (input.Slow s) now server outs turned k)
+    ended.0 old new before after ended.1 h
 
 -- fewer are left
 fewer : (n : ℕ) (s : State) (new : Option State) → IsLegal s.log → number s.log < n → Runs (λ x. n ≤ number x.log) new → left_of new < left_of (Some s)
@@ -58,11 +55,11 @@ fewer n s None legal less h = let room = legal_leaves_room s.log legal in omega 
 fewer n s (Some t) legal less h = let room = legal_leaves_room s.log legal in omega (arith, room, less, h)
 
 -- an event after which the number is greater
-pub late_fewer : (i : Input) (now before after : ℕ) (old new : Option State) (lines : Lines) → IsCarriedOut i now old new lines → Runs (λ s. IsLegal s.log) old
+pub late_fewer : (i : Input) (now before after : ℕ) (old new : Option State) (lines behind : Lines) → IsCarriedOut i now old new lines behind → Runs (λ s. IsLegal s.log) old
     → Runs (λ s. before ≡ number s.log) old → Runs (λ s. after ≡ number s.log) new → before < after → left_of new < left_of old
-late_fewer i now before after None new lines carried legal b a less = absurd carried.answered.1
-late_fewer i now before after (Some s) None lines carried legal b a less = let room = legal_leaves_room s.log legal in omega (arith, room)
-late_fewer i now before after (Some s) (Some t) lines carried legal b a less = fewer after s (Some t) legal (omega (arith, b, less)) (omega (arith, a))
+late_fewer i now before after None new lines behind carried legal b a less = absurd carried.answered.1
+late_fewer i now before after (Some s) None lines behind carried legal b a less = let room = legal_leaves_room s.log legal in omega (arith, room)
+late_fewer i now before after (Some s) (Some t) lines behind carried legal b a less = fewer after s (Some t) legal (omega (arith, b, less)) (omega (arith, a))
 
 ending : (w : Why) (s : State) (t : SessionId) (now : ℕ) → is_open t (entries s.log) ≡ true → (e : Entry) × IsEnding t e (turn s (end_by w t) now)
 ending why.Bye s t now is = (_, lost_ends s t now is)
@@ -73,10 +70,10 @@ ending why.Slow s t now is = (_, slow_ends s t now is)
 ending why.Restart s t now is = (_, lost_ends s t now is)
 
 -- the end of an open session
-pub marked_fewer : (w : Why) (t : SessionId) (now : ℕ) (old new : Option State) (lines : Lines) → IsCarriedOut (end_by w t) now old new lines → Runs (λ s. IsLegal s.log) old
+pub marked_fewer : (w : Why) (t : SessionId) (now : ℕ) (old new : Option State) (lines behind : Lines) → IsCarriedOut (end_by w t) now old new lines behind → Runs (λ s. IsLegal s.log) old
     → Runs (λ s. is_open t (entries s.log) ≡ true) old → left_of new < left_of old
-marked_fewer w t now None new lines carried legal is = absurd carried.answered.1
-marked_fewer w t now (Some s) new lines carried legal is = by (turn s (end_by w t) now) refl carried.answered.1 where
+marked_fewer w t now None new lines behind carried legal is = absurd carried.answered.1
+marked_fewer w t now (Some s) new lines behind carried legal is = by (turn s (end_by w t) now) refl carried.answered.1 where
   by : (d : Decision) → turn s (end_by w t) now ≡ d → IsDone d s (moment_of s.log now) (end_by w t) carried.middle carried.answered.0 → left_of new < left_of (Some s)
   by (refused f) k done = absurd done
   by quiet k done = absurd ((ending w s t now is).1.not_quiet k)
@@ -84,4 +81,4 @@ marked_fewer w t now (Some s) new lines carried legal is = by (turn s (end_by w 
       let one = ap length ((ending w s t now is).1.alone es k) in
       let more : number (s.log ++ batch_of s.log (moment_of s.log now) es ∷ []) ≡ number s.log + length es = number-push s.log (batch_of s.log (moment_of s.log now) es) in
       let middle : Runs (λ x. number s.log + 1 ≤ number x.log) carried.middle = subst (Runs (λ x. number s.log + 1 ≤ number x.log)) (sym done.0) (omega (arith, one, more)) in
-      fewer (number s.log + 1) s new legal (omega (arith)) (ended_rises (number s.log + 1) now carried.ended.0 carried.middle new carried.ended.1 middle)
+      fewer (number s.log + 1) s new legal (omega (arith)) (ended_rises (number s.log + 1) now carried.middle new carried.lines behind carried.ended middle)

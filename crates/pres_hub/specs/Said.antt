@@ -1,5 +1,5 @@
 -- What the calls of a hub's core do.
-use Rattle.std.specs.Prelude.{◌≡◌, ◌≢◌, ◌⊎◌, ◌+◌, ◌<◌, ◌≤◌, ℕ, zero, suc, Bool, true, false, List, [], ◌∷◌, Option, Some, None, is_some, IsSomeAnd}
+use Rattle.std.specs.Prelude.{◌≡◌, ◌≢◌, ◌⊎◌, ◌+◌, ◌<◌, ◌≤◌, ℕ, zero, suc, Bool, true, false, List, [], ◌∷◌, Option, Some, None, is_some, IfSome, IsSomeAnd}
 use Rattle.pres_ids.specs.Ids.{same_session}
 use Rattle.pres_wire.specs.declared.up.Up.{Up}
 use Rattle.pres_wire.specs.Messages.{session_in}
@@ -12,7 +12,7 @@ use Rattle.pres_server.specs.Heard.{State}
 use Rattle.pres_server.specs.Sessions.{is_open, count}
 use Rattle.pres_server.specs.Turns.{Decision, quiet, makes, turn}
 use Rattle.pres_ring.specs.Accepted.{is_hello}
-use Rattle.pres_lines.specs.Lines.{Lines, line_at}
+use Rattle.pres_lines.specs.Lines.{Lines, line_at, IsFirstMarked}
 use Rattle.pres_engine.specs.Engines.{Runs}
 use Rattle.pres_engine.specs.Turned.{IsNotTurned}
 use Rattle.pres_engine.specs.declared.fault.EngineFault.TheVariants as refusal
@@ -26,19 +26,19 @@ use Rattle.pres_seats.specs.Seats.{Seated}
 use Rattle.pres_seats.specs.declared.fault.HubFault.{HubFault}
 use Rattle.pres_seats.specs.declared.fault.HubFault.TheVariants as why
 
--- the input's turn is done and answered, and then sessions that are slow are ended
-pub record IsCarriedOut (input : Input) (now : ℕ) (old new : Option State) (before : Lines) : Type 0 where
+-- the input's turn is done and answered on the lines, and then each session whose line is slow is ended
+pub record IsCarriedOut (input : Input) (now : ℕ) (old new : Option State) (before after : Lines) : Type 0 where
   pub middle : Option State
   pub lines : Lines
   pub answered : IsAnswered old input now middle before lines
-  pub ended : AreEnded now middle new
+  pub ended : AreEnded now middle new lines after
 
--- the session is opened, and then sessions that are slow are ended
-pub record IsOpened (s : SessionId) (now : ℕ) (old new : Option State) (before : Lines) (end : Taking) : Type 0 where
+-- the session is opened and answered on the lines, and then each session whose line is slow is ended
+pub record IsOpened (s : SessionId) (now : ℕ) (old new : Option State) (before after : Lines) (end : Taking) : Type 0 where
   pub middle : Option State
   pub lines : Lines
   pub joined : IsJoined s now old middle before lines end
-  pub ended : AreEnded now middle new
+  pub ended : AreEnded now middle new lines after
 
 -- how many messages the turn of this one accepts
 abbrev pub accepted_by : Decision → ℕ
@@ -53,20 +53,23 @@ accepted_of (Some s) m now = accepted_by (turn s (input.Up m) now)
 abbrev pub IsAbreast : Up → ℕ → Option State → Type 0
 IsAbreast m q server = Runs (λ s. is_open (session_in m) (entries s.log) ≡ true → count (session_in m) (entries s.log) ≡ q) server
 
--- A seat's message is taken to a server that runs: it is no Hello, names the seat's session, which is no further than
--- the seat, and the server has what the seat was told of.
+-- the message is the seat's own: it is no Hello, and names the seat's session
+abbrev pub IsOwnMessage : Seated → Up → Type 0
+IsOwnMessage seat m = (is_hello m ≡ false) × (same_session (session_in m) seat.session ≡ true)
+
+-- A seat's message is taken to a server that runs: it is the seat's own, its session has had as many messages as the
+-- seat, and the server has what the seat was told of.
 pub record IsTaken (seat : Seated) (m : Up) (server : Option State) (number : ℕ) : Type 0 where
   pub runs : is_some server ≡ true
-  pub no_hello : is_hello m ≡ false
-  pub own : same_session (session_in m) seat.session ≡ true
+  pub own : IsOwnMessage seat m
   pub fresh : seat.seen ≤ number
   pub abreast : IsAbreast m seat.q server
 
--- The message's turn is done and answered, and then sessions that are slow are ended. The seat and the counts have one
--- message more where the server accepted it, and the seat is told of the number.
-pub record IsHeard (m : Up) (now : ℕ) (old new : Option State) (before : Lines) (earlier number : ℕ) (seat seat_after : Seated) (counts counts_after : Counts) : Type 0 where
+-- The message's turn is done and answered on the lines, and then each session whose line is slow is ended. The seat and
+-- the counts have one message more where the server accepted it, and the seat is told of the number.
+pub record IsHeard (m : Up) (now : ℕ) (old new : Option State) (before after : Lines) (earlier number : ℕ) (seat seat_after : Seated) (counts counts_after : Counts) : Type 0 where
   pub taken : IsTaken seat m old earlier
-  pub carried : IsCarriedOut (input.Up m) now old new before
+  pub carried : IsCarriedOut (input.Up m) now old new before after
   pub seat_is : seat_after ≡ record { session = seat.session; q = seat.q + accepted_of old m now; seen = number; made = seat.made + accepted_of old m now }
   pub counts_are : counts_after ≡ record counts { accepted = counts.accepted + accepted_of old m now }
 
@@ -83,12 +86,14 @@ abbrev pub IsForeign : Bool → Bool → Fault → Type 0
 IsForeign true same f = f ≡ fault.Bad
 IsForeign false same f = (f ≡ fault.Session) × (same ≡ false)
 
--- why a seat's message isn't taken to the server
+-- Why a seat's message isn't taken to the server: the server is down, before all; it isn't the seat's own; the server
+-- has less than the seat was told of; and last, its session has had another number of messages than the seat.
 abbrev pub IsKeptBack : Seated → Up → Option State → ℕ → HubFault → Type 0
 IsKeptBack seat m None number e = e ≡ why.Down
 IsKeptBack seat m (Some s) number (why.Refused f) = IsForeign (is_hello m) (same_session (session_in m) seat.session) f
-IsKeptBack seat m (Some s) number (why.Behind have seen) = (have ≡ number) × (seen ≡ seat.seen) × (number < seat.seen)
-IsKeptBack seat m (Some s) number (why.Apart q) = (q ≡ seat.q + 1) × (is_open (session_in m) (entries s.log) ≡ true) × (count (session_in m) (entries s.log) ≢ seat.q)
+IsKeptBack seat m (Some s) number (why.Behind have seen) = IsOwnMessage seat m × (have ≡ number) × (seen ≡ seat.seen) × (number < seat.seen)
+IsKeptBack seat m (Some s) number (why.Apart q) =
+    IsOwnMessage seat m × (seat.seen ≤ number) × (q ≡ seat.q + 1) × (is_open (session_in m) (entries s.log) ≡ true) × (count (session_in m) (entries s.log) ≢ seat.q)
 IsKeptBack seat m (Some s) number e = ⊥
 
 -- the end of a session isn't done: memory is refused with the server as it was, or its turn isn't done
@@ -99,9 +104,9 @@ IsRefusedEnd i now old new (why.Keeper f) = IsRefused i now old new (why.Keeper 
 IsRefusedEnd i now old new why.Down = IsRefused i now old new why.Down
 IsRefusedEnd i now old new e = ⊥
 
--- a seat's message is kept back, with the server as it was, or its turn isn't done
+-- a seat's message is kept back, with the server as it was, or else is taken to the server, and its turn isn't done
 abbrev pub IsNotHeard : Seated → Up → ℕ → ℕ → Option State → Option State → HubFault → Type 0
-IsNotHeard seat m number now old new e = (IsKeptBack seat m old number e × (new ≡ old)) ⊎ IsRefused (input.Up m) now old new e
+IsNotHeard seat m number now old new e = (IsKeptBack seat m old number e × (new ≡ old)) ⊎ (IsTaken seat m old number × IsRefused (input.Up m) now old new e)
 
 -- a session isn't opened, as its Hello's turn isn't done
 abbrev pub IsNotOpened : SessionId → ℕ → Option State → Option State → HubFault → Type 0
@@ -117,25 +122,56 @@ IsNotOpened s now old new e = ⊥
 abbrev pub IsMarked : SessionId → Lines → Type 0
 IsMarked s lines = IsSomeAnd (line_at s lines) (λ l. is_some l.mark ≡ true)
 
--- marked sessions are ended, one after the other
-abbrev pub EndsMarked : ℕ → List (SessionId × Why) → Option State → Option State → Type 0
-EndsMarked now [] old new = new ≡ old
-EndsMarked now (e ∷ es) old new = (middle : Option State) × (lines : Lines) × IsCarriedOut (end_by e.1 e.0) now old middle lines × EndsMarked now es middle new
+-- no session's end is still to be done
+abbrev pub NoneMarked : Lines → Type 0
+NoneMarked lines = (s : SessionId) → IfSome (line_at s lines) (λ l. l.mark ≡ None)
+
+-- these sessions, each the first that is marked, are ended for the reason of their marks, one after the other
+abbrev pub EndsMarked : ℕ → List (SessionId × Why) → Option State → Option State → Lines → Lines → Type 0
+EndsMarked now [] old new before after = (new ≡ old) × (after ≡ before)
+EndsMarked now (e ∷ es) old new before after =
+    IsFirstMarked e before
+    × (middle : Option State) × (lines : Lines) × IsCarriedOut (end_by e.1 e.0) now old middle before lines × EndsMarked now es middle new lines after
 
 -- so many times the first lease that ran out is ended, or nothing is done where there is none
-abbrev pub EndsLate : ℕ → ℕ → Option State → Option State → Type 0
-EndsLate now zero old new = new ≡ old
-EndsLate now (suc n) old new = (middle : Option State) × (lines : Lines) × IsCarriedOut input.Tick now old middle lines × EndsLate now n middle new
+abbrev pub EndsLate : ℕ → ℕ → Option State → Option State → Lines → Lines → Type 0
+EndsLate now zero old new before after = (new ≡ old) × (after ≡ before)
+EndsLate now (suc n) old new before after =
+    (middle : Option State) × (lines : Lines) × IsCarriedOut input.Tick now old middle before lines × EndsLate now n middle new lines after
 
-abbrev pub AreMarkedEnded : ℕ → Option State → Option State → Type 0
-AreMarkedEnded now old new = (es : List (SessionId × Why)) × EndsMarked now es old new
+abbrev pub AreMarkedEnded : ℕ → Option State → Option State → Lines → Lines → Type 0
+AreMarkedEnded now old new before after = (es : List (SessionId × Why)) × EndsMarked now es old new before after
 
-abbrev pub AreLateEnded : ℕ → Option State → Option State → Type 0
-AreLateEnded now old new = (n : ℕ) × EndsLate now n old new
+abbrev pub AreLateEnded : ℕ → Option State → Option State → Lines → Lines → Type 0
+AreLateEnded now old new before after = (n : ℕ) × EndsLate now n old new before after
 
--- sessions that are marked are ended, then those whose leases ran out, until none is left
-pub record IsTicked (now : ℕ) (old new : Option State) : Type 0 where
+-- sessions that are marked are ended until none is, then those whose leases ran out, until none is left
+pub record IsTicked (now : ℕ) (old new : Option State) (before after : Lines) : Type 0 where
   pub middle : Option State
-  pub marked : AreMarkedEnded now old middle
-  pub late : AreLateEnded now middle new
+  pub lines : Lines
+  pub marked : AreMarkedEnded now old middle before lines
+  pub none_marked : NoneMarked lines
+  pub late : AreLateEnded now middle new lines after
   pub none_late : Runs (λ s. turn s input.Tick now ≡ quiet) new
+
+-- a tick stops at a session whose end is refused: it stays the first that is marked, and the ends before it stand
+pub record StopsAtMark (now : ℕ) (old new : Option State) (before after : Lines) (e : HubFault) : Type 0 where
+  pub middle : Option State
+  pub ended : AreMarkedEnded now old middle before after
+  pub next : SessionId × Why
+  pub first : IsFirstMarked next after
+  pub refused : IsRefusedEnd (end_by next.1 next.0) now middle new e
+
+-- it stops at a lease whose end is refused: each session that was marked is ended, and the ends of leases before it stand
+pub record StopsAtLease (now : ℕ) (old new : Option State) (before after : Lines) (e : HubFault) : Type 0 where
+  pub middle : Option State
+  pub lines : Lines
+  pub ended : AreMarkedEnded now old middle before lines
+  pub none_marked : NoneMarked lines
+  pub last : Option State
+  pub late : AreLateEnded now middle last lines after
+  pub refused : IsRefused input.Tick now last new e
+
+-- a tick stops at an end that is refused
+abbrev pub IsNotTicked : ℕ → Option State → Option State → Lines → Lines → HubFault → Type 0
+IsNotTicked now old new before after e = StopsAtMark now old new before after e ⊎ StopsAtLease now old new before after e

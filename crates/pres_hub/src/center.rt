@@ -11,10 +11,11 @@ ghost use Rattle.pres_server.specs.Replays.{made_from};
 ghost use Rattle.pres_server.specs.declared.input.Input.TheVariants.{Up as Message, Tick as Late};
 ghost use Rattle.pres_engine.specs.Engines.{Runs};
 ghost use Rattle.pres_ring.specs.Accepted.{is_hello, messages_in};
-ghost use Rattle.pres_exchange.specs.Exchanges.{StayMarked, IsAnswered, AreRestarted};
+ghost use Rattle.pres_exchange.specs.Exchanges.{StayMarked, IsAnswered, AreRestarted, IsNotStarted};
+ghost use Rattle.pres_seats.specs.Faults.{of_engine};
 ghost use Rattle.pres_lines.specs.Lines.{line_at, struck, ChangesAt};
 ghost use Rattle.pres_hub.specs.Cores.{Stands, end_by};
-ghost use Rattle.pres_hub.specs.Said.{IsCarriedOut, IsOpened, IsKeptBack, IsAbreast, accepted_of, IsHeard, IsRefused, IsNotHeard, IsNotOpened, IsRefusedEnd, IsMarked, AreMarkedEnded, AreLateEnded, IsTicked};
+ghost use Rattle.pres_hub.specs.Said.{IsCarriedOut, IsOpened, IsKeptBack, IsAbreast, accepted_of, IsOwnMessage, IsHeard, IsRefused, IsNotHeard, IsNotOpened, IsRefusedEnd, IsMarked, NoneMarked, AreMarkedEnded, AreLateEnded, IsTicked, StopsAtMark, IsNotTicked};
 ghost use Rattle.pres_seats.specs.declared.fault.HubFault.TheVariants.{Down as Gone, Memory};
 
 use pres_exchange::{
@@ -121,8 +122,9 @@ fn take_message<L: Ledger, K: Keeper + Drop, B: Bell + Clone + Drop>(
 }
 
 impl<L: Ledger, K: Keeper + Drop, B: Bell + Clone + Drop> Core<L, K, B> {
-    /// Starts a hub over what the keeper holds, whose open sessions are ended first. Refused as
-    /// the keeper refuses its server; or where an end is refused: then some may have been ended.
+    /// Starts a hub over what the keeper holds, whose open sessions are ended first, in byte order
+    /// of their clients. Refused as the keeper refuses its server: Keeper, with Memory, Database or
+    /// BadRow; or where an end is refused: then those before it have been ended.
     pub fn start(
         alloc: Global,
         blank: Blank,
@@ -142,6 +144,8 @@ impl<L: Ledger, K: Keeper + Drop, B: Bell + Clone + Drop> Core<L, K, B> {
         ensures counts { IfOk result (λ c.
             c.counts ≡ record { accepted = 0; seats = 0; out = 0 }) }
         ensures stands { IfOk result (λ c. Stands K.works K.keeps c) }
+        ensures refused { IfErr result (λ e. K.works e.1 → (fault : _) × (e.0 ≡ of_engine fault)
+            × IsNotStarted (K.readable keeper) (K.keeps keeper) (K.keeps e.1) now fault) }
         ensures ready { IfErr result (λ e. K.ready e.1) }
     {
         match Exchange::start(alloc, keeper, now) {
@@ -176,7 +180,8 @@ impl<L: Ledger, K: Keeper + Drop, B: Bell + Clone + Drop> Core<L, K, B> {
     fn event(&mut self, input: Input, now: Moment) -> Result<(), HubFault>
         requires { messages_in input ≡ 0 }
         ensures done { IfOk result (λ _.
-            IsCarriedOut input now self.old.run.server self.new.run.server self.old.lines) }
+            IsCarriedOut input now self.old.run.server self.new.run.server
+            self.old.lines self.new.lines) }
         ensures refused { IfErr result
             (IsRefused input now self.old.run.server self.new.run.server) }
         ensures lines { OnErr result (self.new.lines ≡ self.old.lines) }
@@ -205,9 +210,11 @@ impl<L: Ledger, K: Keeper + Drop, B: Bell + Clone + Drop> Core<L, K, B> {
           out = self.old.counts.out + 1;
         }) }
         ensures joined { IfOk result (λ joined. IsOpened session.now now self.old.run.server
-            self.new.run.server self.old.lines joined.1) }
+            self.new.run.server self.old.lines self.new.lines joined.1) }
         ensures refused { IfErr result
             (IsNotOpened session.now now self.old.run.server self.new.run.server) }
+        ensures lines { OnErr result
+            ((t : SessionId) → line_at t self.new.lines ≡ line_at t self.old.lines) }
         ensures down { (self.old.run.server ≡ None)
             → IfErr result (λ e. e ≡ Gone) }
         ensures stays { OnErr result (self.new.run.number ≡ self.old.run.number) }
@@ -233,8 +240,8 @@ impl<L: Ledger, K: Keeper + Drop, B: Bell + Clone + Drop> Core<L, K, B> {
         ensures number { IfOk result (λ said. said.number ≡ self.new.run.number) }
         ensures fresh { IfOk result (λ said. seat.old.seen ≤ said.number) }
         ensures heard { IfOk result (λ said. IsHeard up now self.old.run.server
-            self.new.run.server self.old.lines self.old.run.number said.number seat.old seat.new
-            self.old.counts self.new.counts) }
+            self.new.run.server self.old.lines self.new.lines self.old.run.number said.number
+            seat.old seat.new self.old.counts self.new.counts) }
         ensures refused { IfErr result (IsNotHeard seat.old up self.old.run.number now
             self.old.run.server self.new.run.server) }
         ensures kept { OnErr result
@@ -258,7 +265,11 @@ impl<L: Ledger, K: Keeper + Drop, B: Bell + Clone + Drop> Core<L, K, B> {
 
     // Ends the sessions whose leases ran out.
     fn end_late(&mut self, now: Moment) -> Result<(), HubFault>
-        ensures ended { OnOk result (AreLateEnded now self.old.run.server self.new.run.server) }
+        ensures ended { OnOk result (AreLateEnded now self.old.run.server self.new.run.server
+            self.old.lines self.new.lines) }
+        ensures stopped { IfErr result (λ e. (last : _)
+            × AreLateEnded now self.old.run.server last self.old.lines self.new.lines
+            × IsRefused Late now last self.new.run.server e) }
         ensures none_late { OnOk result
             (Runs (λ s. turn s Late now ≡ quiet) self.new.run.server) }
         ensures marks { StayMarked self.old.lines self.new.lines }
@@ -277,11 +288,13 @@ impl<L: Ledger, K: Keeper + Drop, B: Bell + Clone + Drop> Core<L, K, B> {
     }
 
     /// Ends the sessions that are marked, in their order, and then those whose leases ran out: how
-    /// many. At a refusal it stops, and what was ended stays so.
+    /// many. It stops at the first end that is refused, and what was ended stays so.
     pub fn tick(&mut self, now: Moment) -> Result<u64, HubFault>
         ensures ended { IfOk result (λ n. self.new.run.number ≡ self.old.run.number + n) }
         ensures ticked { OnOk result
-            (IsTicked now self.old.run.server self.new.run.server) }
+            (IsTicked now self.old.run.server self.new.run.server self.old.lines self.new.lines) }
+        ensures stopped { IfErr result (IsNotTicked now self.old.run.server self.new.run.server
+            self.old.lines self.new.lines) }
         ensures closed { OnOk result ((s : SessionId) → IsMarked s self.old.lines
             → Runs (λ t. is_open s (entries t.log) ≡ false) self.new.run.server) }
         ensures rises { self.old.run.number ≤ self.new.run.number }
@@ -297,7 +310,11 @@ impl<L: Ledger, K: Keeper + Drop, B: Bell + Clone + Drop> Core<L, K, B> {
 
     // Ends the sessions that are marked, in their order.
     fn end_marked(&mut self, now: Moment) -> Result<(), HubFault>
-        ensures ended { OnOk result (AreMarkedEnded now self.old.run.server self.new.run.server) }
+        ensures ended { OnOk result (AreMarkedEnded now self.old.run.server self.new.run.server
+            self.old.lines self.new.lines) }
+        ensures none_marked { OnOk result (NoneMarked self.new.lines) }
+        ensures stopped { IfErr result (StopsAtMark now self.old.run.server self.new.run.server
+            self.old.lines self.new.lines) }
         ensures left { OnOk result ((s : SessionId) → IsMarked s self.old.lines
             → line_at s self.new.lines ≡ None) }
         ensures rises { self.old.run.number ≤ self.new.run.number }
@@ -316,7 +333,7 @@ impl<L: Ledger, K: Keeper + Drop, B: Bell + Clone + Drop> Core<L, K, B> {
     // Ends the session.
     fn end(&mut self, session: &SessionId, why: Why, now: Moment) -> Result<(), HubFault>
         ensures ended { IfOk result (λ _. IsCarriedOut (end_by why session.now) now
-            self.old.run.server self.new.run.server self.old.lines) }
+            self.old.run.server self.new.run.server self.old.lines self.new.lines) }
         ensures refused { IfErr result (IsRefusedEnd (end_by why session.now) now
             self.old.run.server self.new.run.server) }
         ensures rises { self.old.run.number ≤ self.new.run.number }
@@ -333,7 +350,7 @@ impl<L: Ledger, K: Keeper + Drop, B: Bell + Clone + Drop> Core<L, K, B> {
     pub fn leave(&mut self, seat: Seat<L>, why: Why, now: Moment) -> Parting<L>
         ensures made { result.made ≡ seat.made }
         ensures ended { IfNone result.fault (IsCarriedOut (end_by why seat.session) now
-            self.old.run.server self.new.run.server self.old.lines) }
+            self.old.run.server self.new.run.server self.old.lines self.new.lines) }
         ensures refused { IfSome result.fault (IsRefusedEnd (end_by why seat.session) now
             self.old.run.server self.new.run.server) }
         ensures marked { IfSome result.fault (λ _. ChangesAt seat.session
@@ -358,8 +375,7 @@ impl<L: Ledger, K: Keeper + Drop, B: Bell + Clone + Drop> Core<L, K, B> {
         ensures refused { IfSome result
             (IsKeptBack seat.now up.now self.now.run.server self.now.run.number) }
         ensures runs { IfNone result (is_some self.now.run.server ≡ true) }
-        ensures hello { IfNone result (is_hello up.now ≡ false) }
-        ensures own { IfNone result (same_session (session_in up.now) seat.now.session ≡ true) }
+        ensures own { IfNone result (IsOwnMessage seat.now up.now) }
         ensures fresh { IfNone result (seat.now.seen ≤ self.now.run.number) }
         ensures abreast { IfNone result (IsAbreast up.now seat.now.q self.now.run.server) }
     {

@@ -12,7 +12,7 @@ pub returns-then-after-before-clause-ended : goal.returns-then-after-before-clau
 returns-then-after-before-clause-ended g c =
     let old = c.loop-self.self in
     let new = c.event.new.self in
-    c.loop-self.invariant.4 new.run.server (late_more c.args.now old.run.server new.run.server new.run.server old.lines c.in_ok-event.ensures.done (0, refl))
+    c.loop-self.invariant.4 new.run.server new.lines (late_more c.args.now old.run.server new.run.server new.run.server old.lines new.lines new.lines c.in_ok-event.ensures.done (0, (refl, refl)))
 
 pub returns-then-after-before-clause-none_late : goal.returns-then-after-before-clause-none_late
 returns-then-after-before-clause-none_late g c =
@@ -20,7 +20,7 @@ returns-then-after-before-clause-none_late g c =
     let new = c.event.new.self in
     let before = c.number-before.ensures.number ∙ ap (λ x. x.run.number) c.self.view_is in
     let after = c.number-after.ensures.number ∙ ap (λ x. x.run.number) c.self-in-loop-self.view_is in
-    none_late c.args.now old.run.number new.run.number old.run.server new.run.server old.lines c.in_ok-event.ensures.done
+    none_late c.args.now old.run.number new.run.number old.run.server new.run.server old.lines new.lines c.in_ok-event.ensures.done
     (subst (λ x. Runs (λ s. IsLegal s.log) x.run.server) c.self.view_is c.number-before.ensures.legal)
     (subst (λ x. Runs (λ s. x.run.number ≡ number s.log) x.run.server) c.self.view_is c.number-before.ensures.counted)
     (subst (λ x. Runs (λ s. x.run.number ≡ number s.log) x.run.server) c.self-in-loop-self.view_is c.number-after.ensures.counted)
@@ -32,7 +32,7 @@ loop-self-smaller g c =
     let new = c.event.new.self in
     let before = c.number-before.ensures.number ∙ ap (λ x. x.run.number) c.self.view_is in
     let after = c.number-after.ensures.number ∙ ap (λ x. x.run.number) c.self-in-loop-self.view_is in
-    late_fewer input.Tick c.args.now old.run.number new.run.number old.run.server new.run.server old.lines c.in_ok-event.ensures.done
+    late_fewer input.Tick c.args.now old.run.number new.run.number old.run.server new.run.server old.lines new.lines c.in_ok-event.ensures.done
     (subst (λ x. Runs (λ s. IsLegal s.log) x.run.server) c.self.view_is c.number-before.ensures.legal)
     (subst (λ x. Runs (λ s. x.run.number ≡ number s.log) x.run.server) c.self.view_is c.number-before.ensures.counted)
     (subst (λ x. Runs (λ s. x.run.number ≡ number s.log) x.run.server) c.self-in-loop-self.view_is c.number-after.ensures.counted)
@@ -48,5 +48,5 @@ loop-self-preserved g c =
       event.start ∙ before.1,
       omega (arith, since, rises),
       stay_twice c.args.self.now.lines c.loop-self.self.lines c.event.new.self.lines before.3 event.marks,
-      λ after h. before.4 after (late_more c.args.now c.loop-self.self.run.server c.event.new.self.run.server after c.loop-self.self.lines event.done h),
+      λ after behind h. before.4 after behind (late_more c.args.now c.loop-self.self.run.server c.event.new.self.run.server after c.loop-self.self.lines c.event.new.self.lines behind event.done h),
     )

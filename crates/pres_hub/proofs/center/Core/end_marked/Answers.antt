@@ -1,35 +1,69 @@
-use Rattle.std.proofs.Common.{◌≡◌, ◌∙◌, subst, true, Some, IfOk, IfSome, arith}
+use Rattle.std.proofs.Common.{◌≡◌, ◌∙◌, refl, sym, subst, true, [], Some, is_some, IfOk, IfSome, arith}
 use Rattle.pres_log.specs.Logs.{entries}
 use Rattle.pres_server.specs.LegalLog.{IsLegal}
 use Rattle.pres_server.specs.Sessions.{is_open}
 use Rattle.pres_engine.specs.Engines.{Runs}
-use Rattle.pres_lines.specs.Lines.{first_marked}
+use Rattle.pres_lines.specs.Lines.{first_marked, IsFirstMarked}
 use Rattle.pres_exchange.proofs.Marks.{stay_twice}
-use Rattle.pres_hub.specs.Said.{IsCarriedOut}
+use Rattle.pres_seats.specs.declared.fault.HubFault.TheVariants.{Memory}
+use Rattle.pres_exchange.proofs.Ended.{passed_on}
+use Rattle.pres_hub.specs.Cores.{end_by}
+use Rattle.pres_hub.specs.Said.{IsCarriedOut, IsRefused, StopsAtMark}
 use Rattle.pres_hub.proofs.Fewer.{marked_fewer}
-use Rattle.pres_hub.proofs.Ends.{marked_more}
+use Rattle.pres_hub.proofs.Ends.{marked_more, stops_uncopied, refused_end}
 use Rattle.pres_hub.proofs.center.Core.end_marked.Goals as goal
 
 pub loop-next-smaller : goal.loop-next-smaller
 loop-next-smaller g c =
     let old = c.self.inside.exchange in
-    let carried = subst (λ i. IsCarriedOut i c.args.now c.loop-next.self.run.server c.event.new.self.run.server c.loop-next.self.lines) c.end_by.ensures.input c.in_ok-event.ensures.done in
+    let carried = subst (λ i. IsCarriedOut i c.args.now c.loop-next.self.run.server c.event.new.self.run.server c.loop-next.self.lines c.event.new.self.lines) c.end_by.ensures.input c.in_ok-event.ensures.done in
     let found : first_marked old.lines ≡ Some (c.in_ok-session.session, c.in_ok-session.why) = subst (λ r. IfOk r (λ e. first_marked old.lines ≡ Some e)) c.in_ok-session.was c.in-Some.ensures.session in
     let is : Runs (λ s. is_open c.in_ok-session.session (entries s.log) ≡ true) old.run.server = subst (λ o. IfSome o (λ e. Runs (λ s. is_open e.0 (entries s.log) ≡ true) old.run.server)) found c.in-Some.ensures.open in
-    marked_fewer c.in_ok-session.why c.in_ok-session.session c.args.now c.loop-next.self.run.server c.event.new.self.run.server c.loop-next.self.lines carried
+    marked_fewer c.in_ok-session.why c.in_ok-session.session c.args.now c.loop-next.self.run.server c.event.new.self.run.server c.loop-next.self.lines c.event.new.self.lines carried
     (subst (λ x. Runs (λ s. IsLegal s.log) x.run.server) c.self.view_is c.number.ensures.legal)
     (subst (λ x. Runs (λ s. is_open c.in_ok-session.session (entries s.log) ≡ true) x.run.server) c.self.view_is is)
 
 pub loop-next-preserved : goal.loop-next-preserved
 loop-next-preserved g c =
     let before = c.loop-next.invariant in
+    let old = c.self.inside.exchange in
+    let found : first_marked old.lines ≡ Some (c.in_ok-session.session, c.in_ok-session.why) = subst (λ r. IfOk r (λ e. first_marked old.lines ≡ Some e)) c.in_ok-session.was c.in-Some.ensures.session in
+    let first : IsFirstMarked (c.in_ok-session.session, c.in_ok-session.why) old.lines = subst (λ o. IfSome o (λ e. IsFirstMarked e old.lines)) found c.in-Some.ensures.first in
     let event = c.in_ok-event.ensures in
-    let carried = subst (λ i. IsCarriedOut i c.args.now c.loop-next.self.run.server c.event.new.self.run.server c.loop-next.self.lines) c.end_by.ensures.input event.done in
+    let carried = subst (λ i. IsCarriedOut i c.args.now c.loop-next.self.run.server c.event.new.self.run.server c.loop-next.self.lines c.event.new.self.lines) c.end_by.ensures.input event.done in
     let since = before.2 in
     let rises = event.rises in (
       event.counts ∙ before.0,
       event.start ∙ before.1,
       omega (arith, since, rises),
       stay_twice c.args.self.now.lines c.loop-next.self.lines c.event.new.self.lines before.3 event.marks,
-      λ after h. before.4 after (marked_more c.args.now c.in_ok-session.session c.in_ok-session.why c.loop-next.self.run.server c.event.new.self.run.server after c.loop-next.self.lines carried h),
+      λ after behind h. before.4 after behind
+          (marked_more c.args.now (c.in_ok-session.session, c.in_ok-session.why) c.loop-next.self.run.server c.event.new.self.run.server after c.loop-next.self.lines c.event.new.self.lines behind
+          (subst (λ x. IsFirstMarked (c.in_ok-session.session, c.in_ok-session.why) x.lines) c.self.view_is first) carried h),
     )
+
+pub returns-in_err-session-clause-stopped : goal.returns-in_err-session-clause-stopped
+returns-in_err-session-clause-stopped g c =
+    let now = c.loop-next.self in
+    let first = subst (λ x. IfSome (first_marked x.lines) (λ e. IsFirstMarked e x.lines)) c.self.view_is c.in-Some.ensures.first in
+    let is : is_some (first_marked now.lines) ≡ true = sym (subst (λ x. true ≡ is_some (first_marked x.lines)) c.self.view_is c.in-Some.ensures.found) in
+    passed_on c.from_residual.result Memory (StopsAtMark c.args.now c.args.self.now.run.server now.run.server c.args.self.now.lines now.lines) c.from_residual.ensures.1
+    (stops_uncopied (first_marked now.lines) c.args.now c.args.self.now.run.server now.run.server c.args.self.now.lines now.lines is first (c.loop-next.invariant.4 now.run.server now.lines ([], (refl, refl))))
+
+pub returns-in_err-event-clause-stopped : goal.returns-in_err-event-clause-stopped
+returns-in_err-event-clause-stopped g c =
+    let old = c.self.inside.exchange in
+    let now = c.loop-next.self in
+    let new = c.event.new.self in
+    let found : first_marked old.lines ≡ Some (c.in_ok-session.session, c.in_ok-session.why) = subst (λ r. IfOk r (λ e. first_marked old.lines ≡ Some e)) c.in_ok-session.was c.in-Some.ensures.session in
+    let first : IsFirstMarked (c.in_ok-session.session, c.in_ok-session.why) old.lines = subst (λ o. IfSome o (λ e. IsFirstMarked e old.lines)) found c.in-Some.ensures.first in
+    let stopped : StopsAtMark c.args.now c.args.self.now.run.server new.run.server c.args.self.now.lines now.lines c.in_err-event.field-0.0 = record {
+      middle = now.run.server;
+      ended = c.loop-next.invariant.4 now.run.server now.lines ([], (refl, refl));
+      next = (c.in_ok-session.session, c.in_ok-session.why);
+      first = subst (λ x. IsFirstMarked (c.in_ok-session.session, c.in_ok-session.why) x.lines) c.self.view_is first;
+      refused = refused_end (end_by c.in_ok-session.why c.in_ok-session.session) c.args.now now.run.server new.run.server c.in_err-event.field-0.0
+          (subst (λ i. IsRefused i c.args.now now.run.server new.run.server c.in_err-event.field-0.0) c.end_by.ensures.input c.in_err-event.ensures.refused);
+    } in
+    passed_on c.from_residual-in_err-event.result c.in_err-event.field-0.0 (StopsAtMark c.args.now c.args.self.now.run.server new.run.server c.args.self.now.lines new.lines) c.from_residual-in_err-event.ensures.1
+    (subst (λ lines. StopsAtMark c.args.now c.args.self.now.run.server new.run.server c.args.self.now.lines lines c.in_err-event.field-0.0) (sym c.in_err-event.ensures.lines) stopped)

@@ -12,13 +12,13 @@ invariant_of-self-2 g c =
     let count = c.self.inside.tally.accepted in
     let done = c.in_ok-turn.ensures.answered in (
       c.end_slow.ensures.none_slow,
-      ended_accepted start count c.args.now c.end_slow.ensures.ended.0 c.turn.new.self.run.server c.end_slow.new.self.run.server c.end_slow.ensures.ended.1
+      ended_accepted start count c.args.now c.turn.new.self.run.server c.end_slow.new.self.run.server c.turn.new.self.lines c.end_slow.new.self.lines c.end_slow.ensures.ended
           (same_accepted start count c.self.inside.exchange.run.server c.turn.new.self.run.server c.args.input c.args.now done.0 c.requires done.1 c.self.invariant.1),
     )
 
 pub returns-clause-done : goal.returns-clause-done
 returns-clause-done g c =
-    subst (λ x. IsCarriedOut c.args.input c.args.now x.run.server c.end_slow.new.self.run.server x.lines) c.self.view_is
+    subst (λ x. IsCarriedOut c.args.input c.args.now x.run.server c.end_slow.new.self.run.server x.lines c.end_slow.new.self.lines) c.self.view_is
     (record {
       middle = c.turn.new.self.run.server;
       lines = c.turn.new.self.lines;

@@ -13,6 +13,6 @@ invariant_of-self-2 g c =
     let joined = c.in_ok-outbox.ensures.joined in (
       c.end_slow.ensures.none_slow,
       subst (λ n. AreAccepted c.self.inside.start n c.end_slow.new.self.run.server) (sym (ap (λ x. x.accepted) c.seat-seat.ensures.tally))
-          (ended_accepted c.self.inside.start (c.self.inside.tally.accepted + 1) c.args.now c.end_slow.ensures.ended.0 c.join.new.self.run.server c.end_slow.new.self.run.server c.end_slow.ensures.ended.1
+          (ended_accepted c.self.inside.start (c.self.inside.tally.accepted + 1) c.args.now c.join.new.self.run.server c.end_slow.new.self.run.server c.join.new.self.lines c.end_slow.new.self.lines c.end_slow.ensures.ended
           (joined_accepted c.self.inside.start c.self.inside.tally.accepted c.args.session.now c.args.now c.self.inside.exchange.run.server c.join.new.self.run.server c.self.inside.exchange.lines c.join.new.self.lines c.in_ok-outbox.outbox joined c.self.invariant.1)),
     )

@@ -20,7 +20,7 @@ invariant_of-self-2 g c =
     let ended = c.end_slow.ensures.ended in (
       c.end_slow.ensures.none_slow,
       subst (λ n. AreAccepted start n new) (sym (ap (λ t. t.accepted) c.in_ok-take_message.ensures.tally))
-          (ended_accepted start (count + accepted_of old c.args.up c.args.now) c.args.now ended.0 middle new ended.1
+          (ended_accepted start (count + accepted_of old c.args.up c.args.now) c.args.now middle new c.take_message.new.exchange.lines c.end_slow.new.self.lines ended
           (said_accepted start count old middle c.args.up c.args.now answered.0 answered.1 c.self.invariant.1)),
     )
 
@@ -29,8 +29,8 @@ returns-clause-heard g c =
     let new = c.end_slow.new.self.run.server in
     let taken = c.in_default.ensures in
     record {
-      taken = record { runs = taken.runs; no_hello = taken.hello; own = taken.own; fresh = taken.fresh; abreast = taken.abreast };
-      carried = subst (λ x. IsCarriedOut (input.Up c.args.up) c.args.now x.run.server new x.lines) c.self.view_is (record {
+      taken = record { runs = taken.runs; own = taken.own; fresh = taken.fresh; abreast = taken.abreast };
+      carried = subst (λ x. IsCarriedOut (input.Up c.args.up) c.args.now x.run.server new x.lines c.end_slow.new.self.lines) c.self.view_is (record {
         middle = c.take_message.new.exchange.run.server;
         lines = c.take_message.new.exchange.lines;
         answered = c.in_ok-take_message.ensures.answered;
