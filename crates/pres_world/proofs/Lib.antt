@@ -2,7 +2,6 @@ pub mod Asked
 pub mod Backed
 pub mod Cancelled
 pub mod Ended
-pub mod EndsFirst
 pub mod Faith
 pub mod Follow
 pub mod Found
@@ -17,6 +16,7 @@ pub mod Orderly
 pub mod Reached
 pub mod Safety
 pub mod Sent
+pub mod SessionOrder
 pub mod Snaps
 pub mod Stands
 pub mod Stays

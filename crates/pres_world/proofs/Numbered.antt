@@ -276,16 +276,16 @@ packets_repeat w h s t q p n o x first second its its_start =
     let a = all_written w h s q n o there in
     nth_once a.base a.writes n o x (a.all.fits s q n o there refl refl) (a.all.fits t p n x (packet_there w.ups (up.Op t p n x) second) (sym its) (sym its_start))
 
--- what stands for a write that was asked for is what was asked for, where no later start asked for it
-pub same_write : (w : World) → Numbered w → IsLegal w.serving.history → (s u : SessionId) (q p n : ℕ) (o x : Op) (r : Outcome) (i : ℕ) → IsPacket w.ups (up.Op s q n o) → IsPacket w.ups (up.Op u p n x) →
-    slice_get (entries w.serving.history) i ≡ Some (entry.Op u p n x r) → u.client ≡ s.client → u.incarnation ≤ s.incarnation → o ≡ x
-same_write w h legal s u q p n o x r i first second get its early =
+-- what stands for a write that was asked for is of the start that asked for it, where no later start asked
+pub same_start : (w : World) → Numbered w → IsLegal w.serving.history → (s u : SessionId) (q p n : ℕ) (o x : Op) (r : Outcome) (i : ℕ) → IsPacket w.ups (up.Op s q n o) →
+    slice_get (entries w.serving.history) i ≡ Some (entry.Op u p n x r) → u.client ≡ s.client → u.incarnation ≤ s.incarnation → u.incarnation ≡ s.incarnation
+same_start w h legal s u q p n o x r i first get its early =
     let there = packet_there w.ups (up.Op s q n o) first in
     let a = all_written w h s q n o there in
     let asked = a.all.fits s q n o there refl refl in
     let count = asked.count in
     let late = not_older w.serving.history legal s.client s.incarnation asked.base (a.all.based asked.base asked.known) u p n x r i get its (omega (arith, count)) in
-    nth_once a.base a.writes n o x asked (a.all.fits u p n x (packet_there w.ups (up.Op u p n x) second) its (omega (arith, early, late)))
+    omega (arith, early, late)
 
 pub packets_numbered : (w : World) → Numbered w → IsNumbered w.ups
 packets_numbered w h m k q x y = h.one m k q (packet_there w.ups m x) (packet_there w.ups k y)

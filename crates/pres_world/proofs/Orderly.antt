@@ -1,15 +1,16 @@
--- Writes and ends stand in order in every legal log.
+-- Writes, sessions and their ends stand in order in every legal log.
 use Rattle.std.proofs.Common.{refl, sym, ◌∙◌, ap, subst, ◌≡◌, ℕ, zero, suc, List, Some, arith, slice_get, take}
+use Rattle.pres_log.specs.declared.entry.Entry.TheVariants as entry
 use Rattle.pres_log.specs.Logs.{Log, entries, entries_before, item_at}
 use Rattle.pres_server.specs.LegalLog.{IsLegal}
 use Rattle.pres_server.proofs.Whole.{ends_are_due}
 use Rattle.std.specs.List.{AllByRecursion}
 use Rattle.pres_server.specs.SessionPlans.{plan}
-use Rattle.pres_world.specs.Orderly.{WritesStand, EndsStand, CancelsStand}
+use Rattle.pres_world.specs.Orderly.{WritesStand, SessionsStand, EndsStand, CancelsStand}
 use Rattle.pres_world.proofs.Cancelled.{IsOther, cancels_stand}
 use Rattle.pres_world.proofs.Backed.{contained}
 use Rattle.pres_world.proofs.Stands.{none_or_some, stands_may, ends_once, op_once, op_order}
-use Rattle.pres_world.proofs.EndsFirst.{ends_come_first}
+use Rattle.pres_world.proofs.SessionOrder.{earlier_first}
 
 -- an item that is numbered from 1 on, and its place
 pub place : {A : Type 0} (xs : List A) (k : ℕ) (x : A) → item_at xs k ≡ Some x → (i : ℕ) × (k ≡ suc i) × (slice_get xs i ≡ Some x)
@@ -31,6 +32,15 @@ writes_stand log legal = record {
       omega (arith, is, xs, ys);
 }
 
+pub sessions_stand : (log : Log) → IsLegal log → SessionsStand log
+sessions_stand log legal j k e f a b same earlier =
+    let u = place (entries log) j e a in
+    let v = place (entries log) k f b in
+    let is = earlier_first log legal u.0 v.0 e f u.2 v.2 same earlier in
+    let us = u.1 in
+    let vs = v.1 in
+    omega (arith, is, us, vs)
+
 pub ends_stand : (log : Log) → IsLegal log → EndsStand log
 ends_stand log legal = record {
   once = λ s j k q q' y y' rows rows' a b.
@@ -38,13 +48,7 @@ ends_stand log legal = record {
       let v = place (entries log) k _ b in
       u.1 ∙ ap suc (ends_once (entries log) (stands_may log legal) s u.0 v.0 q q' y y' rows rows' u.2 v.2) ∙ sym v.1;
   are_due = λ earlier later batch s q y rows more is first. ends_are_due earlier later batch (subst IsLegal (sym is) legal) s q y rows more first;
-  come_first = λ s j k q y rows e a b same earlier.
-      let u = place (entries log) j _ a in
-      let v = place (entries log) k _ b in
-      let is = ends_come_first log legal s u.0 v.0 q y rows e u.2 v.2 same earlier in
-      let us = u.1 in
-      let vs = v.1 in
-      omega (arith, is, us, vs);
+  come_first = λ s j k q y rows e a b same earlier. sessions_stand log legal j k (entry.Ended s q y rows) e a b same earlier;
 }
 
 pub cancels_undone : (log : Log) → IsLegal log → CancelsStand log

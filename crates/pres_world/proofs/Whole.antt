@@ -1,7 +1,9 @@
 -- Whatever happens to a new world, it is safe.
-use Rattle.std.proofs.Common.{map, refl, sym, ◌∙◌, ap, subst, ◌≡◌, ℕ, zero, suc, List, [], ◌∷◌, ◌++◌, inl, inr, Some, slice_get, if◌then◌else◌}
+use Rattle.std.proofs.Common.{map, refl, sym, ◌∙◌, ap, subst, ◌≡◌, ◌<◌, ℕ, zero, suc, true, ◌||◌, ◌&&◌, ◌==◌, nat_lt, List, [], ◌∷◌, ◌++◌, inl, inr, Some, slice_get, if◌then◌else◌, arith}
+use Rattle.std.specs.List.{Contains}
+use Rattle.std.proofs.lemmas.Bool.{lt-ltb}
 use Rattle.pres_ids.specs.declared.id.SessionId.{SessionId}
-use Rattle.pres_ids.specs.Ids.{ClientId}
+use Rattle.pres_ids.specs.Ids.{ClientId, is_earlier, stamp_of}
 use Rattle.pres_write.specs.declared.op.Op.{Op}
 use Rattle.pres_write.specs.declared.outcome.Kept.{Kept}
 use Rattle.pres_wire.specs.declared.up.Up.TheVariants as up
@@ -19,11 +21,11 @@ use Rattle.pres_world.specs.declared.event.Event.TheVariants as event
 use Rattle.pres_world.specs.declared.fault.WorldFault.{WorldFault}
 use Rattle.pres_world.specs.declared.fault.WorldFault.TheVariants as fault
 use Rattle.pres_world.specs.Members.{acknowledged}
-use Rattle.pres_world.specs.Safe.{Occurrence, happens, hands_out, Occurs, Passes, IsPacket, IsSent, StandsAs, StandsArmed, StaysSafe, IsSafe, IsTold}
+use Rattle.pres_world.specs.Safe.{Occurrence, happens, hands_out, Occurs, Passes, IsPacket, IsSent, IsEarlierWrite, WritesInOrder, StandsAs, StandsArmed, StaysSafe, IsSafe, IsTold}
 use Rattle.pres_world.specs.Worlds.{World, IsStep, IsStop, IsRefused, Reaches, becomes, new_world}
 use Rattle.pres_world.proofs.Backed.{IsAsked, IsWrite, IsArmed, all_front, contained}
 use Rattle.pres_world.proofs.Told.{Vouched}
-use Rattle.pres_world.proofs.Orderly.{place, writes_stand, ends_stand, cancels_undone}
+use Rattle.pres_world.proofs.Orderly.{place, writes_stand, sessions_stand, ends_stand, cancels_undone}
 use Rattle.pres_client.specs.Steps.{calls, receives, IsMessage}
 use Rattle.std.specs.Option.{is_none}
 use Rattle.pres_client.specs.Steps.{after}
@@ -33,7 +35,7 @@ use Rattle.pres_world.proofs.Snaps.{streamed}
 use Rattle.pres_wire.specs.declared.down.Down.TheVariants as down
 use Rattle.pres_server.specs.Streams.{stream}
 use Rattle.pres_world.proofs.Stands.{none_or_some}
-use Rattle.pres_world.proofs.Numbered.{Early, Numbered, becomes_numbered, again_numbered, early_acks, quiet_numbered, grown_numbered, shown_true, packets_numbered, packets_repeat, same_write, new_numbered}
+use Rattle.pres_world.proofs.Numbered.{Early, Numbered, becomes_numbered, again_numbered, early_acks, quiet_numbered, grown_numbered, shown_true, packets_numbered, packets_repeat, same_start, new_numbered}
 
 pub record Whole (w : World) : Type 0 where
   pub honest : Honest w
@@ -114,7 +116,8 @@ stands_as w s r z q n done out whole h asks early = record {
   stands = h.stands;
   sent = sent;
   client = h.client;
-  asked = subst (λ o. IsPacket w.ups (up.Op s q n o)) (same_write w whole.numbered whole.honest.sound.legal s h.session q h.q n asked.0 h.op h.outcome at.0 asked.1 sent at.2 h.client (early.1 h.session h.q n h.op h.outcome h.stands)) asked.1;
+  start = start;
+  asked = subst (λ o. IsPacket w.ups (up.Op s q n o)) (packets_repeat w whole.numbered s h.session q h.q n asked.0 h.op asked.1 sent (sym h.client) (sym start)) asked.1;
   kept = h.kept;
 } where
   sent : IsPacket w.ups (up.Op h.session h.q n h.op)
@@ -125,6 +128,36 @@ stands_as w s r z q n done out whole h asks early = record {
 
   at : (i : ℕ) × (done ≡ suc i) × (slice_get (entries w.serving.history) i ≡ Some (entry.Op h.session h.q n h.op h.outcome))
   at = place (entries w.serving.history) done _ h.stands
+
+  start : h.session.incarnation ≡ s.incarnation
+  start = same_start w whole.numbered whole.honest.sound.legal s h.session q h.q n asked.0 h.op h.outcome at.0 asked.1 at.2 h.client (early.1 h.session h.q n h.op h.outcome h.stands)
+
+acknowledged_stands : (w : World) → Whole w → (s : SessionId) (r z q n done : ℕ) (out : Kept) → Contains w.acks (Reply s r z q n done out) → StandsAs w s q n done out
+acknowledged_stands w whole s r z q n done out there =
+    let backed = (contained (Vouched (entries w.serving.history)) w.acks (Reply s r z q n done out) whole.honest.acks there).0 in
+    stands_as w s r z q n done out whole backed.0 backed.1 (contained (Early (entries w.serving.history)) w.acks (Reply s r z q n done out) whole.numbered.early there)
+
+earlier_start : (s t : SessionId) → s.incarnation < t.incarnation → is_earlier (stamp_of s) (stamp_of t) ≡ true
+earlier_start s t less = ap (λ b. b || (s.incarnation == t.incarnation && nat_lt s.attempt t.attempt)) (lt-ltb s.incarnation t.incarnation less)
+
+-- the one that got its number earlier stands earlier
+writes_in_order : (w : World) → Whole w → WritesInOrder w
+writes_in_order w whole s t r r' z z' q p n m j k out out' a b same earlier = by earlier where
+  first : StandsAs w s q n j out
+  first = acknowledged_stands w whole s r z q n j out a
+
+  second : StandsAs w t p m k out'
+  second = acknowledged_stands w whole t r' z' p m k out' b
+
+  client : first.session.client ≡ second.session.client
+  client = first.client ∙ same ∙ sym second.client
+
+  by : IsEarlierWrite s n t m → j < k
+  by (inl less) =
+      let x = first.start in
+      let y = second.start in
+      sessions_stand w.serving.history whole.honest.sound.legal j k _ _ first.stands second.stands client (earlier_start first.session second.session (omega (arith, less, x, y)))
+  by (inr later) = (writes_stand w.serving.history whole.honest.sound.legal).in_order first.session second.session j k first.first_q second.first_q n m first.op second.op first.outcome second.outcome first.stands second.stands client later.1
 
 stands_armed : (w : World) (s : SessionId) (z q : ℕ) → Honest w → IsArmed (entries w.serving.history) s z q → StandsArmed w s z q
 stands_armed w s z q honest (inl h) =
@@ -137,9 +170,8 @@ stays_safe ids occurrences v passes =
     let whole = passes_whole (new_world ids) occurrences v (record { honest = new_honest ids; numbered = new_numbered ids }) passes in
     let h = whole.honest in
     record {
-      acknowledged = λ s r z q n done out c.
-          let backed = (contained (Vouched (entries v.serving.history)) v.acks (Reply s r z q n done out) h.acks c).0 in
-          stands_as v s r z q n done out whole backed.0 backed.1 (contained (Early (entries v.serving.history)) v.acks (Reply s r z q n done out) whole.numbered.early c);
+      acknowledged = acknowledged_stands v whole;
+      in_order = writes_in_order v whole;
       armed = λ s r z q c. stands_armed v s z q h (contained (Vouched (entries v.serving.history)) v.acks (Armed s r z q) h.acks c).0;
       told = λ m c. (contained (Vouched (entries v.serving.history)) v.acks m h.acks c).1;
       sent = λ k e at. item_sent v.ups (entries v.serving.history) k e h.sent at;
@@ -148,6 +180,7 @@ stays_safe ids occurrences v passes =
       views = λ id c there p z x shows. shown_true v id c whole.numbered there p z x shows;
       agree = λ i j c d c_there d_there p z x y c_shows d_shows. (shown_true v i c whole.numbered c_there p z x c_shows).1 ∙ sym (shown_true v j d whole.numbered d_there p z y d_shows).1;
       writes = writes_stand v.serving.history h.sound.legal;
+      sessions = sessions_stand v.serving.history h.sound.legal;
       ends = ends_stand v.serving.history h.sound.legal;
       cancels = cancels_undone v.serving.history h.sound.legal;
     }

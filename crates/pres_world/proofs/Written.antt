@@ -19,7 +19,7 @@ use Rattle.pres_server.specs.Sessions.{opens}
 use Rattle.pres_server.proofs.Since.{session_itself}
 use Rattle.pres_world.specs.Safe.{IsTold}
 use Rattle.pres_world.proofs.Stands.{none_or_some, stands_may, got_small, take_within, take_whole, among, ops-append, op_counts, found_before}
-use Rattle.pres_world.proofs.EndsFirst.{open_is_newest}
+use Rattle.pres_world.proofs.SessionOrder.{open_is_newest}
 use Rattle.pres_world.proofs.Backed.{here}
 use Rattle.pres_world.proofs.Writes.{IsNth}
 

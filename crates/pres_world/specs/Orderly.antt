@@ -1,4 +1,4 @@
--- What every legal log says of writes and of ends.
+-- What every legal log says of writes, of sessions and of their ends.
 use Rattle.std.specs.Prelude.{ℕ, ◌<◌, ◌≡◌, true, IsTrue, Option, List, ◌∷◌, ◌++◌}
 use Rattle.std.specs.List.{Contains}
 use Rattle.pres_ids.specs.declared.id.SessionId.{SessionId}
@@ -32,6 +32,10 @@ pub record EndsStand (log : Log) : Type 0 where
       earlier ++ batch ∷ later ≡ log → batch.entries ≡ entry.Ended s q y rows ∷ more → rows ≡ due_at (entries earlier) batch.moment s
   pub come_first : (s : SessionId) (j k : ℕ) (q : Option ℕ) (y : Why) (rows : List Basic) (e : Entry) →
       Stands log j (entry.Ended s q y rows) → Stands log k e → s.client ≡ (session_of e).client → IsTrue (is_earlier (stamp_of s) (stamp_of (session_of e))) → j < k
+
+-- the entries of one client stand in the order of its sessions
+abbrev pub SessionsStand : Log → Type 0
+SessionsStand log = (j k : ℕ) (e f : Entry) → Stands log j e → Stands log k f → (session_of e).client ≡ (session_of f).client → IsTrue (is_earlier (stamp_of (session_of e)) (stamp_of (session_of f))) → j < k
 
 -- a put at the path or below that was left before message q
 abbrev pub IsPutBefore : ℕ → Path → PlanRow → Type 0

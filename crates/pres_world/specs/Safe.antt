@@ -1,5 +1,5 @@
 -- What holds of every world that is reached.
-use Rattle.std.specs.Prelude.{ℕ, ◌≡◌, ◌≤◌, ◌⊎◌, length, take, List, [], ◌∷◌, ◌++◌, Some, None}
+use Rattle.std.specs.Prelude.{ℕ, ◌≡◌, ◌≤◌, ◌<◌, ◌⊎◌, length, take, List, [], ◌∷◌, ◌++◌, Some, None}
 use Rattle.std.specs.FinMap.Entries.{put}
 use Rattle.std.specs.List.{Contains}
 use Rattle.pres_ids.specs.declared.id.SessionId.{SessionId}
@@ -25,7 +25,7 @@ use Rattle.pres_tree.specs.declared.scalar.Scalar.{Scalar}
 use Rattle.pres_tree.specs.Rows.{Rows, value_at}
 use Rattle.pres_world.specs.declared.event.Event.{Event}
 use Rattle.pres_world.specs.declared.fault.WorldFault.{WorldFault}
-use Rattle.pres_world.specs.Orderly.{WritesStand, EndsStand, CancelsStand}
+use Rattle.pres_world.specs.Orderly.{WritesStand, SessionsStand, EndsStand, CancelsStand}
 use Rattle.pres_world.specs.Worlds.{World, IsClient, IsStep, IsRefused, new_world}
 
 -- what may happen to a world: an event, which may be refused, or what a client noted is handed out
@@ -64,7 +64,8 @@ IsSent ups (entry.Ended s None why rows) = Unit {0}
 IsSent ups (entry.Ended s (Some q) why rows) = IsPacket ups (up.Bye s q)
 
 -- Write n of the client of s, which it asked for by message q of the session, stands under this number as it was sent, and
--- came out so. Where it was sent again, the message that the entry was made of is another one with the same write.
+-- came out so. Where it was sent again, the message that the entry was made of is another one with the same write, of the
+-- same start of the client.
 pub record StandsAs (w : World) (s : SessionId) (q n done : ℕ) (out : Kept) : Type 0 where
   pub session : SessionId
   pub first_q : ℕ
@@ -73,8 +74,18 @@ pub record StandsAs (w : World) (s : SessionId) (q n done : ℕ) (out : Kept) : 
   pub stands : Stands w.serving.history done (entry.Op session first_q n op outcome)
   pub sent : IsPacket w.ups (up.Op session first_q n op)
   pub client : session.client ≡ s.client
+  pub start : session.incarnation ≡ s.incarnation
   pub asked : IsPacket w.ups (up.Op s q n op)
   pub kept : kept_of outcome ≡ out
+
+-- Write n, which a client asked for in session s, got its number before write m, which it asked for in session t: an
+-- earlier start of the client gave it, or the same one, which counts its writes on.
+abbrev pub IsEarlierWrite : SessionId → ℕ → SessionId → ℕ → Type 0
+IsEarlierWrite s n t m = (s.incarnation < t.incarnation) ⊎ ((s.incarnation ≡ t.incarnation) × (n < m))
+
+-- of two writes of one client whose replies were taken, the one that got its number earlier stands earlier
+abbrev pub WritesInOrder : World → Type 0
+WritesInOrder w = (s t : SessionId) (r r' z z' q p n m j k : ℕ) (out out' : Kept) → Contains w.acks (Reply s r z q n j out) → Contains w.acks (Reply t r' z' p m k out') → s.client ≡ t.client → IsEarlierWrite s n t m → j < k
 
 -- what was sent as message q of the session, for its end or to take such back, stands under the number
 abbrev pub StandsArmed : World → SessionId → ℕ → ℕ → Type 0
@@ -110,15 +121,17 @@ ViewsAreTrue w = (id : ClientId) (c : Client) → IsClient w id c → (p : Path)
 abbrev pub ViewsAgree : World → Type 0
 ViewsAgree w = (i j : ClientId) (c d : Client) → IsClient w i c → IsClient w j d → (p : Path) (z : ℕ) (u v : Rows Scalar) → view p c ≡ Some (z, u) → view p d ≡ Some (z, v) → u ≡ v
 
--- Each write whose reply a client took stands where the reply says, as the client asked for it, and came out as the
--- reply says. So does each action for a session's end, and each cancel, that was acknowledged. All that clients took is
--- what the history tells their sessions, and what they show of a path is what stood there at its number, so that two of
--- them agree. All that stands there was sent; a session's packets with one number are one message, and those of one
--- start of a client with one number of a write carry one operation. Each write stands once, in its client's order. And
--- each session ends once, by all that is due and nothing that was cancelled, before any entry of a later session of its
--- client.
+-- Each write whose reply a client took stands where the reply says, as that start of the client asked for it, and came
+-- out as the reply says; of two such writes of one client the one that got its number earlier stands earlier, earlier
+-- starts first. Each action for a session's end, and each cancel, that was acknowledged stands as it was sent. All that
+-- clients took is what the history tells their sessions, and what they show of a path is what stood there at its number,
+-- so that two of them agree. All that stands there was sent; a session's packets with one number are one message, and
+-- those of one start of a client with one number of a write carry one operation. Each write stands once, in its client's
+-- order, and the entries of a client stand in the order of its sessions. And each session ends once, by all that is due
+-- and nothing that was cancelled, before any entry of a later session of its client.
 pub record IsSafe (w : World) : Type 0 where
   pub acknowledged : (s : SessionId) (r z q n done : ℕ) (out : Kept) → Contains w.acks (Reply s r z q n done out) → StandsAs w s q n done out
+  pub in_order : WritesInOrder w
   pub armed : (s : SessionId) (r z q : ℕ) → Contains w.acks (Armed s r z q) → StandsArmed w s z q
   pub told : (m : Down) → Contains w.acks m → IsTold (entries w.serving.history) m
   pub sent : (k : ℕ) (e : Entry) → Stands w.serving.history k e → IsSent w.ups e
@@ -127,6 +140,7 @@ pub record IsSafe (w : World) : Type 0 where
   pub views : ViewsAreTrue w
   pub agree : ViewsAgree w
   pub writes : WritesStand w.serving.history
+  pub sessions : SessionsStand w.serving.history
   pub ends : EndsStand w.serving.history
   pub cancels : CancelsStand w.serving.history
 

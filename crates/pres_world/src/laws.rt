@@ -4,15 +4,17 @@ ghost use Rattle.std.specs.Prelude.{List};
 ghost use Rattle.pres_ids.specs.Ids.{ClientId};
 ghost use Rattle.pres_log.specs.Logs.{Log};
 ghost use Rattle.pres_server.specs.LegalLog.{IsLegal};
-ghost use Rattle.pres_world.specs.Orderly.{CancelsStand, EndsStand, WritesStand};
+ghost use Rattle.pres_world.specs.Orderly.{CancelsStand, EndsStand, SessionsStand, WritesStand};
 ghost use Rattle.pres_world.specs.Safe.{Occurrence, StaysSafe};
 ghost use Rattle.pres_world.specs.Worlds.{World};
 
-/// In a legal log each write of a client stands once, in the order of the writes' numbers; each
-/// session ends once, with all that is due, before any entry of a later session of its client; and
-/// what was cancelled before is not in the plan that the end pays.
+/// In a legal log each write of a client stands once, in the order of the writes' numbers; the
+/// entries of a client stand in the order of its sessions; each session ends once, with all that is
+/// due, before any entry of a later session of its client; and what was cancelled before is not in
+/// the plan that the end pays.
 pub fn legal_logs_are_orderly()
     ensures writes { (log : Log) → IsLegal log → WritesStand log }
+    ensures sessions { (log : Log) → IsLegal log → SessionsStand log }
     ensures ends { (log : Log) → IsLegal log → EndsStand log }
     ensures cancels { (log : Log) → IsLegal log → CancelsStand log }
 {}

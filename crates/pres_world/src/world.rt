@@ -6,7 +6,7 @@ ghost use Rattle.pres_ids.specs.Ids.{ClientId, client_cmp};
 ghost use Rattle.pres_client.specs.Clients.{State};
 ghost use Rattle.pres_log.specs.Logs.{item_at};
 ghost use Rattle.pres_server.specs.LegalLog.{IsLegal};
-ghost use Rattle.pres_world.specs.Orderly.{CancelsStand, EndsStand, WritesStand};
+ghost use Rattle.pres_world.specs.Orderly.{CancelsStand, EndsStand, SessionsStand, WritesStand};
 ghost use Rattle.pres_world.specs.Safe.{IsSafe, Occurrence, Passes};
 ghost use Rattle.pres_world.specs.Served.{Serves};
 ghost use Rattle.pres_world.specs.Worlds.{IsCall, IsArrival, IsDelivery, IsLoss, IsStart, IsRestart, IsStep, IsStop, IsRefused, IsCutShort, Lacks, Reaches, new_world};
@@ -89,12 +89,14 @@ impl World {
     }
 
     /// The batches that were committed: a legal log, in which each write of a client stands once, in
-    /// the order of the writes' numbers, and each session ends once, with all that is due and nothing
-    /// that was cancelled, before any entry of a later session of its client.
+    /// the order of the writes' numbers, the entries of a client stand in the order of its sessions,
+    /// and each session ends once, with all that is due and nothing that was cancelled, before any
+    /// entry of a later session of its client.
     pub fn history(&self) -> &[Batch]
         ensures history { result.now ≡ self.now.serving.history }
         ensures legal { IsLegal result.now }
         ensures writes { WritesStand result.now }
+        ensures sessions { SessionsStand result.now }
         ensures ends { EndsStand result.now }
         ensures cancels { CancelsStand result.now }
     {

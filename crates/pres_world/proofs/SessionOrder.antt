@@ -1,12 +1,10 @@
--- An ended session's end stands before every entry of a later session of its client.
+-- The entries of a client stand in the order of its sessions.
 use Rattle.std.proofs.Common.{refl, sym, ◌∙◌, ap, ◌≡◌, ◌<◌, ◌≤◌, ℕ, length, not, unwrap_or, List, [], ◌∷◌, ◌++◌, Bool, true, false, ◌||◌, ◌&&◌, ◌⊎◌, inl, inr, Option, Some, true≢false, arith, IsTrue, slice_get, take}
 use Rattle.std.specs.List.{list_any}
 use Rattle.std.proofs.lemmas.Bool.{and_parts, false_from_ne_true, cases_order}
 use Rattle.pres_ids.specs.declared.id.SessionId.{SessionId}
 use Rattle.pres_ids.specs.declared.id.Stamp.{Stamp}
-use Rattle.pres_ids.specs.declared.id.Why.{Why}
 use Rattle.pres_ids.specs.Ids.{ClientId, is_earlier, same_client, same_session, stamp_of}
-use Rattle.pres_write.specs.declared.basic.Basic.{Basic}
 use Rattle.pres_log.specs.declared.entry.Entry.{Entry}
 use Rattle.pres_log.specs.declared.entry.Entry.TheVariants as entry
 use Rattle.pres_log.specs.Logs.{Log, entries}
@@ -94,17 +92,28 @@ opened_by_then es stands j i e at less = from (opened_before (take j es) (stands
   from (inl h) = found_still (opens (session_of e)) es j i e at less h
   from (inr h) = found_before (opens (session_of e)) es j i e at less h
 
-pub ends_come_first : (log : Log) → IsLegal log → (s : SessionId) (i j : ℕ) (q : Option ℕ) (y : Why) (rows : List Basic) (e : Entry) →
-    slice_get (entries log) i ≡ Some (entry.Ended s q y rows) → slice_get (entries log) j ≡ Some e → s.client ≡ (session_of e).client → IsTrue (is_earlier (stamp_of s) (stamp_of (session_of e))) → i < j
-ends_come_first log legal s i j q y rows e a b same earlier = by_order (cases_order i j) where
+-- no later session of its client was opened before an entry that may come
+none_later : (before : List Entry) (m : ℕ) (e : Entry) → OpenIsNewest before → MayCome before m e → (t : SessionId) → list_any (opens t) before ≡ true → (session_of e).client ≡ t.client → is_earlier (stamp_of (session_of e)) (stamp_of t) ≡ false
+none_later before m (entry.Open s) newest may t o same = one_way (stamp_of t) (stamp_of s) (all_in (λ x. is_earlier (stamp_of x) (stamp_of s)) t (sessions_of s.client before) may.0 (opened_among t s.client before o (sym same)))
+none_later before m (entry.Op s q n op outcome) newest may t o same = newest s t may.0.0 o same
+none_later before m (entry.Again s q n) newest may t o same = newest s t may.0.0 o same
+none_later before m (entry.Left s q puts) newest may t o same = newest s t may.0.0 o same
+none_later before m (entry.Cancelled s q path) newest may t o same = newest s t may.0.0 o same
+none_later before m (entry.Denied s q why) newest may t o same = newest s t may.0 o same
+none_later before m (entry.On s q path) newest may t o same = newest s t may.0.0 o same
+none_later before m (entry.Off s q path) newest may t o same = newest s t may.0 o same
+none_later before m (entry.Ended s q why rows) newest may t o same = newest s t may.0 o same
+
+pub earlier_first : (log : Log) → IsLegal log → (i j : ℕ) (e f : Entry) → slice_get (entries log) i ≡ Some e → slice_get (entries log) j ≡ Some f → (session_of e).client ≡ (session_of f).client → IsTrue (is_earlier (stamp_of (session_of e)) (stamp_of (session_of f))) → i < j
+earlier_first log legal i j e f a b same earlier = by_order (cases_order i j) where
   by_order : (i ≡ j) ⊎ ((i < j) ⊎ (j < i)) → i < j
   by_order (inl is) =
-      let found : Some e ≡ Some (entry.Ended s q y rows) = sym b ∙ ap (slice_get (entries log)) (sym is) ∙ a in
-      let it : session_of e ≡ s = ap (λ o. session_of (unwrap_or o e)) found in
-      absurd (true≢false (sym earlier ∙ ap (λ t. is_earlier (stamp_of s) (stamp_of t)) it ∙ not_earlier (stamp_of s)))
+      let found : Some f ≡ Some e = sym b ∙ ap (slice_get (entries log)) (sym is) ∙ a in
+      let it : session_of f ≡ session_of e = ap (λ o. session_of (unwrap_or o f)) found in
+      absurd (true≢false (sym earlier ∙ ap (λ t. is_earlier (stamp_of (session_of e)) (stamp_of t)) it ∙ not_earlier (stamp_of (session_of e))))
   by_order (inr (inl less)) = less
   by_order (inr (inr more)) =
       let stands = stands_may log legal in
-      let open_then = (stands i (entry.Ended s q y rows) a).1.0 in
-      let small = got_small (entries log) i (entry.Ended s q y rows) a in
-      absurd (true≢false (sym earlier ∙ open_is_newest log legal i (omega (arith, small)) s (session_of e) open_then (opened_by_then (entries log) stands j i e b more) same))
+      let may = stands i e a in
+      let small = got_small (entries log) i e a in
+      absurd (true≢false (sym earlier ∙ none_later (take i (entries log)) may.0 e (open_is_newest log legal i (omega (arith, small))) may.1 (session_of f) (opened_by_then (entries log) stands j i f b more) same))
