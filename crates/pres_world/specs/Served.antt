@@ -12,9 +12,9 @@ use Rattle.pres_log.specs.Logs.{Log, entries}
 use Rattle.pres_server.specs.declared.input.Input.{Input}
 use Rattle.pres_server.specs.declared.input.Input.TheVariants as input
 use Rattle.pres_server.specs.Heard.{State, Pending, heard_from, first_client}
-use Rattle.pres_server.specs.Sessions.{open_sessions_of}
+use Rattle.pres_server.specs.Sessions.{has_open, open_sessions_of}
 use Rattle.pres_server.specs.Streams.{answers}
-use Rattle.pres_server.specs.Turns.{Decision, refused, quiet, makes, turn, moment_of, state_after, state_heard, is_made, batch_of}
+use Rattle.pres_server.specs.Turns.{Decision, refused, quiet, makes, turn, moment_of, state_after, state_heard, batch_of}
 use Rattle.pres_server.specs.Replays.{made_from}
 use Rattle.pres_server.specs.LegalLog.{IsLegal}
 use Rattle.pres_world.specs.declared.event.Ending.{Ending}
@@ -93,14 +93,10 @@ lost (s ∷ more) w now e = served w (input.Lost s) now e
 abbrev pub IsEndOf : State → ClientId → ℕ → State → Log → Log → Type 0
 IsEndOf s c now t old new = (es : List Entry) × (turn s (input.Restart c) now ≡ makes es) × (t ≡ state_after s (moment_of s.log now) es) × (new ≡ old ++ batch_of s.log (moment_of s.log now) es ∷ [])
 
--- no session is open, or no number is left for the end of one
-abbrev pub IsEnd : Option ClientId → State → ℕ → Type 0
-IsEnd None t now = ⊤
-IsEnd (Some c) t now = is_made (turn t (input.Restart c) now) ≡ false
-
--- the sessions of these clients end, one after the other: each time that of the first client, in byte order
+-- The sessions of these clients end, one after the other: each time that of the first client, in byte order. Then no
+-- session is open.
 abbrev pub EndsAll : ℕ → List ClientId → State → State → Type 0
-EndsAll now [] s t = (t ≡ s) × IsEnd (first_client t.heard) t now
+EndsAll now [] s t = (t ≡ s) × ((c : ClientId) → has_open c (entries t.log) ≡ false)
 EndsAll now (c ∷ cs) s t = (es : List Entry) × (first_client s.heard ≡ Some c) × (turn s (input.Restart c) now ≡ makes es) × EndsAll now cs (state_after s (moment_of s.log now) es) t
 
 -- A server is made of the committed batches, each open session ends, and the answers of these ends are lost.

@@ -1,14 +1,15 @@
 //! The server's part of a world.
 
-ghost use Rattle.std.specs.Prelude.{◌≡◌, ◌⊎◌, ◌+◌, ◌++◌, ◌∷◌, [], ℕ, true, false, List, Some, None, IfOk, IfErr, OnOk, MatchOption, option_copied};
+ghost use Rattle.std.specs.Prelude.{◌≡◌, ◌⊎◌, ◌+◌, ◌++◌, ◌∷◌, [], ℕ, true, false, List, Some, None, IfOk, IfErr, OnOk, IfSome, IfNone, MatchOption, option_copied};
 ghost use Rattle.pres_ids.specs.Ids.{ClientId};
 ghost use Rattle.pres_log.specs.Logs.{entries};
 ghost use Rattle.pres_server.specs.Heard.{State, heard_from, first_client, blank};
 ghost use Rattle.pres_server.specs.LegalLog.{IsLegal};
 ghost use Rattle.pres_server.specs.Parts.{session_with};
 ghost use Rattle.pres_server.specs.Replays.{made_from};
+ghost use Rattle.pres_server.specs.Sessions.{has_open};
 ghost use Rattle.pres_server.specs.Streams.{answers};
-ghost use Rattle.pres_server.specs.Turns.{turn, makes, quiet, is_made, state_after, state_heard};
+ghost use Rattle.pres_server.specs.Turns.{turn, makes, quiet, state_after, state_heard};
 ghost use Rattle.pres_server.specs.declared.input.Input.{Input};
 ghost use Rattle.pres_server.specs.declared.input.Input.TheVariants as input;
 ghost use Rattle.pres_world.specs.Served.{Serves, fault_for, turned, served, lost, log_with, open_on, EndsAll, IsEndOf, IsRestarted};
@@ -54,7 +55,11 @@ fn sender(alloc: Global, input: &Input) -> Result<Option<SessionId>, AllocError>
 
 // The first client, in byte order, that has a session open.
 fn first_open(alloc: Global, server: &Server) -> Result<Option<ClientId>, AllocError>
-    ensures { IfOk result (λ found. found ≡ first_client server.now.heard) }
+    ensures first { IfOk result (λ found. found ≡ first_client server.now.heard) }
+    ensures open { IfOk result
+        (λ found. IfSome found (λ c. has_open c (entries server.now.log) ≡ true)) }
+    ensures none { IfOk result
+        (λ found. IfNone found ((c : ClientId) → has_open c (entries server.now.log) ≡ false)) }
 {
     match server.first_open() {
         Some(client) => Ok(Some(client.copy(alloc)?)),
@@ -62,33 +67,29 @@ fn first_open(alloc: Global, server: &Server) -> Result<Option<ClientId>, AllocE
     }
 }
 
-// A session of the first client that has one open ends. With its batch behind those that ended
-// before, or the server as it was where the turn makes none.
+// The client's open session ends, with its batch behind those that ended before.
 fn end_one(
     alloc: Global,
     server: Server,
     client: ClientId,
     now: Moment,
     ended: &mut Vec<Batch>,
-) -> Result<(Server, bool), WorldFault>
-    ensures ended { IfOk result (λ r. r.1 ≡ true → IsEndOf server client now r.0
-        ended.old.items ended.new.items) }
-    ensures left { IfOk result (λ r. r.1 ≡ false → (r.0 ≡ server)
-        × (is_made (turn server (input.Restart client) now) ≡ false)
-        × (ended.new.items ≡ ended.old.items)) }
+) -> Result<Server, WorldFault>
+    requires { has_open client (entries server.log) ≡ true }
+    ensures ended { IfOk result (λ after.
+        IsEndOf server client now after ended.old.items ended.new.items) }
     ensures refused { IfErr result (λ e. e ≡ Memory) }
 {
+    // it ensures that the log is legal
+    let _ = server.number();
     let busy = match server.prepare(Input::Restart(client), now) {
         Ok(Turn::Busy(busy)) => busy,
-        Ok(Turn::Quiet(server, answers)) => {
-            drop(answers);
-            return Ok((server, false));
-        }
-        Err((Fault::Busy, server)) => {
+        Ok(Turn::Quiet(..)) => unreachable!(),
+        // the end of an open session is refused for want of memory alone
+        Err((_, server)) => {
             drop(server);
             return Err(WorldFault::Memory);
         }
-        Err((_, server)) => return Ok((server, false)),
     };
     if !keep(alloc, busy.batch(), ended) {
         drop(busy.abandon());
@@ -97,7 +98,7 @@ fn end_one(
     match busy.done() {
         Ok((server, answers)) => {
             drop(answers);
-            Ok((server, true))
+            Ok(server)
         }
         Err(_) => Err(WorldFault::Memory),
     }
@@ -124,13 +125,10 @@ fn end_all(alloc: Global, server: Server, now: Moment) -> Result<(Server, Vec<Ba
     let mut server = server;
     let mut ended = Vec::new(alloc);
     while let Some(client) = first_open(alloc, &server)? {
-        let (next, ends) = end_one(alloc, server, client, now, &mut ended)?;
+        let next = end_one(alloc, server, client, now, &mut ended)?;
         server = next;
         // it ensures that the log is legal
         let _ = server.number();
-        if !ends {
-            return Ok((server, ended));
-        }
     }
     let _ = server.number();
     Ok((server, ended))
