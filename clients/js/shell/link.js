@@ -219,7 +219,7 @@ export class Link {
       this.#socket.send(text);
       this.#spoke = Date.now();
     }
-    this.#waiting.push(...this.core.takeNotices());
+    for (const notice of this.core.takeNotices()) this.#waiting.push(notice);
     if (this.#isTelling) return; // by what is told now
     this.#isTelling = true;
     try {

@@ -17,13 +17,13 @@ export class Browser {
 
   static async start(t) {
     const browser = new Browser();
+    t.after(() => browser.kill());
     const child = spawn(chromium, [
       "--headless=new", "--no-sandbox", "--disable-gpu", "--disable-dev-shm-usage", "--no-first-run", "--remote-debugging-port=0",
       `--user-data-dir=${scratch(t)}`, "about:blank",
     ], { detached: true, stdio: ["ignore", "ignore", "pipe"] });
     browser.child = child;
     browser.ended = once(child, "exit");
-    t.after(() => browser.kill());
     browser.socket = new WebSocket(await addressOf(child));
     await new Promise((resolve, reject) => Object.assign(browser.socket, { onopen: resolve, onerror: () => reject(new Error("no DevTools")) }));
     browser.socket.onmessage = ({ data }) => browser.#hear(JSON.parse(data));
@@ -46,14 +46,14 @@ export class Browser {
 
   /** A page of its own at the address. */
   async open(url) {
-    const { targetId } = await this.send("Target.createTarget", { url, width: 640, height: 620 });
+    const { targetId } = await this.send("Target.createTarget", { url, newWindow: true, width: 640, height: 620 });
     const { sessionId } = await this.send("Target.attachToTarget", { targetId, flatten: true });
     return new Page(this, sessionId);
   }
 
   /** Kills all its processes at once, as kill -9 does. */
   async kill() {
-    if (this.child.exitCode !== null || this.child.signalCode !== null) return;
+    if (this.child === undefined || this.child.exitCode !== null || this.child.signalCode !== null) return;
     process.kill(-this.child.pid, "SIGKILL");
     await this.ended;
   }

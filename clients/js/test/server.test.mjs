@@ -106,6 +106,7 @@ test("transactions of four clients count to 400", slowly, async (t) => {
   const clients = ["a", "b", "c", "d"].map((id) => client(t, url, id));
   let overtaken = 0;
   const hundred = async (db) => {
+    onValue(ref(db, "/n"), () => {}); // so that each transaction begins with the value that stands there
     for (let made = 0; made < 100;) {
       try {
         const { committed } = await runTransaction(ref(db, "/n"), (n) => (n ?? 0) + 1);

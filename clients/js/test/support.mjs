@@ -52,10 +52,10 @@ export function memory(texts = new Map()) {
   return { texts, getItem: (name) => texts.get(name) ?? null, setItem: (name, text) => void texts.set(name, text) };
 }
 
-/** A directory that is gone after the test. */
+/** A directory that is gone after the test, once what was to be done after it before has been done. */
 export function scratch(t) {
   const directory = mkdtempSync(join(tmpdir(), "presence-"));
-  t.after(() => rmSync(directory, { recursive: true, force: true }));
+  t.after(() => rmSync(directory, { recursive: true, force: true, maxRetries: 20, retryDelay: 100 }));
   return directory;
 }
 
@@ -79,8 +79,8 @@ if (PROGRAM && !existsSync(PROGRAM)) throw new Error(`PRESENCE_PROGRAM names ${P
 /** The program as a server over a file. */
 export class RealServer {
   constructor(t) {
-    this.file = join(scratch(t), "presence.db");
     t.after(() => this.kill());
+    this.file = join(scratch(t), "presence.db");
   }
 
   async start() {
