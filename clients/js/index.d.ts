@@ -42,7 +42,7 @@ export interface Options {
 export interface Timing {
   /** Between two signs of life. The server ends a session that is silent for 60,000. By default 20,000. */
   beat: number;
-  /** For a connection to be made. By default 10,000. */
+  /** For a connection to be made. By default 20,000. */
   open: number;
   /** For the next answer of the server. By default 30,000. */
   answer: number;

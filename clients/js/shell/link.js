@@ -16,7 +16,7 @@ export const TIMING = {
   /** Between two Beats: the server ends a session that is silent for 60,000. */
   beat: 20_000,
   /** For a socket to open and the Welcome to come. */
-  open: 10_000,
+  open: 20_000,
   /** For the next answer, where one is due. */
   answer: 30_000,
   /** Before the first attempt to come back; it doubles with each further one. */

@@ -8,8 +8,7 @@ import { isNumber } from "../core/messages.js";
  * @typedef {{ getItem(name: string): string | null | Promise<string | null>, setItem(name: string, text: string): void | Promise<void> }} Storage
  */
 
-// Keeps each text in a file of its own. Nothing waits between a read and the write behind it, so two
-// clients of one program don't take each other's count.
+// Keeps each text in a file of its own.
 class FileStorage {
   constructor(fs, join, directory) {
     Object.assign(this, { fs, join, directory });
@@ -51,7 +50,8 @@ class FileStorage {
  * @returns {Promise<Storage>}
  */
 export async function fileStorage(directory) {
-  const [fs, path] = await Promise.all([import("node:fs"), import("node:path")]);
+  // the names stand in a list, so that what packs the library for browsers doesn't look for them
+  const [fs, path] = await Promise.all(["node:fs", "node:path"].map((name) => import(name)));
   return new FileStorage(fs, path.join, directory);
 }
 
@@ -64,10 +64,16 @@ async function usualStorage(given) {
   throw new TypeError("nothing keeps the client's count of starts here: hand in storage, or the incarnation");
 }
 
-// Two tabs count one after the other, where the browser has locks.
+// The counts of this program that go on, by their names.
+const counting = new Map();
+
+// Two tabs count one after the other, where the browser has locks, and two clients of one program anyhow.
 function alone(name, count) {
   const locks = globalThis.navigator?.locks;
-  return locks ? locks.request(name, count) : count();
+  if (locks) return locks.request(name, count);
+  const turn = (counting.get(name) ?? Promise.resolve()).then(count);
+  counting.set(name, turn.catch(() => {})); // one that fails doesn't stop the next
+  return turn;
 }
 
 /**

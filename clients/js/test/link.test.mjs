@@ -4,6 +4,7 @@ import assert from "node:assert/strict";
 import { readdirSync, readFileSync } from "node:fs";
 import { test } from "node:test";
 import * as presence from "../index.js";
+import { nextIncarnation } from "../shell/storage.js";
 import { FalseServer, PATIENCE, QUICK, WebSocket, memory, scratch, sleep, until } from "./support.mjs";
 
 const { connect, goOffline, goOnline, onConnected, onDisconnect, onError, onValue, ref, runTransaction, set } = presence;
@@ -197,6 +198,12 @@ test("files keep the count of each client", timed, async (t) => {
   assert.deepEqual(server.heard.filter(({ m }) => m === "hello").map(({ s }) => s.slice(0, 2)), [["alice", 1], ["alice", 2], ["bob", 1]]);
   assert.deepEqual(readdirSync(directory).sort(), ["presence-incarnation-alice", "presence-incarnation-bob"]);
   assert.equal(readFileSync(`${directory}/presence-incarnation-alice`, "utf8"), "2");
+});
+
+test("two clients of one program that start at once get counts of their own", timed, async () => {
+  const storage = { ...memory(), getItem: async (name) => { await sleep(20); return storage.texts.get(name) ?? null; } };
+  const counts = await Promise.all([1, 2, 3].map(() => nextIncarnation(storage, "alice", 0)));
+  assert.deepEqual(counts, [1, 2, 3]);
 });
 
 test("what the server denies is refused where it was asked", timed, async (t) => {

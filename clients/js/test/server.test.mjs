@@ -28,7 +28,7 @@ test("values come back as they were written", withProgram, async (t) => {
   const db = client(t, url, "alice");
   const place = ref(db, "/values");
   const value = { text: "\u{1f600} \" \\ \u0001 \u2028", yes: true, no: false, zero: 0, least: -(2n ** 63n), past: 2n ** 53n + 1n, list: [1, null, { a: 2 }], none: null, empty: {} };
-  assert.equal(await set(place, value), 2);
+  assert.ok((await set(place, value)) >= 2);
   const read = await get(place);
   assert.deepEqual(read.val(), { text: value.text, yes: true, no: false, zero: 0, least: value.least, past: value.past, list: { 0: 1, 2: { a: 2 } } });
   assert.equal(read.child("list/2/a").val(), 2);

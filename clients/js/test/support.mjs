@@ -14,8 +14,8 @@ import { parse } from "../core/json.js";
 /** How long a test waits for what has to come. Nothing is measured by it. */
 export const PATIENCE = 90_000;
 
-/** Short pauses, so that tests which lose connections don't wait for long ones. */
-export const QUICK = { firstPause: 20, longestPause: 100 };
+/** Short pauses, so that tests which lose connections don't wait for long ones, and patience with slow machines. */
+export const QUICK = { firstPause: 20, longestPause: 100, open: PATIENCE, answer: PATIENCE };
 
 function packageWs() {
   for (const place of [import.meta.url, "/usr/share/nodejs/"]) {
