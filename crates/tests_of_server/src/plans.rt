@@ -66,8 +66,12 @@ fn one_put(rt: &impl Abort, alloc: Global, text: &str) -> Puts {
 fn two_puts(rt: &impl Abort, alloc: Global, text: &str) -> Puts {
     let (first, second) = text.split_once(", ").expect(rt, "two places");
     let mut places = Vec::new(alloc);
-    places.push(placement(rt, alloc, first)).expect(rt, "memory");
-    places.push(placement(rt, alloc, second)).expect(rt, "memory");
+    places
+        .push(placement(rt, alloc, first))
+        .expect(rt, "memory");
+    places
+        .push(placement(rt, alloc, second))
+        .expect(rt, "memory");
     Puts::new(places).expect(rt, "places in path order, and apart")
 }
 

@@ -7,5 +7,5 @@ use Rattle.pres_server.proofs.places.cancel_in.Goals as goal
 pub cancel-requires : goal.cancel-requires
 cancel-requires c = record {
   last = subst (λ (rows : List PlanRow). ComesLast c.args.q c.args.path.now rows) (sym c.plan_mut.ensures.value)
-    (later_comes_last c.args.q c.args.path.now c.args.live.now.plan c.requires.may.later);
+      (later_comes_last c.args.q c.args.path.now c.args.live.now.plan c.requires.may.later);
 }

@@ -7,5 +7,5 @@ use Rattle.pres_server.proofs.places.leave_in.Goals as goal
 pub update-requires : goal.update-requires
 update-requires c = record {
   last = subst (λ (rows : List PlanRow). All (λ p. ComesLast c.args.q p.0 rows) c.args.puts) (sym c.plan_mut.ensures.value)
-    (later_update_comes_last c.args.q c.args.puts c.args.live.now.plan c.requires.may.later);
+      (later_update_comes_last c.args.q c.args.puts c.args.live.now.plan c.requires.may.later);
 }
