@@ -13,7 +13,7 @@ ghost use Rattle.pres_table.specs.Schemas.{no_schema};
 ghost use Rattle.pres_table.specs.Saved.{shown_rows};
 ghost use Rattle.pres_saved.specs.Saved.{saved_log};
 ghost use Rattle.pres_saved.specs.Keeps.{IsReady, KeepsLog};
-ghost use Rattle.pres_file.specs.Found.{KeepsWhatIsThere, KeepsWhatWasFound};
+ghost use Rattle.pres_file.specs.Found.{HoldsOurs, KeepsWhatIsThere, KeepsWhatWasFound};
 
 use crate::open::connect;
 use pres_saved::{SavedFault, SqlKeeper};
@@ -152,6 +152,8 @@ pub fn keeper_for<S: Alter + Drop>(
 ) -> Result<Opened<S>, SavedFault>
     requires { connection.in_transaction ≡ false }
     ensures keeps { IfOk result (λ it. KeepsWhatIsThere S.Store connection it.is_new it.keeper) }
+    ensures ready { IfOk result (λ it. HoldsOurs S.Store connection
+        → IsReady S.Store it.keeper) }
 {
     match keeper_over(alloc, connection) {
         Ok(opened) => Ok(opened),

@@ -12,4 +12,5 @@ returns-in-Ok g c = record {
         empty = λ new now. it.empty new now;
         found = λ log old now ours saved. it.found log old now ours saved;
       };
+  ready = λ ours. elim ours [ inl none ↦ c.in-Ok.ensures.made (c.in-Ok.ensures.new.1 none) | inr ours ↦ c.in-Ok.ensures.ready ours ];
 }
