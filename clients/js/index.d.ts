@@ -120,7 +120,7 @@ export function set(place: Ref, value: Value): Promise<number>;
 /** Puts values at paths below the place, all of them or none. */
 export function update(place: Ref, values: { readonly [path: string]: Value }): Promise<number>;
 export function remove(place: Ref): Promise<number>;
-/** Reads the place once. */
+/** Reads the place once: from the server, or, where this client listens to the place, what it was told last. */
 export function get(place: Ref): Promise<Snapshot>;
 /** Calls back with what stands at the place, and again after each write that touches it. Answers what ends it. */
 export function onValue(place: Ref, callback: (snapshot: Snapshot) => void, options?: { onlyOnce?: boolean }): () => void;

@@ -69,7 +69,7 @@ export function remove(place) {
 }
 
 /**
- * Reads the place once.
+ * Reads the place once: from the server, or, where this client listens to the place, what it was told last.
  * @param {Ref} place
  * @returns {Promise<import("./shell/refs.js").Snapshot>}
  */

@@ -14,7 +14,7 @@ const withProgram = { skip: noProgram, timeout: 4 * PATIENCE };
 const slowly = { skip: noProgram, timeout: 20 * PATIENCE }; // hundreds of writes that are saved one by one
 
 function client(t, url, id, options = {}) {
-  const db = connect(url, { client: id, storage: memory(), WebSocket, timing: QUICK, ...options });
+  const db = connect(url, { client: id, storage: memory(), WebSocket, timing: { ...QUICK, beat: 5_000 }, ...options });
   db.errors = [];
   onError(db, (error) => db.errors.push(error));
   t.after(() => goOffline(db));
@@ -77,10 +77,9 @@ test("a write whose answer was lost is sent again, and carried out once", withPr
   proxy.cut();
   const number = await write;
   assert.equal(number, seen[1][0]); // that of the first time
-  await set(ref(db, "/after"), 1);
-  const last = await get(ref(watcher, "/x"));
-  assert.equal(last.val(), seen[1][1]);
+  await set(ref(watcher, "/own"), 1); // its answer comes behind all that was written before
   assert.equal(seen.length, 2);
+  assert.equal((await get(ref(watcher, "/x"))).val(), seen[1][1]);
 });
 
 test("what a process left is carried out when it is killed", withProgram, async (t) => {
@@ -119,7 +118,8 @@ test("transactions of four clients count to 400", slowly, async (t) => {
     }
   };
   await Promise.all(clients.map(hundred));
-  assert.equal((await get(ref(clients[0], "/n"))).val(), 400);
+  const reader = client(t, url, "reader");
+  assert.equal((await get(ref(reader, "/n"))).val(), 400);
   t.diagnostic(`${overtaken} transactions were overtaken 25 times and begun again`);
 });
 
