@@ -127,7 +127,9 @@ class Database:
         self._core = self._core_of(1)
         self._task: Optional["asyncio.Task[None]"] = None
         self._link: Optional[Link] = None
-        self._wanted = asyncio.Event()
+        self._is_wanted = False
+        self._is_closed = False
+        # What the task that keeps the connection waits for while it has none.
         self._nudge = asyncio.Event()
         self._is_unlinked = asyncio.Event()
         self._is_unlinked.set()
@@ -163,7 +165,7 @@ class Database:
             raise RuntimeError("the database is open, or was closed")
         self._core = self._core_of(await self._take_incarnation(0))
         self._stopped = None
-        self._wanted.set()
+        self._is_wanted = True
         self._task = asyncio.ensure_future(self._run())
 
     async def close(self) -> None:
@@ -178,6 +180,7 @@ class Database:
             await asyncio.wait_for(self._is_unlinked.wait(), _MOST_CLOSING)
         except asyncio.TimeoutError:
             pass
+        self._is_closed = True
         self._stop(ClosedError())
         for feed in self._connected_feeds:
             feed.end()
@@ -247,7 +250,7 @@ class Database:
         self._go_off()
 
     def _go_off(self) -> None:
-        self._wanted.clear()
+        self._is_wanted = False
         self._core.go_offline()
         self._pump()
         if self._link is not None:
@@ -260,7 +263,7 @@ class Database:
         if isinstance(self._stopped, SupersededError):
             await self._begin_again(self._stopped)
         self._check()
-        self._wanted.set()
+        self._is_wanted = True
         self._nudge.set()
 
     async def _begin_again(self, superseded: SupersededError) -> None:
@@ -603,7 +606,7 @@ class Database:
     def _stop(self, error: PresenceError) -> None:
         # Nothing is asked any more: what waits is told why.
         self._stopped = error
-        self._wanted.clear()
+        self._is_wanted = False
         self._nudge.set()
         self._cancel_resend()
         if self._link is not None:
@@ -635,16 +638,18 @@ class Database:
 
     async def _keep(self) -> None:
         failures = 0
-        while True:
-            await self._wanted.wait()
+        while not self._is_closed:
             self._nudge.clear()
+            if not self._is_wanted:
+                await self._nudge.wait()
+                continue
             self._is_good = False
             await self._session()
             failures = 0 if self._is_good else failures + 1
             if self._last_stamp is not None:
                 last, self._last_stamp = self._last_stamp, None
                 await self._renew(last)
-            elif self._wanted.is_set():
+            elif self._is_wanted:
                 await self._wait(self._delay(failures))
 
     def _delay(self, failures: int) -> float:
@@ -679,7 +684,7 @@ class Database:
         self._resend_delay = _FIRST_RESEND
         keeping = asyncio.ensure_future(self._keep_alive(link))
         try:
-            if self._wanted.is_set():
+            if self._is_wanted:
                 self._core.go_online()
                 self._pump()
             else:
@@ -726,7 +731,7 @@ class Database:
         self._pump()
         if isinstance(message, messages.Gone) and is_end and message.why == "superseded":
             self._supersede()
-        elif self._core.phase == core.OFF and self._wanted.is_set():
+        elif self._core.phase == core.OFF and self._is_wanted:
             link.drop()
         elif not isinstance(message, messages.Fault):
             self._resend_delay = _FIRST_RESEND
