@@ -51,6 +51,7 @@ TASTES: Dict[str, Dict[str, int]] = {
 }
 
 LONGEST_FLUSH = 60
+MOST_NUMBER = 2**64 - 1  # of a script's line
 
 
 def _pick(random: Random, weights: Dict[str, int]) -> str:
@@ -152,6 +153,7 @@ class Generator:
             self._now = self._random.choice([2**53 - 1, 2**53, 2**63, 2**64 - 1])
         else:
             self._now = max(0, self._now - 1000)
+        self._now = min(self._now, MOST_NUMBER)
         return self._now
 
     # ---- steps

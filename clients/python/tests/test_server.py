@@ -15,6 +15,11 @@ from tests.support import LONG, ShellTest, until
 PACKAGE = Path(__file__).resolve().parent.parent
 
 
+def _end(process: asyncio.subprocess.Process) -> None:
+    if process.returncode is None:
+        process.kill()
+
+
 class Calls(ShellTest):
     async def test_values_and_writes(self) -> None:
         server = await self.server()
@@ -269,6 +274,7 @@ class Examples(ShellTest):
                 env={**os.environ, "XDG_STATE_HOME": str(self.folder)},
             )
             processes.append(process)
+            self.addCleanup(_end, process)
             await until(lambda: seen and name in (seen[-1] or {}))
         self.assertEqual(seen[-1], {"alice": True, "bob": True})
         while (await db.ref("/visits").get()).value != 2:
@@ -282,8 +288,6 @@ class Examples(ShellTest):
             lines.append(await asyncio.wait_for(processes[0].stdout.readline(), LONG))
         self.assertIn(b"visit 1\n", lines)
         self.assertIn(b'/presence {"alice": true, "bob": true}\n', lines)
-        processes[0].kill()
-        await processes[0].wait()
 
 
 class Sessions(ShellTest):
@@ -305,6 +309,7 @@ class Sessions(ShellTest):
         process = await asyncio.create_subprocess_exec(
             sys.executable, "-c", program, server.url, str(self.folder / "bob"), cwd=PACKAGE
         )
+        self.addCleanup(_end, process)
         here: List[Any] = []
         last: List[Any] = []
         db.ref("/on/bob").on_value(lambda shown: here.append(shown.value))
