@@ -240,20 +240,18 @@ class Losses(ShellTest):
         db = await self.opened(relay.url)
 
         async def cut() -> None:
-            while True:
-                await asyncio.sleep(0.05)
+            for turn in range(15):
+                await until(lambda: db.is_connected)
+                await asyncio.sleep(0.02 * turn)
                 relay.cut()
 
-        cutting = asyncio.ensure_future(cut())
-        try:
-            waiting = [
-                db.ref("/n").transaction(lambda value: (value or 0) + 1) for _ in range(30)
-            ]
-            done = await asyncio.wait_for(asyncio.gather(*waiting), 4 * LONG)
-        finally:
-            cutting.cancel()
-        self.assertTrue(all(result.committed for result in done))
-        self.assertEqual(sorted(result.value for result in done), list(range(1, 31)))
+        async def count() -> List[int]:
+            ref = db.ref("/n")
+            return [(await ref.transaction(lambda n: (n or 0) + 1)).value for _ in range(10)]
+
+        counting = asyncio.gather(count(), count(), count(), cut())
+        *counted, _ = await asyncio.wait_for(counting, 4 * LONG)
+        self.assertEqual(sorted(sum(counted, [])), list(range(1, 31)))
         self.assertEqual((await db.ref("/n").get()).value, 30)
 
 
