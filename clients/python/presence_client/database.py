@@ -23,7 +23,7 @@ from .errors import (
     server_fault,
 )
 from .incarnation import file_of
-from .link import Link, LinkError
+from .link import Link, LinkError, check_package
 from .listeners import Listener, Listeners
 from .messages import CODE_BUSY, CODE_OLD, CODE_ORDER, DENIED_LISTENS, LONGEST_UP, MOST_NUMBER
 from .reference import (
@@ -163,6 +163,7 @@ class Database:
         """Takes the incarnation, and begins to connect. `async with` does it."""
         if self._task is not None:
             raise RuntimeError("the database is open, or was closed")
+        check_package()
         self._core = self._core_of(await self._take_incarnation(0))
         self._stopped = None
         self._is_wanted = True

@@ -6,8 +6,11 @@ import asyncio
 import logging
 from typing import Any, Callable, List, Optional
 
-import websockets
-from websockets.exceptions import WebSocketException
+try:
+    import websockets
+    from websockets.exceptions import WebSocketException
+except ModuleNotFoundError:  # the core does without it
+    websockets = None  # type: ignore[assignment]
 
 log = logging.getLogger("presence_client")
 
@@ -16,6 +19,14 @@ _CLOSING = 2.0  # seconds that the peer has to close its side
 
 class LinkError(Exception):
     """There is no connection."""
+
+
+def check_package() -> None:
+    """Raises ModuleNotFoundError where the package websockets is missing."""
+    if websockets is None:
+        raise ModuleNotFoundError(
+            "presence_client wants the package websockets (Debian: python3-websockets)"
+        )
 
 
 class Link:
