@@ -144,6 +144,7 @@ class Database:
         self._listeners = Listeners()
         self._connected_listeners: List[Callable[[bool], None]] = []
         self._connected_feeds: List[Feed[Any]] = []
+        self._waiting: List["asyncio.Future[None]"] = []
         self._fault_listeners: List[Callable[[PresenceError], None]] = []
         self._tasks: "set[asyncio.Future[Any]]" = set()
 
@@ -228,11 +229,16 @@ class Database:
         return self._connected_stream(bool)
 
     async def until_connected(self) -> None:
-        """Returns once a session is open."""
-        async with self.connected() as stream:
-            async for is_open in stream:
-                if is_open:
-                    return
+        """Returns once a session is open. Raises what ends the client before, as
+        SupersededError."""
+        self._check()
+        if not self._core.connected:
+            future: "asyncio.Future[None]" = asyncio.get_running_loop().create_future()
+            self._waiting.append(future)
+            try:
+                await future
+            finally:
+                _discard(self._waiting, future)
 
     def on_fault(self, callback: Callable[[PresenceError], Any]) -> Unsubscribe:
         """Calls back with each fault of the server (a ServerFault), and with SupersededError where
@@ -552,6 +558,9 @@ class Database:
     def _tell_connected(self, is_open: bool) -> None:
         if is_open:
             self._is_good = True
+            for future in self._waiting:
+                if not future.done():
+                    future.set_result(None)
         for tell in list(self._connected_listeners):
             tell(is_open)
 
@@ -614,7 +623,7 @@ class Database:
             self._link.drop()
         pending, self._pending = self._pending, {}
         self._transactions.clear()
-        for future in pending.values():
+        for future in [*pending.values(), *self._waiting]:
             if not future.done():
                 future.set_exception(error)
         self._listeners.end(error)

@@ -2,7 +2,7 @@
 
 from __future__ import annotations
 
-from typing import Callable, Dict, List, Optional
+from typing import Callable, Dict, List
 
 from .reference import Snapshot
 from .values import Path
@@ -24,7 +24,8 @@ class Listeners:
 
     def __init__(self) -> None:
         self._of: Dict[Path, List[Listener]] = {}
-        self._requests: Dict[int, Path] = {}
+        # The request that made each path listened to.
+        self._requests: Dict[Path, int] = {}
 
     def paths(self) -> List[Path]:
         """The paths that have listeners."""
@@ -45,11 +46,12 @@ class Listeners:
         if listeners:
             return False
         del self._of[path]
+        self._requests.pop(path, None)
         return True
 
     def asked(self, request: int, path: Path) -> None:
         """The request made the path listened to."""
-        self._requests[request] = path
+        self._requests[path] = request
 
     def tell(self, snapshot: Snapshot, path: Path) -> None:
         """Tells the path's listeners of a snapshot."""
@@ -58,9 +60,11 @@ class Listeners:
             listener.tell(snapshot)
 
     def denied(self, request: int, error: Exception) -> None:
-        """The server denied the listen: its listeners are told, and are none any more."""
-        path: Optional[Path] = self._requests.pop(request, None)
-        if path is not None:
+        """The server denied the listen: its listeners are told, and are none any more. A path that
+        was listened to anew since has another request."""
+        paths = [path for path, made_by in self._requests.items() if made_by == request]
+        for path in paths:
+            del self._requests[path]
             for listener in self._of.pop(path, []):
                 listener.fail(error)
 

@@ -231,6 +231,25 @@ class OpenSessions(ShellTest):
             await asyncio.wait_for(db.ref("/n").transaction(lambda value: 1), LONG)
         self.assertEqual(tries, [None] + [n * 10 for n in range(1, 25)])
 
+    async def test_a_denied_listen_isnt_the_next_one(self) -> None:
+        async def denies(peer: Peer) -> None:
+            await peer.welcome()
+            asked = [await peer.read() for _ in range(3)]
+            assert [message["m"] for message in asked] == ["on", "off", "on"], asked
+            await peer.answer("denied", q=1, why=2)
+            await peer.answer("offdone", q=2)
+            await peer.answer("snap", q=3, path="/a", value=7)
+            await peer.read()
+
+        fake = await self.fake(denies)
+        db = await self.opened(fake.url)
+        failed: List[Any] = []
+        seen: List[Any] = []
+        db.ref("/a").on_value(lambda shown: None, failed.append)()
+        db.ref("/a").on_value(lambda shown: seen.append(shown.value), failed.append)
+        await until(lambda: seen == [7])
+        self.assertEqual(failed, [])
+
     async def test_silence_gives_the_connection_up(self) -> None:
         async def silent(peer: Peer) -> None:
             await peer.welcome()

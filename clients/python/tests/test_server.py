@@ -425,9 +425,14 @@ class Sessions(ShellTest):
         late = self.database(server.url, incarnation=5)
         await late.open()
         self.addAsyncCleanup(late.close)
+        connecting = asyncio.ensure_future(late.until_connected())
         with self.assertRaises(errors.OldFault) as found:
             await asyncio.wait_for(late.ref("/a").set(1), LONG)
+        with self.assertRaises(errors.OldFault):
+            await asyncio.wait_for(connecting, LONG)
         self.assertEqual(found.exception.last, (5, 1))
+        with self.assertRaises(errors.OldFault):
+            await late.until_connected()
 
     async def test_what_waits_is_told_that_it_is_closed(self) -> None:
         server = await self.server()
