@@ -4,7 +4,7 @@ A Client is one start of a program, an incarnation. Its calls make messages, kep
 answers are received; received messages make notices. Whoever holds it sends what `take_sends`
 hands out, hands in what comes by `receive`, and reads `take_notices`.
 
-The rules, and the names, are those of the repository's docs/PROTOCOL.md, section "A client".
+The rules, and the names, are those of the repository's docs/PROTOCOL.md, "How a client stays correct".
 """
 
 from __future__ import annotations
