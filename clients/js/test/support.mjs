@@ -18,9 +18,10 @@ export const PATIENCE = 90_000;
 export const QUICK = { firstPause: 20, longestPause: 100, open: PATIENCE, answer: PATIENCE };
 
 function packageWs() {
-  for (const place of [import.meta.url, "/usr/share/nodejs/"]) {
+  const require = createRequire(import.meta.url);
+  for (const name of ["ws", "/usr/share/nodejs/ws"]) { // Debian's place comes last
     try {
-      return createRequire(place)("ws");
+      return require(name);
     } catch {
       // it isn't there
     }
