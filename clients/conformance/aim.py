@@ -216,7 +216,7 @@ class ServerModel:
         self._say("welcome", s, z=self._number, ops=len(self._writes.get(s[0], [])))
 
     def _write(self, rows: List[Tuple[Path, Any]]) -> None:
-        # Behind the entry: the rows are written, and listeners told.
+        # After the entry the rows are written, and listeners get a Push.
         self._number += 1
         for path, value in rows:
             self._tree = put(self._tree, path, value)

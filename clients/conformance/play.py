@@ -7,7 +7,7 @@ import subprocess
 from dataclasses import dataclass
 from typing import Any, Dict, List, Optional
 
-# Two lines behind each line of a script tell where its output ends: a packet that isn't there, and
+# Two lines after each line of a script mark where its output ends: a packet that isn't there, and
 # a call whose path is refused. They change nothing. A line of a script prints at most one of
 # `nosuch` and `refused 5`, and then nothing else, so the pair is always found.
 _MARK = ["down 18446744073709551615", "call x remove ."]

@@ -6,7 +6,7 @@ import json
 from random import Random
 from typing import Any, Dict, List
 
-# In byte order of UTF-8 the first of these comes before the second, in that of UTF-16 behind it.
+# In byte order of UTF-8 the first of these comes before the second, and in that of UTF-16 after it.
 ODD_KEYS = ["\uffee", "\U0001f600", "\ue000", "\U00010000", "é", "ß", "a b", "\u0080", "\u00a0"]
 PLAIN_KEYS = ["a", "b", "c", "n", "on", "last", "A", "0", "1", "2", "10", "-", "_", "a-b", "~", " "]
 BAD_KEYS = ["a.b", "$a", "#", "[", "]x", "x\x7f", "\x01", "k" * 769, "é" * 385, "."]

@@ -408,7 +408,7 @@ class Database:
         return None if view is None else Snapshot(path, view[0], view[1])
 
     def _tell_now(self, path: Path, listener: Listener) -> None:
-        # A new listener of a path that shows a value is told that one.
+        # A new listener of a path that shows a value gets that one.
         shown = self._shown(path)
         if shown is not None and not listener.was_told:
             listener.was_told = True
@@ -565,7 +565,7 @@ class Database:
             tell(is_open)
 
     def _call_back(self, callback: Callable[[Any], Any], about: Any) -> None:
-        # What a program's function raises is told as asyncio tells it.
+        # What a program's function raises goes to the loop's exception handler.
         try:
             callback(about)
         except Exception as error:
@@ -614,7 +614,7 @@ class Database:
         self._pump()
 
     def _stop(self, error: PresenceError) -> None:
-        # Nothing is asked any more: what waits is told why.
+        # Whatever waits for an answer raises the error.
         self._stopped = error
         self._is_wanted = False
         self._nudge.set()

@@ -1,4 +1,4 @@
-"""Who is told of the values of which path."""
+"""Who listens to which path."""
 
 from __future__ import annotations
 
@@ -9,7 +9,7 @@ from .values import Path
 
 
 class Listener:
-    """One who is told: by `tell` of snapshots, and by `fail` of what ended the listen."""
+    """One who listens: `tell` takes snapshots, and `fail` takes what ended the listen."""
 
     def __init__(
         self, tell: Callable[[Snapshot], None], fail: Callable[[Exception], None]
@@ -60,8 +60,8 @@ class Listeners:
             listener.tell(snapshot)
 
     def denied(self, request: int, error: Exception) -> None:
-        """The server denied the listen: its listeners are told, and are none any more. A path that
-        was listened to anew since has another request."""
+        """The server denied the listen: its listeners learn it, and are none any more. A path that
+        was listened to again since then has another request."""
         paths = [path for path, made_by in self._requests.items() if made_by == request]
         for path in paths:
             del self._requests[path]

@@ -25,7 +25,7 @@ class Feed(Generic[T]):
             self._wake()
 
     def end(self, error: Optional[BaseException] = None) -> None:
-        """No more items come. Whoever takes is told by the error, once all items are taken."""
+        """No more items come. Once all items are taken, the error is raised."""
         if not self._is_ended:
             self._is_ended = True
             self._error = error

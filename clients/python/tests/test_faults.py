@@ -39,7 +39,7 @@ def refuses(code: int, **more: Any) -> Any:
 
 class Hellos(ShellTest):
     async def told(self, *scripts: Any, **given: Any) -> List[Any]:
-        # What a client is told until it is connected.
+        # The faults until a client is connected.
         fake = await self.fake(*scripts)
         db = self.database(fake.url, **given)
         faults: List[Any] = []
