@@ -125,15 +125,15 @@ class Driver:
 
     def answer(self, request: Dict[str, Any]) -> Dict[str, Any]:
         """The answer to one request."""
-        todo = request["do"]
-        if todo == "new":
+        asked = request["do"]
+        if asked == "new":
             self._incarnations = {name: 1 for name in request["clients"]}
             self._clients = {name: Client(name, 1) for name in request["clients"]}
             return {}
-        if todo == "views":
+        if asked == "views":
             return {"views": self._views()}
         name = request["id"]
-        if todo == "restart":
+        if asked == "restart":
             self._incarnations[name] += 1
             self._clients[name] = Client(name, self._incarnations[name])
             return {}
