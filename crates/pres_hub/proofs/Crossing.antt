@@ -35,6 +35,8 @@ use Rattle.pres_session.specs.contracts.live.Live as live
 use Rattle.pres_plan.specs.contracts.plan.Plan as plan
 use Rattle.pres_retry.specs.contracts.table.RetryTable as retry
 use Rattle.pres_retry.specs.contracts.table.Row as row
+use Rattle.pres_fan.specs.contracts.index.Place as listening
+use Rattle.pres_fan.specs.contracts.probes.Probes as probes
 use Rattle.pres_fan.specs.contracts.listeners.Listeners as listeners
 use Rattle.pres_log.specs.contracts.entry.Entry as entry
 use Rattle.pres_log.specs.contracts.entry.Batch as batch
@@ -100,8 +102,14 @@ row_send = search (number_is, kept_send, declared_send, crosses, sendable) depth
 pub retry_send : IsSend retry.the_row
 retry_send = search (client_is, row_send, maps, crosses, sendable) depth 60 fits 20000
 
+pub listening_send : IsSend listening.the_row
+listening_send = search (path_is, session_is, crosses, sendable) depth 60 fits 20000
+
+pub probes_send : IsSend probes.the_row
+probes_send = search (session_is, listening_send, maps, maps_over, crosses, sendable) depth 60 fits 20000
+
 pub listeners_send : IsSend listeners.the_row
-listeners_send = search (path_is, maps, maps_over, crosses, sendable) depth 60 fits 20000
+listeners_send = search (path_is, session_is, listening_send, probes_send, maps, maps_over, crosses, sendable) depth 60 fits 20000
 
 pub values_send : IsSend values.the_row
 values_send = search (path_is, tree_send, crosses, sendable) depth 60 fits 20000
