@@ -2,6 +2,7 @@
 
 ghost use Rattle.std.specs.Prelude.{◌≡◌, ◌⊎◌, None, map, IfErr, IfOk, IfSome, MatchResult};
 ghost use Rattle.pres_service.specs.declared.fault.ServiceFault.TheVariants as fault;
+ghost use Rattle.pres_world.specs.Distinct.{AreDistinct};
 ghost use Rattle.pres_sim.specs.Scripts.{AreSteps, IsScript};
 
 use crate::script::{Step, client_of, step_in};
@@ -11,7 +12,7 @@ use pres_ids::ClientId;
 use pres_service::{ServiceFault, bytes_of, texts_of};
 use pres_tree::{Path, Tree, TreeJson};
 use pres_wire::{Down, Up};
-use pres_world::{Event, World, WorldFault};
+use pres_world::{Event, World, WorldFault, distinct};
 use std::alloc::{AllocError, Global};
 use std::collections::BTreeSet;
 use std::io::{Read, Write};
@@ -61,10 +62,11 @@ fn play_script<W: Write>(
 // Does what the lines say in a world of these clients.
 fn play_with<W: Write>(
     alloc: Global,
-    clients: BTreeSet<ClientId>,
+    clients: Vec<ClientId>,
     rest: &[&[u8]],
     output: &mut W,
 ) -> Result<(), ServiceFault>
+    requires { AreDistinct clients.items }
     ensures good { IfOk result (λ _. AreSteps (map (λ text. text.now) rest.now)) }
     ensures err { IfErr result (λ e. (e ≡ fault.Memory) ⊎ (e ≡ fault.Input)) }
 {
@@ -82,24 +84,35 @@ fn bad_line<W: Write>(output: &mut W, number: u64) -> ServiceFault
     ServiceFault::Input
 }
 
-// The clients that the first line names, in byte order, where it names some and none twice.
-fn clients_in(alloc: Global, bytes: &[u8]) -> Result<Option<BTreeSet<ClientId>>, AllocError> {
+// The clients that the first line names, where it names some and none twice.
+fn clients_in(alloc: Global, bytes: &[u8]) -> Result<Option<Vec<ClientId>>, AllocError>
+    ensures { IfOk result (λ clients. IfSome clients (λ ids. AreDistinct ids.items)) }
+{
     let Ok(text) = std::str::from_utf8(bytes) else {
         return Ok(None);
     };
     let Some(("clients", names)) = text.split_once(' ') else {
         return Ok(None);
     };
-    let mut clients = BTreeSet::new(alloc);
+    let mut clients = Vec::new(alloc);
     for name in names.split(' ') {
         let Some(client) = client_of(alloc, name)? else {
             return Ok(None);
         };
-        if !clients.insert(client)? {
-            return Ok(None);
-        }
+        clients.push(client)?;
+    }
+    if !distinct(clients.as_slice()) {
+        return Ok(None);
     }
     Ok(Some(clients))
+}
+
+fn in_byte_order(alloc: Global, clients: Vec<ClientId>) -> Result<BTreeSet<ClientId>, AllocError> {
+    let mut by_id = BTreeSet::new(alloc);
+    for client in clients {
+        by_id.insert(client)?;
+    }
+    Ok(by_id)
 }
 
 // What the lines say, up to the first that says nothing, and the number of that one.
@@ -132,14 +145,14 @@ struct Play {
 }
 
 impl Play {
-    fn new(alloc: Global, clients: BTreeSet<ClientId>) -> Result<Play, AllocError> {
-        let mut ids = Vec::new(alloc);
-        for client in clients.iter() {
-            ids.push(client.copy(alloc)?)?;
-        }
+    fn new(alloc: Global, clients: Vec<ClientId>) -> Result<Play, AllocError>
+        requires { AreDistinct clients.items }
+    {
+        let world = World::new(alloc, clients.as_slice())?;
+        let clients = in_byte_order(alloc, clients)?;
         Ok(Play {
             alloc,
-            world: World::new(alloc, ids)?,
+            world,
             clients,
             paths: BTreeSet::new(alloc),
             ups: 0,
@@ -252,9 +265,8 @@ impl Play {
         ensures { IfErr result (λ e. (e ≡ fault.Memory) ⊎ (e ≡ fault.Input)) }
     {
         for client in self.clients.iter() {
-            if let Some(notices) = self.world.take_notices(client) {
-                tell_notices(self.alloc, output, client, notices)?;
-            }
+            let notices = self.world.take_notices(client);
+            tell_notices(self.alloc, output, client, notices)?;
         }
         Ok(())
     }

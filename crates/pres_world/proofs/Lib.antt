@@ -21,6 +21,7 @@ pub mod Snaps
 pub mod Stands
 pub mod Stays
 pub mod Told
+pub mod Twice
 pub mod Whole
 pub mod Writes
 pub mod Written

@@ -1,3 +1,4 @@
+pub mod Distinct
 pub mod Faults
 pub mod Members
 pub mod Orderly

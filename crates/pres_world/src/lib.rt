@@ -4,6 +4,7 @@
 
 mod event;
 mod fault;
+mod ids;
 pub mod laws;
 mod member;
 mod members;
@@ -13,4 +14,5 @@ mod world;
 
 pub use event::{Ending, Event};
 pub use fault::WorldFault;
+pub use ids::distinct;
 pub use world::World;

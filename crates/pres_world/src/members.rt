@@ -1,6 +1,6 @@
 //! The clients of a world.
 
-ghost use Rattle.std.specs.Prelude.{◌≡◌, ◌⊎◌, ◌++◌, [], Some, None, IfOk, IfErr, OnOk, OnErr, MatchOption, option_copied};
+ghost use Rattle.std.specs.Prelude.{◌≡◌, ◌⊎◌, ◌++◌, [], Some, None, IfOk, IfErr, OnOk, OnErr, option_copied};
 ghost use Rattle.std.specs.FinMap.Entries.{find, put};
 ghost use Rattle.pres_ids.specs.Ids.{client_cmp};
 ghost use Rattle.pres_client.specs.Calls.{refusal, after_call};
@@ -70,18 +70,19 @@ impl Members {
         }
     }
 
-    /// What the client noted since the last time.
-    pub(crate) fn take_notices(&mut self, id: &ClientId) -> Option<Vec<Notice>>
-        ensures { MatchOption result
-            ((find client_cmp id.now self.old ≡ None) × (self.new ≡ self.old))
-            (λ notices. (c : State) × (find client_cmp id.now self.old ≡ Some c)
-            × (notices.items ≡ c.notices)
-            × (self.new ≡ put client_cmp id.now (record c { notices = [] }) self.old)) }
+    /// What the client noted since the last time: nothing where there is no such client.
+    pub(crate) fn take_notices(&mut self, id: &ClientId) -> Vec<Notice>
+        ensures given { (c : State) → find client_cmp id.now self.old ≡ Some c
+            → result.items ≡ c.notices }
+        ensures left { (c : State) → find client_cmp id.now self.old ≡ Some c
+            → self.new ≡ put client_cmp id.now (record c { notices = [] }) self.old }
+        ensures stranger { find client_cmp id.now self.old ≡ None
+            → (result.items ≡ []) × (self.new ≡ self.old) }
     {
         let Some(member) = self.by_id.get_mut(id) else {
-            return None;
+            return Vec::new(self.alloc);
         };
-        Some(member.take_notices())
+        member.take_notices()
     }
 
     /// The client makes the call. What it has to send goes behind the packets.

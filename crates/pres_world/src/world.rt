@@ -1,15 +1,16 @@
 //! A world.
 
-ghost use Rattle.std.specs.Prelude.{◌≡◌, List, [], Some, None, IfOk, IfErr, OnOk, OnErr, MatchOption, option_copied};
+ghost use Rattle.std.specs.Prelude.{◌≡◌, List, [], None, IfOk, IfErr, OnOk, OnErr, option_copied};
 ghost use Rattle.std.specs.FinMap.Entries.{find, put};
 ghost use Rattle.pres_ids.specs.Ids.{ClientId, client_cmp};
 ghost use Rattle.pres_client.specs.Clients.{State};
 ghost use Rattle.pres_log.specs.Logs.{item_at};
 ghost use Rattle.pres_server.specs.LegalLog.{IsLegal};
+ghost use Rattle.pres_world.specs.Distinct.{AreDistinct};
 ghost use Rattle.pres_world.specs.Orderly.{CancelsStand, EndsStand, SessionsStand, WritesStand};
 ghost use Rattle.pres_world.specs.Safe.{IsSafe, Occurrence, Passes};
 ghost use Rattle.pres_world.specs.Served.{Serves};
-ghost use Rattle.pres_world.specs.Worlds.{IsCall, IsArrival, IsDelivery, IsLoss, IsStart, IsRestart, IsStep, IsStop, IsRefused, IsCutShort, Lacks, Reaches, new_world};
+ghost use Rattle.pres_world.specs.Worlds.{IsCall, IsClient, IsArrival, IsDelivery, IsLoss, IsStart, IsRestart, IsStep, IsStop, IsRefused, IsCutShort, Lacks, Reaches, new_world};
 ghost use Rattle.pres_world.specs.declared.event.Ending.TheVariants as ending;
 ghost use Rattle.pres_world.specs.declared.event.Event.TheVariants as event;
 ghost use Rattle.pres_world.specs.declared.fault.WorldFault.TheVariants.{Memory};
@@ -62,14 +63,14 @@ fn item_at<T>(items: &[T], number: usize) -> Option<&T>
 }
 
 impl World {
-    /// A world of these clients, of which none has started before. An id that comes twice is one
-    /// client.
-    pub fn new(alloc: Global, ids: Vec<ClientId>) -> Result<World, AllocError>
-        ensures { IfOk result (λ w. w ≡ new_world ids.items) }
+    /// A world of these clients, of which none has started before.
+    pub fn new(alloc: Global, ids: &[ClientId]) -> Result<World, AllocError>
+        requires { AreDistinct ids.now }
+        ensures { IfOk result (λ w. w ≡ new_world ids.now) }
     {
         let mut members = Members::new(alloc);
         for id in ids {
-            members.join(id)?;
+            members.join(id.copy(alloc)?)?;
         }
         Ok(World {
             alloc,
@@ -132,15 +133,14 @@ impl World {
         self.acks.as_slice()
     }
 
-    /// What the client noted since the last time, none where there is no such client.
-    pub fn take_notices(&mut self, id: &ClientId) -> Option<Vec<Notice>>
-        ensures { MatchOption result
-            ((find client_cmp id.now self.old.clients ≡ None) × (self.new ≡ self.old))
-            (λ notices. (c : State) × (find client_cmp id.now self.old.clients ≡ Some c)
-            × (notices.items ≡ c.notices) × (self.new ≡ record self.old {
-              clients
-                  = put client_cmp id.now (record c { notices = [] }) self.old.clients;
-            })) }
+    /// What the client noted since the last time: nothing where there is no such client.
+    pub fn take_notices(&mut self, id: &ClientId) -> Vec<Notice>
+        ensures given { (c : State) → IsClient self.old id.now c → result.items ≡ c.notices }
+        ensures left { (c : State) → IsClient self.old id.now c → self.new ≡ record self.old {
+          clients = put client_cmp id.now (record c { notices = [] }) self.old.clients;
+        } }
+        ensures stranger { find client_cmp id.now self.old.clients ≡ None
+            → (result.items ≡ []) × (self.new ≡ self.old) }
     {
         self.members.take_notices(id)
     }
