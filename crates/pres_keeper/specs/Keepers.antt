@@ -1,5 +1,5 @@
 -- What is kept of a server, and why no server is made of it.
-use Rattle.std.specs.Prelude.{◌≡◌, ◌⊎◌, ℕ, ◌+◌, Bool, true, false, List, length, map}
+use Rattle.std.specs.Prelude.{◌≡◌, ◌⊎◌, ℕ, ◌+◌, Bool, true, false, List, ◌++◌, length, map}
 use Rattle.pres_log.specs.declared.entry.Entry.{Entry}
 use Rattle.pres_log.specs.Logs.{Log}
 use Rattle.pres_body.specs.Reads.{with_one_null}
@@ -27,6 +27,10 @@ IsOfStore e = (e ≡ Memory) ⊎ (e ≡ Database)
 pub record Readable : Type 0 where
   pub batches : Log
   pub is_all : Bool
+
+-- what can be read begins with these batches
+abbrev pub BeginsWith : Log → Readable → Type 0
+BeginsWith log held = (more : Log) × (held.batches ≡ log ++ more)
 
 -- a log that is read to its end
 abbrev pub whole : Log → Readable

@@ -1,10 +1,10 @@
 //! What keeps the batches of a server.
 
-ghost use Rattle.std.specs.Prelude.{◌≡◌, ◌+◌, ◌++◌, ◌∷◌, [], false, is_ok, OnOk, OnErr, IfOk, IfErr};
+ghost use Rattle.std.specs.Prelude.{◌≡◌, ◌⊎◌, ◌+◌, ◌++◌, ◌∷◌, [], false, is_ok, OnOk, OnErr, IfOk, IfErr};
 ghost use Rattle.pres_log.specs.declared.entry.Batch.{Batch as Logged};
 ghost use Rattle.pres_log.specs.Logs.{Log, number};
 ghost use Rattle.pres_server.specs.Replays.{made_from};
-ghost use Rattle.pres_keeper.specs.Keepers.{Readable, whole, HasOneNull, IsOfStore, IsUnread, IsNoServer, bad_batch};
+ghost use Rattle.pres_keeper.specs.Keepers.{Readable, BeginsWith, whole, HasOneNull, IsOfStore, IsUnread, IsNoServer, bad_batch};
 
 use pres_ids::Count;
 use pres_log::Batch;
@@ -42,12 +42,21 @@ pub trait Keeper {
     // Its store was shut when a call began, and gave back what was written until the call ended.
     ghost shut: { Self → Self → Type 0 };
 
-    // What a crash may leave in the middle of the commit of a batch behind this log.
+    // What a crash may leave in the middle of the commit of a batch after this log.
     ghost leaves: { Self → Log → Logged → Self → Type 0 };
 
-    /// Adds the batch, for good. Memory or Database: a refusal leaves the batches as they were, as
-    /// long as the store works; after a crash they are found without the batch or with it. A store
-    /// that was shut refuses everything.
+    // What can be read of what an opening may find after a crash at this moment, where the store gave
+    // back what was written.
+    ghost may_find: { Self → Readable → Type 0 };
+
+    // Whatever a crash leaves from now on begins with the batches of this log, where the store gave
+    // back what was written.
+    ghost outlasts: { Self → Log → Type 0 };
+
+    /// Adds the batch, for good: once that is answered, whatever a crash leaves has it, also a crash
+    /// in a later call. Memory or Database: a refusal leaves the batches as they were, as long as
+    /// the store works; after a crash they are found without the batch or with it. A store that was
+    /// shut refuses everything.
     fn commit(&mut self, batch: &Batch) -> Result<(), SavedFault>
         ensures ready { ready self.old → ready self.new }
         ensures worked { ready self.old → works self.new → works self.old }
@@ -62,7 +71,16 @@ pub trait Keeper {
         ensures fault { IfErr result IsOfStore }
         ensures crash { (log : Log) → ready self.old → keeps self.old log
             → batch.now.first ≡ number log + 1 → HasOneNull batch.now.entries
-            → leaves self.old log batch.now self.new };
+            → leaves self.old log batch.now self.new }
+        ensures found { (log : Log) → ready self.old → (works self.old → keeps self.old log)
+            → batch.now.first ≡ number log + 1 → HasOneNull batch.now.entries
+            → (held : Readable) → may_find self.new held
+            → may_find self.old held ⊎ (held ≡ whole (log ++ batch.now ∷ [])) }
+        ensures durable { (log : Log) → ready self.old → (works self.old → keeps self.old log)
+            → batch.now.first ≡ number log + 1 → HasOneNull batch.now.entries
+            → OnOk result (outlasts self.new (log ++ batch.now ∷ [])) }
+        ensures outlasts { (log : Log) → ready self.old → outlasts self.old log
+            → outlasts self.new log };
 
     /// The batches in their order, or `BadRow` with the number of the first row that is none.
     fn batches(&mut self) -> Result<Vec<Batch>, SavedFault>
@@ -78,7 +96,11 @@ pub trait Keeper {
         ensures same { ready self.old → works self.new
             → readable self.new ≡ readable self.old }
         ensures stays { (log : Log) → ready self.old → works self.new
-            → keeps self.old log → keeps self.new log };
+            → keeps self.old log → keeps self.new log }
+        ensures found { (held : Readable) → ready self.old → may_find self.new held
+            → may_find self.old held }
+        ensures outlasts { (log : Log) → ready self.old → outlasts self.old log
+            → outlasts self.new log };
 
     /// The server that its batches make, where they are a legal log, with each open session heard
     /// of at the log's greatest moment. `BadRow` with the number of the first row that is no batch,
@@ -97,9 +119,17 @@ pub trait Keeper {
         ensures same { ready self.old → works self.new
             → readable self.new ≡ readable self.old }
         ensures stays { (log : Log) → ready self.old → works self.new
-            → keeps self.old log → keeps self.new log };
+            → keeps self.old log → keeps self.new log }
+        ensures found { (held : Readable) → ready self.old → may_find self.new held
+            → may_find self.old held }
+        ensures outlasts { (log : Log) → ready self.old → outlasts self.old log
+            → outlasts self.new log };
 
     // The batches of a log are read to the end.
     ghost kept_is_read: { (kept : Self) (log : Log) → keeps kept log
         → readable kept ≡ whole log };
+
+    // What outlasts is found.
+    ghost outlasting_is_found: { (kept : Self) (log : Log) (held : Readable) → outlasts kept log
+        → may_find kept held → BeginsWith log held };
 }

@@ -9,7 +9,8 @@ use pres_table::SavedFault;
 use std::alloc::Global;
 use std::marker::Model;
 
-/// Batches in memory: they last as long as the process. Contracts see the list of them.
+/// Batches in memory. They last as long as the process: a crash ends both, and leaves nothing to
+/// open. Contracts see the list of them.
 #[derive(Drop)]
 pub struct MemKeeper {
     alloc: Global,
@@ -39,6 +40,7 @@ impl MemKeeper {
 impl Keeper for MemKeeper {
     ghost use Rattle.std.specs.Prelude.{◌≡◌, ◌++◌, ◌∷◌, [], ⊤};
     ghost use Rattle.std.proofs.Common.{ap};
+    ghost use Rattle.pres_log.specs.Logs.{Log};
     ghost use Rattle.pres_keeper.specs.Keepers.{whole};
 
     ghost readable = { λ kept. whole kept };
@@ -54,6 +56,14 @@ impl Keeper for MemKeeper {
     ghost shut = { λ _ _. ⊥ };
 
     ghost leaves = { λ _ _ _ _. ⊤ };
+
+    // Nothing is left to be opened.
+    ghost may_find = { λ _ _. ⊥ };
+
+    // These batches are its first ones, as long as it lives.
+    ghost outlasts = { λ kept log. (more : Log) × (kept ≡ log ++ more) };
+
+    ghost outlasting_is_found = { λ kept log held lasts finds. absurd finds };
 
     ghost kept_is_read = { λ kept log keeps. ap whole keeps };
 

@@ -1,7 +1,7 @@
 //! A turn that is kept before it is done.
 
 ghost use Rattle.std.specs.Prelude.{◌≡◌, IfOk, IfErr};
-ghost use Rattle.pres_log.specs.Logs.{entries};
+ghost use Rattle.pres_log.specs.Logs.{Log, entries};
 ghost use Rattle.pres_server.specs.Turns.{batch_of, state_after};
 ghost use Rattle.pres_server.specs.Streams.{answers};
 ghost use Rattle.pres_keeper.specs.Settled.{IsUndone, KeepsUndone};
@@ -23,7 +23,7 @@ pub enum Unsettled {
 
 /// Gives the turn's batch to the keeper, and then does the turn: the server after it, and the
 /// answers, of which none goes out before the batch is kept. So what the keeper holds is the
-/// server's log.
+/// server's log, and whatever a crash leaves from then on begins with it.
 pub fn settle<K: Keeper>(keeper: &mut K, busy: Busy) -> Result<(Server, Items<Down>), Unsettled>
     ensures server { IfOk result
         (λ done. done.0 ≡ state_after busy.state busy.moment busy.made) }
@@ -41,6 +41,10 @@ pub fn settle<K: Keeper>(keeper: &mut K, busy: Busy) -> Result<(Server, Items<Do
     ensures crash { K.ready keeper.old → K.keeps keeper.old busy.state.log
         → K.leaves keeper.old busy.state.log
         (batch_of busy.state.log busy.moment busy.made) keeper.new }
+    ensures durable { K.ready keeper.old → (K.works keeper.old → K.keeps keeper.old busy.state.log)
+        → IfOk result (λ done. K.outlasts keeper.new done.0.log) }
+    ensures outlasts { (log : Log) → K.ready keeper.old → K.outlasts keeper.old log
+        → K.outlasts keeper.new log }
 {
     match keeper.commit(busy.batch()) {
         Ok(()) => match busy.done() {

@@ -30,6 +30,7 @@ impl Refusing {
 impl Keeper for Refusing {
     ghost use Rattle.std.specs.Prelude.{◌≡◌, ◌++◌, ◌∷◌, [], ⊤};
     ghost use Rattle.std.proofs.Common.{ap};
+    ghost use Rattle.pres_log.specs.Logs.{Log};
     ghost use Rattle.pres_keeper.specs.Keepers.{whole};
 
     ghost ready = { λ _. ⊤ };
@@ -45,6 +46,12 @@ impl Keeper for Refusing {
     ghost shut = { λ _ _. ⊥ };
 
     ghost leaves = { λ _ _ _ _. ⊤ };
+
+    ghost may_find = { λ _ _. ⊥ };
+
+    ghost outlasts = { λ k log. (more : Log) × (k.kept ≡ log ++ more) };
+
+    ghost outlasting_is_found = { λ _ _ _ _ finds. absurd finds };
 
     ghost kept_is_read = { λ _ _ keeps. ap whole keeps };
 
