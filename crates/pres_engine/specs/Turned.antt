@@ -22,12 +22,17 @@ abbrev pub IsTurned : Option State → Input → ℕ → Option State → List D
 IsTurned None input now new outs = ⊥
 IsTurned (Some s) input now new outs = IsDone (turn s input now) s (moment_of s.log now) input new outs
 
+-- the turn that the input asks for makes a batch
+abbrev pub MakesBatch : Option State → Input → ℕ → Type 0
+MakesBatch None input now = ⊥
+MakesBatch (Some s) input now = is_made (turn s input now) ≡ true
+
 -- the server's own refusal
 abbrev pub IsRefused : Option State → Input → ℕ → (Decision → Type 0) → Type 0
 IsRefused None input now why = ⊥
 IsRefused (Some s) input now why = why (turn s input now)
 
--- A turn isn't done: a refused one leaves the server as it was, and after want of memory behind the commit there is none. A batch
+-- A turn isn't done: a refused one leaves the server as it was, and after want of memory after the commit there is none. A batch
 -- isn't kept where memory or the database refuses.
 abbrev pub IsNotTurned : Option State → Input → ℕ → Option State → EngineFault → Type 0
 IsNotTurned old input now new (why.Refused f) = (new ≡ old) × IsRefused old input now (λ d. d ≡ refused f)

@@ -1,15 +1,15 @@
 //! A server with its keeper.
 
-ghost use Rattle.std.specs.Prelude.{◌≡◌, ◌≤◌, ⊤, Some, true, IfOk, IfErr, OnErr, is_some, option_copied};
+ghost use Rattle.std.specs.Prelude.{◌≡◌, ◌≤◌, ⊤, Some, true, IfOk, IfErr, OnOk, OnErr, MatchResult, is_some, option_copied};
 ghost use Rattle.pres_log.specs.Logs.{Log, number, entries};
 ghost use Rattle.pres_server.specs.LegalLog.{IsLegal};
 ghost use Rattle.pres_server.specs.Replays.{made_from};
 ghost use Rattle.pres_server.specs.Streams.{answers};
 ghost use Rattle.pres_server.specs.Turns.{state_after};
-ghost use Rattle.pres_keeper.specs.Keepers.{IsNoServer};
+ghost use Rattle.pres_keeper.specs.Keepers.{whole, IsNoServer};
 ghost use Rattle.pres_keeper.specs.Settled.{log_with};
 ghost use Rattle.pres_engine.specs.Engines.{Runs};
-ghost use Rattle.pres_engine.specs.Turned.{IsTurned, IsNotTurned, IsUndone, KeepsGone};
+ghost use Rattle.pres_engine.specs.Turned.{IsTurned, IsNotTurned, MakesBatch, IsUndone, KeepsGone};
 ghost use Rattle.pres_engine.specs.declared.fault.EngineFault.TheVariants.{Keeper as Unkept, Down as Gone};
 
 use crate::fault::EngineFault;
@@ -47,21 +47,25 @@ impl<K: Keeper + Drop> Drop for Engine<K> {
 }
 
 impl<K: Keeper + Drop> Engine<K> {
-    /// The server that the keeper's batches make. Refused as the keeper refuses it: `Keeper` with
-    /// Memory, Database, or `BadRow` with the number of the first row that is no batch, or none that
-    /// may follow those before it.
+    /// The server that the keeper's batches make, all that can be read of it. Refused as the keeper
+    /// refuses it: `Keeper` with Memory, Database, or `BadRow` with the number of the first row that
+    /// is no batch, or none that may follow those before it.
     pub fn open(mut keeper: K) -> Result<Engine<K>, (EngineFault, K)>
         requires ready { K.ready keeper }
         ensures made { IfOk result (λ e. Runs (λ s. s ≡ made_from s.log) e.server) }
         ensures runs { IfOk result (λ e. is_some e.server ≡ true) }
         ensures exact { IfOk result (λ e. (log : Log) → K.works e.keeper → K.keeps keeper log
             → Runs (λ s. s.log ≡ log) e.server) }
+        ensures read { IfOk result (λ e. K.works e.keeper
+            → Runs (λ s. K.readable keeper ≡ whole s.log) e.server) }
         ensures refused { IfErr result (λ e. (f : _) × (e.0 ≡ Unkept f)
             × (K.works e.1 → IsNoServer (K.readable keeper) f)) }
         ensures same { IfErr result (λ e. K.works e.1 → K.readable e.1 ≡ K.readable keeper) }
         ensures left { IfErr result (λ e. (log : Log) → K.works e.1 → K.keeps keeper log
             → K.keeps e.1 log) }
         ensures ready { IfErr result (λ e. K.ready e.1) }
+        ensures outlasts { (log : Log) → K.outlasts keeper log
+            → MatchResult result (λ e. K.outlasts e.keeper log) (λ e. K.outlasts e.1 log) }
     {
         match keeper.server() {
             Ok(server) => {
@@ -90,6 +94,10 @@ impl<K: Keeper + Drop> Engine<K> {
         ensures stays { OnErr result (self.new.number ≡ self.old.number) }
         ensures rises { self.old.number ≤ self.new.number }
         ensures worked { K.works self.new.keeper → K.works self.old.keeper }
+        ensures durable { OnOk result
+            (Runs (λ s. K.outlasts self.new.keeper s.log) self.new.server) }
+        ensures outlasts { (log : Log) → K.outlasts self.old.keeper log
+            → K.outlasts self.new.keeper log }
     {
         match settle(&mut self.keeper, busy) {
             Ok((server, answers)) => {
@@ -109,9 +117,10 @@ impl<K: Keeper + Drop> Engine<K> {
     }
 
     /// Does what the input asks for, at the later of the given moment and the log's greatest one:
-    /// its batch is kept first, and then answered. With the server as it was: Refused, as the
-    /// server refuses the input; Memory; Keeper, where the batch isn't kept. Down, from then on,
-    /// where memory is refused after the batch was kept.
+    /// its batch is kept first, and then answered. Whatever a crash leaves from then on begins with
+    /// the log that was answered, also a crash in a later call. With the server as it was: Refused,
+    /// as the server refuses the input; Memory; Keeper, where the batch isn't kept. Down, from then
+    /// on, where memory is refused after the batch was kept.
     pub fn turn(&mut self, input: Input, now: Moment) -> Result<Items<Down>, EngineFault>
         ensures turned { IfOk result (IsTurned self.old.server input now self.new.server) }
         ensures refused { IfErr result (IsNotTurned self.old.server input now self.new.server) }
@@ -120,6 +129,10 @@ impl<K: Keeper + Drop> Engine<K> {
         ensures stays { OnErr result (self.new.number ≡ self.old.number) }
         ensures rises { self.old.number ≤ self.new.number }
         ensures worked { K.works self.new.keeper → K.works self.old.keeper }
+        ensures durable { MakesBatch self.old.server input now → OnOk result
+            (Runs (λ s. K.outlasts self.new.keeper s.log) self.new.server) }
+        ensures outlasts { (log : Log) → K.outlasts self.old.keeper log
+            → K.outlasts self.new.keeper log }
     {
         let Some(server) = self.server.take() else {
             drop(input);

@@ -82,6 +82,13 @@ impl<K: Keeper, P: Premise> Keeper for Supposed<K, P> {
 
     ghost leaves = { λ old log batch new. P.holds → K.leaves old log batch new };
 
+    ghost may_find = { λ kept held. P.holds × K.may_find kept held };
+
+    ghost outlasts = { λ kept log. P.holds → K.outlasts kept log };
+
+    ghost outlasting_is_found = { λ kept log held lasts finds.
+        K.outlasting_is_found kept log held (lasts finds.0) finds.1 };
+
     ghost kept_is_read = { λ kept log keeps. K.kept_is_read kept log keeps };
 
     fn commit(&mut self, batch: &Batch) -> Result<(), SavedFault> {
