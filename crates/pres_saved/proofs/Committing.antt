@@ -1,5 +1,5 @@
 -- One batch more, of the log that a keeper holds.
-use Rattle.std.proofs.Common.{refl, sym, ◌∙◌, ap, subst, ◌≡◌, ℕ, ◌+◌, ◌≤◌, nat_le, true, if◌then◌else◌, List, [], ◌∷◌, ◌++◌, map, length, Some, None, Result, Ok, Err, IsTrue, arith}
+use Rattle.std.proofs.Common.{refl, sym, ◌∙◌, ap, subst, ◌≡◌, ◌⊎◌, inl, inr, ℕ, ◌+◌, ◌≤◌, nat_le, true, if◌then◌else◌, List, [], ◌∷◌, ◌++◌, map, length, Some, None, Result, Ok, Err, IsTrue, arith}
 use Rattle.std.proofs.lemmas.Bool.Decides.{nat_tests}
 use Rattle.std.specs.Option.{option_and_then}
 use Rattle.std.specs.Result.{is_ok, OnOk, OnErr}
@@ -25,9 +25,9 @@ use Rattle.pres_table.specs.Kept.{Kept, Serves, AddsRow, IsLeft}
 use Rattle.pres_table.specs.Opened.{greatest_in}
 use Rattle.pres_table.proofs.Finding.{greatest_push}
 use Rattle.pres_table.proofs.Growing.{map_push}
-use Rattle.pres_keeper.specs.Keepers.{HasOneNull}
-use Rattle.pres_saved.specs.Saved.{batch_of, batch_in, saved_log}
-use Rattle.pres_saved.specs.Keeps.{Works, IsReady, KeepsLog, LeavesLog, saved_batch}
+use Rattle.pres_keeper.specs.Keepers.{HasOneNull, Readable, whole}
+use Rattle.pres_saved.specs.Saved.{batch_of, batch_in, saved_log, readable_by, readable_rows}
+use Rattle.pres_saved.specs.Keeps.{Works, IsReady, KeepsLog, LeavesLog, MayFind, saved_batch}
 use Rattle.pres_saved.proofs.Reading.{kept_next, kept_more, kept_count}
 
 pub saves : (b : Batch) (s : Saved) → s.moment ≡ b.moment → s.body ≡ compact_text (entries_json b.entries) → s ≡ saved_batch b
@@ -131,3 +131,17 @@ module _ {S : Type 0} (g : Ghosts S) (old new : Kept S) where
           (λ clean db rows works. ap (λ found. saved_log (map shown_row found)) rows.1
           ∙ kept_next (rows_in before) old.last log b s low text keeps (count ready works keeps) one)
           survives
+
+      -- what an opening finds after a crash: what it could find before, or the log with the batch
+      pub found : IsReady g old → (Works g old → KeepsLog g old log) → Survives before after (λ db. IsTrue before.is_open × (db 2 ≡ rows_in before ++ stored (old.last + 1) s ∷ []))
+          → (held : Readable) → MayFind g new held → MayFind g old held ⊎ (held ≡ whole (log ++ b ∷ []))
+      found ready keeps survives held finds =
+          let now = finds.clean in
+          let was : HasCleanDisk before = omega (arith, survives.clean, now) in
+          elim (survives.crash finds.clean finds.left finds.may) [
+            | inl it ↦ inl (record { clean = was; left = finds.left; may = it; read = finds.read })
+            | inr more ↦
+                let works : Works g old = record { clean = was; is_open = more.0 } in
+                let next = kept_next (rows_in before) old.last log b s low text (keeps works) (count ready works (keeps works)) one in
+                inr (finds.read ∙ ap (λ rows. readable_rows (map shown_row rows)) more.1 ∙ ap (readable_by _) next)
+          ]

@@ -1,5 +1,6 @@
 pub mod Committing
 pub mod Counted
+pub mod Outlasting
 pub mod Reading
 pub mod Refused
 pub mod Remade

@@ -1,16 +1,18 @@
 -- What a keeper over a database holds.
-use Rattle.std.specs.Prelude.{◌≡◌, ◌+◌, [], ◌∷◌, ◌++◌, map, Ok, IsTrue}
+use Rattle.std.specs.Prelude.{◌≡◌, ◌+◌, List, [], ◌∷◌, ◌++◌, map, Ok, IsTrue}
 use Rattle.sqlite.specs.Store.{Ghosts}
-use Rattle.sqlite.specs.State.{HasCleanDisk, Survives}
+use Rattle.sqlite.specs.Order.{Row}
+use Rattle.sqlite.specs.Tree.{Trees}
+use Rattle.sqlite.specs.State.{State, HasCleanDisk, Survives}
 use Rattle.sqlite.specs.Held.{state}
 use Rattle.pres_log.specs.declared.entry.Batch.{Batch}
 use Rattle.pres_log.specs.Logs.{Log}
 use Rattle.serde_json.specs.Written.{compact_text}
 use Rattle.pres_body.specs.Entries.{entries_json}
-use Rattle.pres_table.specs.Kept.{Kept, Serves, AddsRow}
+use Rattle.pres_table.specs.Kept.{Kept, Serves, AddsRow, Outlasts}
 use Rattle.pres_table.specs.Opened.{greatest_in}
 use Rattle.pres_table.specs.Saved.{Saved, shown_row, shown_rows}
-use Rattle.pres_keeper.specs.Keepers.{Readable}
+use Rattle.pres_keeper.specs.Keepers.{Readable, BeginsWith}
 use Rattle.pres_saved.specs.Saved.{saved_log, readable_rows}
 
 -- the disk gave back what was written, and the store is open
@@ -49,3 +51,20 @@ abbrev pub LeavesLog : {S : Type 0} → Ghosts S → Kept S → Log → Batch �
 LeavesLog g old log batch new =
     Survives (state g old.connection) (state g new.connection)
     (λ db. Works g old → saved_log (map shown_row (db 2)) ≡ Ok (log ++ batch ∷ []))
+
+-- what can be read of a database that a crash at this moment may leave, where the disk gave back what was written
+pub record MayFind {S : Type 0} (g : Ghosts S) (t : Kept S) (held : Readable) : Type 0 where
+  pub clean : HasCleanDisk (state g t.connection)
+  pub left : Trees
+  pub may : (state g t.connection).may_leave left
+  pub read : held ≡ readable_rows (map shown_row (left 2))
+
+-- whatever a crash leaves begins with these rows, and what can be read of them and of any after them begins with the log
+pub record ComeFirst (s : State) (log : Log) : Type 0 where
+  pub rows : List Row
+  pub first : Outlasts rows s
+  pub read : (more : List Row) → BeginsWith log (readable_rows (map shown_row (rows ++ more)))
+
+-- so it does where the disk gave back what was written
+abbrev pub OutlastsLog : {S : Type 0} → Ghosts S → Kept S → Log → Type 0
+OutlastsLog g t log = HasCleanDisk (state g t.connection) → ComeFirst (state g t.connection) log

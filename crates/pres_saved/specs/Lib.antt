@@ -1,3 +1,4 @@
 pub mod Saved
 pub mod Taking
 pub mod Keeps
+pub mod Laws

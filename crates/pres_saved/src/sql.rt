@@ -107,6 +107,9 @@ impl<S: Alter + Drop> SqlKeeper<S> {
             → IsSame (state S.Store connection) (state S.Store k.connection)) }
         ensures left { IfErr result (λ e. HasCleanDisk (state S.Store e.1)
             → IsLeft (state S.Store connection) (state S.Store e.1)) }
+        ensures crash { MatchResult result
+            (λ k. Survives (state S.Store connection) (state S.Store k.connection) (λ _. ⊥))
+            (λ e. Survives (state S.Store connection) (state S.Store e.1) (λ _. ⊥)) }
     {
         match Table::open(connection) {
             Ok(table) => Ok(SqlKeeper { alloc, table }),
@@ -183,7 +186,8 @@ impl<S: Alter + Drop> SqlKeeper<S> {
 impl<S: Alter + Drop> Keeper for SqlKeeper<S> {
     ghost use Rattle.std.proofs.Common.{ap};
     ghost use Rattle.pres_saved.specs.Saved.{readable_by};
-    ghost use Rattle.pres_saved.specs.Keeps.{IsReady, Works, WasShut, KeepsLog, LeavesLog, SavesBatch, readable_in};
+    ghost use Rattle.pres_saved.specs.Keeps.{IsReady, Works, WasShut, KeepsLog, LeavesLog, MayFind, OutlastsLog, SavesBatch, readable_in};
+    ghost use Rattle.pres_saved.specs.Laws.{found_first};
 
     ghost ready = { λ kept. IsReady S.Store kept };
 
@@ -199,7 +203,14 @@ impl<S: Alter + Drop> Keeper for SqlKeeper<S> {
 
     ghost leaves = { λ old log batch new. LeavesLog S.Store old log batch new };
 
+    ghost may_find = { λ kept held. MayFind S.Store kept held };
+
+    ghost outlasts = { λ kept log. OutlastsLog S.Store kept log };
+
     ghost kept_is_read = { λ kept log keeps. ap (readable_by _) keeps };
+
+    ghost outlasting_is_found = { λ kept log held lasts finds.
+        found_first _ kept log held lasts finds };
 
     fn commit(&mut self, batch: &Batch) -> Result<(), SavedFault> {
         // they ensure that the number and the moment are in range
