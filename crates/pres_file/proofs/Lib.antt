@@ -1,2 +1,3 @@
 mod Blank
+mod Left
 mod Successes

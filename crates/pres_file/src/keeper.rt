@@ -11,13 +11,13 @@ ghost use Rattle.pres_table.specs.Made.{FailsToMake, making_fault};
 ghost use Rattle.pres_table.specs.Opened.{HasFormat, LacksFormat};
 ghost use Rattle.pres_table.specs.Schemas.{no_schema};
 ghost use Rattle.pres_table.specs.Saved.{shown_rows};
-ghost use Rattle.pres_saved.specs.Saved.{saved_log};
-ghost use Rattle.pres_saved.specs.Keeps.{IsReady, KeepsLog};
+ghost use Rattle.pres_saved.specs.Saved.{saved_log, readable_rows};
+ghost use Rattle.pres_saved.specs.Keeps.{IsReady, KeepsLog, readable_in};
 ghost use Rattle.pres_file.specs.Found.{HoldsOurs, KeepsWhatIsThere, KeepsWhatWasFound};
 
 use crate::open::connect;
 use pres_saved::{SavedFault, SqlKeeper};
-use sqlite::{Alter, Connection, File, FileFrom, FileStore, Start, Unknown};
+use sqlite::{Alter, Connection, FileFrom, FileStore, Start};
 use sqlite_schema::schema::Schema;
 use std::alloc::Global;
 
@@ -29,8 +29,8 @@ pub struct Opened<S: Alter> {
 }
 
 /// The keeper over the tables of a database, which are made where it holds nothing at all. Refused
-/// as `SqlKeeper` refuses the database, which comes back: NotOurs, where it holds other tables;
-/// Version, where its format is another.
+/// as `SqlKeeper` refuses the database, which comes back as it was, whoever made it: NotOurs, where
+/// it holds other tables; Version, where its format is another.
 pub fn keeper_over<S: Alter + Drop>(
     alloc: Global,
     connection: Connection<S>,
@@ -47,6 +47,10 @@ pub fn keeper_over<S: Alter + Drop>(
     ensures format { IfOk result (λ it. it.is_new ≡ false
         → HasCleanDisk (state S.Store it.keeper.connection)
         → (mid : _) × HasFormat (state S.Store connection) (state S.Store mid)) }
+    ensures read { IfOk result (λ it. it.is_new ≡ false
+        → HasCleanDisk (state S.Store it.keeper.connection)
+        → readable_in S.Store it.keeper
+        ≡ readable_rows (shown_rows (state S.Store connection))) }
     ensures found { IfOk result (λ it. (log : _) → it.is_new ≡ false
         → HasCleanDisk (state S.Store it.keeper.connection)
         → IsOurs (state S.Store connection)
@@ -59,12 +63,12 @@ pub fn keeper_over<S: Alter + Drop>(
         → HasCleanDisk (state S.Store e.1)
         → ((mid : _) × LacksFormat (state S.Store connection) (state S.Store mid) e.0)
         ⊎ ((e.0 ≡ SavedFault.Memory) ⊎ (e.0 ≡ SavedFault.Database))) }
-    ensures blank_stays { IfErr result (λ e. connection.schema ≡ no_schema
-        → HasCleanDisk (state S.Store e.1)
+    ensures stays { IfErr result (λ e. HasCleanDisk (state S.Store e.1)
         → IsTrue (state S.Store e.1).is_open
-        → (state S.Store e.1).committed ≡ (state S.Store connection).committed) }
-    ensures left { IfErr result (λ e. HasCleanDisk (state S.Store e.1)
-        → IsOurs (state S.Store connection)
+        → ((state S.Store e.1).now ≡ (state S.Store connection).now)
+        × ((state S.Store e.1).committed ≡ (state S.Store connection).committed)) }
+    ensures left { IfErr result (λ e. connection.schema ≢ no_schema
+        → HasCleanDisk (state S.Store e.1)
         → IsLeft (state S.Store connection) (state S.Store e.1)) }
 {
     if is_blank(connection.schema()) {
@@ -124,6 +128,9 @@ fn found<S: Alter + Drop>(
         ≤ doubt (state S.Store it.keeper.connection).is_clean) }
     ensures format { IfOk result (λ it. HasCleanDisk (state S.Store it.keeper.connection)
         → (mid : _) × HasFormat (state S.Store connection) (state S.Store mid)) }
+    ensures read { IfOk result (λ it. HasCleanDisk (state S.Store it.keeper.connection)
+        → readable_in S.Store it.keeper
+        ≡ readable_rows (shown_rows (state S.Store connection))) }
     ensures found { IfOk result (λ it. (log : _)
         → HasCleanDisk (state S.Store it.keeper.connection)
         → IsOurs (state S.Store connection)
@@ -133,7 +140,6 @@ fn found<S: Alter + Drop>(
         → ((mid : _) × LacksFormat (state S.Store connection) (state S.Store mid) e.0)
         ⊎ ((e.0 ≡ SavedFault.Memory) ⊎ (e.0 ≡ SavedFault.Database))) }
     ensures left { IfErr result (λ e. HasCleanDisk (state S.Store e.1)
-        → IsOurs (state S.Store connection)
         → IsLeft (state S.Store connection) (state S.Store e.1)) }
 {
     match SqlKeeper::open(alloc, connection) {
@@ -178,10 +184,4 @@ pub fn keeper_from<S: Start>(
 {
     let connection = connect(host, path, start)?;
     keeper_for(host.alloc(), connection)
-}
-
-/// The same at the type that stands for whatever the files hold. By its meaning in the kit nothing is
-/// promised here of a file that isn't empty: that is what `keeper_from` says, whose code is the same.
-pub fn keeper_in(host: &HostRuntime, path: &str) -> Result<Opened<FileStore<File>>, SavedFault> {
-    keeper_from(host, path, Unknown)
 }

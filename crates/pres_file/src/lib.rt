@@ -2,7 +2,8 @@
 #![tactic(auto)]
 
 mod keeper;
+pub mod laws;
 mod open;
 
-pub use keeper::{Opened, keeper_for, keeper_from, keeper_in, keeper_over};
+pub use keeper::{Opened, keeper_for, keeper_from, keeper_over};
 pub use open::connect;

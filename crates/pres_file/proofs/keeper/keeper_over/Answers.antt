@@ -1,6 +1,6 @@
 use Rattle.std.proofs.Common.{arith}
 use Rattle.std.proofs.lemmas.Grind.{common_steps}
-use Rattle.pres_file.proofs.Successes.{from_refusal}
+use Rattle.pres_file.proofs.Successes.{from_one, from_refusal}
 use Rattle.pres_file.proofs.keeper.keeper_over.Goals as goal
 
 pub returns-then-is_blank-clause-new : goal.returns-then-is_blank-clause-new
@@ -21,6 +21,9 @@ returns-then-is_blank-clause-clean g c = grind (arith, common_steps)
 pub returns-then-is_blank-clause-format : goal.returns-then-is_blank-clause-format
 returns-then-is_blank-clause-format g c = grind (arith, common_steps)
 
+pub returns-then-is_blank-clause-read : goal.returns-then-is_blank-clause-read
+returns-then-is_blank-clause-read g c = grind (arith, common_steps)
+
 pub returns-then-is_blank-clause-found : goal.returns-then-is_blank-clause-found
 returns-then-is_blank-clause-found g c = grind (arith, common_steps)
 
@@ -30,8 +33,8 @@ returns-then-is_blank-clause-unmade g c = grind (arith, common_steps)
 pub returns-then-is_blank-clause-unfound : goal.returns-then-is_blank-clause-unfound
 returns-then-is_blank-clause-unfound g c = grind (arith, common_steps)
 
-pub returns-then-is_blank-clause-blank_stays : goal.returns-then-is_blank-clause-blank_stays
-returns-then-is_blank-clause-blank_stays g c = grind (arith, common_steps)
+pub returns-then-is_blank-clause-stays : goal.returns-then-is_blank-clause-stays
+returns-then-is_blank-clause-stays g c = grind (arith, common_steps)
 
 pub returns-then-is_blank-clause-left : goal.returns-then-is_blank-clause-left
 returns-then-is_blank-clause-left g c = grind (arith, common_steps)
@@ -54,6 +57,9 @@ returns-else-is_blank-clause-clean g c = grind (arith, common_steps)
 pub returns-else-is_blank-clause-format : goal.returns-else-is_blank-clause-format
 returns-else-is_blank-clause-format g c = grind (arith, common_steps)
 
+pub returns-else-is_blank-clause-read : goal.returns-else-is_blank-clause-read
+returns-else-is_blank-clause-read g c = from_one c.found.result (λ it read _ clean. read clean) c.found.ensures.read
+
 pub returns-else-is_blank-clause-found : goal.returns-else-is_blank-clause-found
 returns-else-is_blank-clause-found g c = grind (arith, common_steps)
 
@@ -63,8 +69,8 @@ returns-else-is_blank-clause-unmade g c = grind (arith, common_steps)
 pub returns-else-is_blank-clause-unfound : goal.returns-else-is_blank-clause-unfound
 returns-else-is_blank-clause-unfound g c = from_refusal c.found.result (λ e unfound _ clean. unfound clean) c.found.ensures.unfound
 
-pub returns-else-is_blank-clause-blank_stays : goal.returns-else-is_blank-clause-blank_stays
-returns-else-is_blank-clause-blank_stays g c = grind (arith, common_steps)
+pub returns-else-is_blank-clause-stays : goal.returns-else-is_blank-clause-stays
+returns-else-is_blank-clause-stays g c = grind (arith, common_steps)
 
 pub returns-else-is_blank-clause-left : goal.returns-else-is_blank-clause-left
 returns-else-is_blank-clause-left g c = grind (arith, common_steps)

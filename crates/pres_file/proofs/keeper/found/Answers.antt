@@ -1,0 +1,8 @@
+use Rattle.std.proofs.Common.{ap, map}
+use Rattle.sqlite.specs.Effect.{Database}
+use Rattle.pres_table.specs.Saved.{shown_row}
+use Rattle.pres_saved.specs.Saved.{readable_rows}
+use Rattle.pres_file.proofs.keeper.found.Goals as goal
+
+pub returns-in-Ok-clause-read : goal.returns-in-Ok-clause-read
+returns-in-Ok-clause-read g c = λ clean. ap (λ (d : Database). readable_rows (map shown_row (d.trees 2))) (c.in-Ok.ensures.same clean).now
