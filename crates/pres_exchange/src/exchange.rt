@@ -13,7 +13,7 @@ ghost use Rattle.pres_ids.specs.declared.id.Why.TheVariants.{Slow};
 ghost use Rattle.pres_lines.specs.Lines.{line_at, has_line, unmarked, first_slow, first_marked, marked, fed, struck, IsFirstSlow, IsFirstMarked, ChangesAt};
 ghost use Rattle.pres_lines.specs.Steps.{IsToldWith};
 ghost use Rattle.pres_engine.specs.Engines.{Runs};
-ghost use Rattle.pres_engine.specs.Turned.{IsNotTurned};
+ghost use Rattle.pres_engine.specs.Turned.{IsNotTurned, MakesBatch};
 ghost use Rattle.pres_exchange.specs.Exchanges.{AreTold, is_hello, StayMarked, IsAnswered, IsJoined, IsNotJoined, LastIsFor, LinesJoined, NoneSlow, AreEnded, AreRestarted, IsNoClient, StopsAtStart, IsNotStarted};
 
 use crate::bells::{Bell, Bells};
@@ -167,7 +167,8 @@ impl<K: Keeper + Drop, B: Bell + Clone + Drop> Exchange<K, B> {
         self.engine.number()
     }
 
-    /// Does what the input asks for, and puts its answers on the lines.
+    /// Does what the input asks for, and puts its answers on the lines. Whatever a crash leaves from
+    /// then on begins with the log that was answered.
     pub fn turn(&mut self, input: Input, now: Moment) -> Result<(), EngineFault>
         requires { is_hello input ≡ false }
         ensures answered { IfOk result (λ _. IsAnswered self.old.run.server input now
@@ -180,6 +181,10 @@ impl<K: Keeper + Drop, B: Bell + Clone + Drop> Exchange<K, B> {
         ensures rises { self.old.run.number ≤ self.new.run.number }
         ensures fewer { unmarked self.new.lines ≤ unmarked self.old.lines }
         ensures worked { K.works self.new.run.keeper → K.works self.old.run.keeper }
+        ensures durable { MakesBatch self.old.run.server input now → OnOk result
+            (Runs (λ s. K.outlasts self.new.run.keeper s.log) self.new.run.server) }
+        ensures outlasts { (log : Log) → K.outlasts self.old.run.keeper log
+            → K.outlasts self.new.run.keeper log }
     {
         let answers = self.engine.turn(input, now)?;
         // it ensures that the log is legal
