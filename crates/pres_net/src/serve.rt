@@ -152,10 +152,10 @@ fn attend<
     alloc: Global,
     hub: &Hub<L, K, StreamBell, OpenGate>,
     stream: &mut S,
-    bell: Option<StreamBell>,
+    mut bell: Option<StreamBell>,
 ) {
     let mut clock = WallClock::new(rt);
-    let (parting, ended) = serve_stream(rt, alloc, hub, &mut *stream, bell, &mut clock);
+    let (parting, ended) = serve_stream(rt, alloc, hub, &mut *stream, &mut bell, &mut clock);
     drop(parting);
     if let Err(SockFault::Handshake(_)) = ended {
         let _ = stream.write_all(UPGRADE_REQUIRED);

@@ -5,19 +5,17 @@ use denote.RattleType.{RattleType}
 use denote.Ref.{NamedLft}
 use Rattle.std.proofs.Crossing.{crosses, send as global_is, sync as global_shared}
 use Rattle.std.specs.declared.sync.ledger.Ledger as ledger
-use Rattle.std.specs.contracts.option.Option as option
-use Rattle.std.specs.contracts.result.Result as result
 use Rattle.tungstenite.proofs.protocol.WebSocket.TheSendSync.{the_send as socket_is}
 use Rattle.pres_seats.proofs.seat.Seat.TheSendSync.{the_send as seat_is}
 use Rattle.pres_hub.proofs.Crossing.{outbox_send, hub_sync}
 use Rattle.pres_websocket.proofs.fault.SockFault.TheSendSync.{the_send as fault_is}
 use Rattle.pres_websocket.proofs.meter.Metered.TheSendSync.{the_send as metered_is}
 use Rattle.pres_websocket.proofs.socket.Came.TheSendSync.{the_send as came_is}
-use Rattle.pres_websocket.specs.contracts.fault.SockFault as fault
 use Rattle.pres_sock.specs.contracts.place.Place as place
 use Rattle.pres_sock.specs.contracts.place.Visit as visit
 use Rattle.pres_sock.specs.contracts.serve.Served as served
 use Rattle.pres_sock.specs.contracts.serve.Arrival as arrival
+use Rattle.pres_sock.specs.contracts.serve.Begun as begun
 use Rattle.pres_sock.specs.contracts.serve.Waking as waking
 
 module _ (L : RattleType) (l : ledger.Ghosts L.Denot) where
@@ -38,5 +36,5 @@ pub waking_send : (α : NamedLft) (L K B G R S C : RattleType) (l : _) (g : _) �
 waking_send α L K B G R S C l g k b y r s c = search (visit_sync, served_send, came_is, declared_send, as_row_send, crosses, sendable) depth 60 fits 20000
 
 -- what the first work for a connection gives
-pub begun_send : (L B S : RattleType) (l : ledger.Ghosts L.Denot) → IsSend B → IsSend S → IsSend (result.the_row (option.the_row (served.the_row L B S l)) fault.the_row)
-begun_send L B S l b s = search (served_send, fault_is, crosses, sendable) depth 60 fits 20000
+pub begun_send : (L B S : RattleType) (l : ledger.Ghosts L.Denot) → IsSend B → IsSend S → IsSend (begun.the_row L B S l)
+begun_send L B S l b s = search (served_send, fault_is, declared_send, as_row_send, crosses, sendable) depth 60 fits 20000

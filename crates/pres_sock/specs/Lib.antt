@@ -1,1 +1,2 @@
+pub mod Bells
 pub mod Refusals

@@ -1,6 +1,6 @@
 //! A connection's place at its hub.
 
-ghost use Rattle.std.specs.Prelude.{◌≡◌, ◌≤◌, false, Some, None, Err, IfOk, IfErr};
+ghost use Rattle.std.specs.Prelude.{◌≡◌, ◌≤◌, false, Some, None, Err, OnOk, OnErr, IfOk, IfErr};
 ghost use Rattle.pres_wire.specs.UpForms.{decoded};
 ghost use Rattle.pres_wire.specs.declared.fault.WireFault.{WireFault};
 ghost use Rattle.pres_wire.specs.declared.down.Down.TheVariants.{Fault};
@@ -30,7 +30,8 @@ pub(crate) struct Place<L: Ledger> {
     outbox: Outbox,
 }
 
-/// Opens the session, and hangs its bell. The bells of others that are due then are added to these.
+/// Opens the session, and hangs its bell, which is taken exactly where the session is opened. The bells
+/// of others that are due then are added to these.
 pub(crate) fn join<L: Ledger, K: Keeper + Drop, B: Bell + Clone + Drop, G: Gate, R: Wait>(
     visit: &Visit<'_, L, K, B, G, R>,
     session: &SessionId,
@@ -38,7 +39,10 @@ pub(crate) fn join<L: Ledger, K: Keeper + Drop, B: Bell + Clone + Drop, G: Gate,
     due: &mut Vec<B>,
     now: Moment,
 ) -> Result<Place<L>, HubFault>
-    ensures { IfOk result (λ place. place.seat.made ≡ 1) }
+    ensures joined { IfOk result (λ place. place.seat.made ≡ 1) }
+    ensures opened { IfOk result (λ place. place.seat.session ≡ session.now) }
+    ensures taken { OnOk result (bell.new ≡ None) }
+    ensures kept { OnErr result (bell.new ≡ bell.old) }
 {
     let mut core = visit.hub.enter(visit.rt, 0);
     let (seat, outbox) = core.join(session, now)?;

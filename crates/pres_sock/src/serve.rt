@@ -1,6 +1,6 @@
 //! The server's side of a connection.
 
-ghost use Rattle.std.specs.Prelude.{◌≡◌, ◌≤◌, ◌⊎◌, ℕ, List, true, false, None, Ok, Err, OnOk, IfOk, IfErr, IfSome};
+ghost use Rattle.std.specs.Prelude.{◌≡◌, ◌≤◌, ◌⊎◌, ⊤, ℕ, List, true, false, None, Ok, Err, OnOk, OnErr, IfOk, IfErr, IfSome, IfNone, OnSome};
 ghost use Rattle.serde_json.specs.Written.{compact_text};
 ghost use Rattle.tungstenite.specs.Connection.{write_step};
 ghost use Rattle.tungstenite.specs.Content.{text};
@@ -13,6 +13,7 @@ ghost use Rattle.pres_wire.specs.declared.up.Up.TheVariants.{Hello};
 ghost use Rattle.pres_websocket.specs.Ends.{is_handshake, fails_to_shake};
 ghost use Rattle.pres_websocket.specs.declared.socket.Came.TheVariants.{Binary, Text};
 ghost use Rattle.pres_sock.specs.Refusals.{bad, AnswersBad, IsNoHello, IsRefusal, is_last};
+ghost use Rattle.pres_sock.specs.Bells.{left_of};
 
 use crate::place::{Place, Visit, code_of, join, ring};
 use pres_hub::{Bell, Gate, Hub, Keeper, Moment, Parting, SessionId, Up};
@@ -93,7 +94,9 @@ const RESTS_BEHIND: u32 = 20;
 /// Serves one connection until it is over: its seat's parting, where a session was opened, and why
 /// the connection ended, where it wasn't closed. The seat that it joins is given to `leave`, so a
 /// parting counts a Hello at least, and there is none where the handshake failed. The bell is the
-/// connection's own: it is rung where something is to be sent, and ends a read that waits.
+/// connection's own: it is rung where something is to be sent, and ends a read that waits. It is taken
+/// exactly where a session is opened, so a bell that was given is gone where there is a parting, and is
+/// still there where there is none.
 ///
 /// Messages are answered in a thread of their own, which ends once nothing has come for 20 reads: so
 /// a connection that only listens keeps no more of a stack than its reads take. Where no such thread
@@ -112,20 +115,24 @@ pub fn serve_stream<
     alloc: Global,
     hub: &Hub<L, K, B, G>,
     stream: S,
-    bell: Option<B>,
+    bell: &mut Option<B>,
     clock: &mut C,
 ) -> (Option<Parting<L>>, Result<(), SockFault>)
     ensures left { IfSome result.0 (λ parting. 1 ≤ parting.made) }
+    ensures taken { OnSome result.0 (bell.new ≡ None) }
+    ensures kept { IfNone result.0 (bell.new ≡ bell.old) }
     ensures handshake { IfErr result.1 (λ e. is_handshake e ≡ true → result.0 ≡ None) }
 {
     let visit = Visit { rt, alloc, hub };
     let arrival = Arrival {
         visit: &visit,
         stream,
-        bell,
+        bell: bell.take(),
         clock: &mut *clock,
     };
-    let mut served = match apart(rt, arrival) {
+    let Begun { served, bell: rest } = apart(rt, arrival);
+    *bell = rest;
+    let mut served = match served {
         Ok(Some(served)) => served,
         Ok(None) => return (None, Ok(())),
         Err(fault) => return (None, Err(fault)),
@@ -154,11 +161,17 @@ pub fn serve_stream<
 trait Task {
     type Output;
 
-    fn run(self) -> Self::Output;
+    // Holds of the work and what it comes to.
+    ghost gives: { Self → Self.Output → Type 0 } = { λ _ _. ⊤ };
+
+    fn run(self) -> Self::Output
+        ensures { gives self result };
 }
 
 #[inline(never)]
-fn apart<R: Threads, T: Task<Output = A> + Send + Drop, A: Send>(rt: &R, task: T) -> A {
+fn apart<R: Threads, T: Task<Output = A> + Send + Drop, A: Send>(rt: &R, task: T) -> A
+    ensures { T.gives task result }
+{
     thread::join(rt, move || task.run(), || ()).0
 }
 
@@ -181,17 +194,27 @@ impl<
     S: Read + Write + Drop,
     C: Clock,
 > Task for Arrival<'a, L, K, B, G, R, S, C> {
-    type Output = Result<Option<Served<L, B, S>>, SockFault>;
+    type Output = Begun<L, B, S>;
 
-    fn run(self) -> Result<Option<Served<L, B, S>>, SockFault> {
+    ghost gives = { λ arrival begun. begun.bell ≡ left_of arrival.bell begun.served };
+
+    fn run(self) -> Begun<L, B, S> {
         let Arrival {
             visit,
             stream,
-            bell,
+            mut bell,
             clock,
         } = self;
-        open(visit, stream, bell, clock)
+        let served = open(visit, stream, &mut bell, clock);
+        Begun { served, bell }
     }
+}
+
+// What the first work for a connection comes to: the session that was opened, where one was, and the
+// bell, where that wasn't taken. None where the connection is over before a session.
+struct Begun<L: Ledger, B, S> {
+    served: Result<Option<Served<L, B, S>>, SockFault>,
+    bell: Option<B>,
 }
 
 // The handshake, a session, and what comes first. None where the connection is over before a session.
@@ -206,12 +229,14 @@ fn open<
 >(
     visit: &Visit<'_, L, K, B, G, R>,
     stream: S,
-    bell: Option<B>,
+    bell: &mut Option<B>,
     clock: &mut C,
-) -> Result<Option<Served<L, B, S>>, SockFault> {
+) -> Result<Option<Served<L, B, S>>, SockFault>
+    ensures { bell.new ≡ left_of bell.old result }
+{
     let mut socket = accept(visit.alloc, stream)?;
     let mut due = Vec::new(visit.alloc);
-    let Some(place) = greet(visit, &mut socket, bell, &mut due, &mut *clock)? else {
+    let Some(place) = greet(visit, &mut socket, &mut *bell, &mut due, &mut *clock)? else {
         return Ok(None);
     };
     let mut served = Served {
@@ -237,17 +262,18 @@ fn greet<
 >(
     visit: &Visit<'_, L, K, B, G, R>,
     socket: &mut Socket<S, NoMask>,
-    mut bell: Option<B>,
+    bell: &mut Option<B>,
     due: &mut Vec<B>,
     clock: &mut C,
 ) -> Result<Option<Place<L>>, SockFault>
-    ensures { IfOk result (λ found. IfSome found (λ place. 1 ≤ place.seat.made)) }
+    ensures joined { IfOk result (λ found. IfSome found (λ place. 1 ≤ place.seat.made)) }
+    ensures bell { bell.new ≡ left_of bell.old result }
 {
-    for _ in 0..u64::MAX {
+    'asked: for _ in 0..u64::MAX {
         let Some(asked) = next_asked(visit.alloc, socket)? else {
             return Ok(None);
         };
-        match admit(visit, asked, &mut bell, due, &mut *clock)? {
+        match admit(visit, asked, &mut *bell, due, &mut *clock)? {
             Ok(place) => return Ok(Some(place)),
             Err(fault) => if refuse(visit.alloc, socket, fault)? {
                 return Ok(None);
@@ -287,7 +313,11 @@ fn admit<L: Ledger, K: Keeper + Drop, B: Bell + Clone + Drop, G: Gate, R: Wait, 
     clock: &mut C,
 ) -> Result<Result<Place<L>, Down>, SockFault>
     ensures joined { IfOk result (λ found. IfOk found (λ place. place.seat.made ≡ 1)) }
+    ensures opened { IfOk result (λ found. IfOk found (λ place. asked ≡ Ok place.seat.session)) }
     ensures refused { IfOk result (λ found. IfErr found (IsRefusal asked)) }
+    ensures taken { IfOk result (λ found. OnOk found (bell.new ≡ None)) }
+    ensures kept { IfOk result (λ found. OnErr found (bell.new ≡ bell.old)) }
+    ensures failed { OnErr result (bell.new ≡ bell.old) }
     ensures err { IfErr result (λ e. is_handshake e ≡ false) }
 {
     match asked {

@@ -65,7 +65,7 @@ fn served_with<L: Ledger + Send + Sync, R: Wait + Threads + Abort + Sync>(
         Err((fault, _)) => panic!(rt; "{fault}"),
     };
     let hub = Hub::new(core, OpenGate);
-    let (parting, ended) = serve_stream(rt, alloc, &hub, stream, None, &mut Stopped);
+    let (parting, ended) = serve_stream(rt, alloc, &hub, stream, &mut None, &mut Stopped);
     let mut report = hub.into_core().finish();
     if let Some(parting) = parting {
         report.gather(parting);
