@@ -1,0 +1,4 @@
+pub mod Keyed
+pub mod Summed
+pub mod Whole
+pub mod Samples

@@ -1,0 +1,215 @@
+-- The sum of a whole legal log.
+use Rattle.std.proofs.Common.{inl, refl, sym, ◌∙◌, ap, subst, ◌≡◌, ℕ, ◌+◌, ◌≤◌, min, max, List, [], ◌∷◌, ◌++◌, length, map, arith, length-append}
+use Rattle.std.specs.BTreeMap.{IsOrdered}
+use Rattle.std.specs.List.Sorted.{IsStrictlySortedBy}
+use Rattle.std.proofs.lemmas.List.{length-map}
+use Rattle.std_collections.specs.Layout.BTreeMap.{btree_map}
+use Rattle.pres_tree.specs.declared.scalar.Scalar.{Scalar}
+use Rattle.pres_tree.specs.Paths.{Path}
+use Rattle.pres_tree.specs.Rows.{Rows}
+use Rattle.pres_write.specs.Moments as moments
+use Rattle.pres_ids.specs.declared.id.SessionId.{SessionId}
+use Rattle.pres_ids.specs.Ids.{ClientId, client_cmp}
+use Rattle.pres_fan.specs.Listeners.{IsListeners, paths_of}
+use Rattle.pres_log.specs.declared.entry.Batch.{Batch}
+use Rattle.pres_log.specs.declared.entry.Entry.{Entry}
+use Rattle.pres_log.specs.Logs.{Log, entries, last_moment}
+use Rattle.pres_log.proofs.Entries.{entries-push}
+use Rattle.pres_server.specs.declared.index.Index.{Index}
+use Rattle.pres_server.specs.declared.input.Input.{Input}
+use Rattle.pres_server.specs.Sessions.{open_sessions}
+use Rattle.pres_server.specs.LegalLog.{MayFollow, IsLegal}
+use Rattle.pres_server.specs.Heard.{Heard, State}
+use Rattle.pres_server.specs.Turns.{Decision, makes, quiet, refused, moment_of, wanted, turn, batch_of, log_after}
+use Rattle.pres_server.specs.Parts.{Part, Sound, session_with, wanted_by, limited_by}
+use Rattle.pres_server.specs.Places.{Session, open_count}
+use Rattle.pres_server.specs.Index.{part_at, paths_at}
+use Rattle.pres_server.specs.Invariants.{Holds}
+use Rattle.pres_server.specs.Follows.{MayComeTogetherBy, LeavesRoomBy}
+use Rattle.pres_server.proofs.Decide.{wanted_is, wanted_allowed, limited_is}
+use Rattle.pres_server.proofs.Follows.{joins_in, joins_out}
+use Rattle.pres_server.proofs.Heard.{behind}
+use Rattle.pres_server.proofs.OpenList.{id_of, open_list}
+use Rattle.pres_server.proofs.Turned.{count_is, fitting, kept_after}
+use Rattle.pres_server.proofs.Whole.{of_legal, legal_is_sound}
+use Rattle.pres_history.specs.Sums.{Sum, OpenSession, nothing, part_in, paths_in, sum_with, sum_from, sum_of}
+use Rattle.pres_history.specs.SumTurns.{FollowsSum, moment_by, turn_by, sum_after_turn}
+use Rattle.pres_history.specs.SumLaws.{Says, SumSays, LegalSumSays}
+use Rattle.pres_history.proofs.Keyed.{each}
+use Rattle.pres_history.proofs.Summed.{open_of, IsSumOf, part_is, sent_is, TakenAll, taken}
+
+-- one batch more
+pub sum_push : (sum : Sum) (log : Log) (b : Batch) → sum_from sum (log ++ b ∷ []) ≡ sum_with (sum_from sum log) b
+sum_push sum [] b = refl
+sum_push sum (a ∷ log) b = sum_push (sum_with sum a) log b
+
+-- ---- an index whose sum is that of the log
+
+pub record Stands (log : Log) : Type 0 where
+  pub index : Index
+  pub holds : Holds log (last_moment log) index
+  pub is_sum : IsSumOf index (sum_of log)
+  pub number : (sum_of log).number ≡ length (entries log)
+  pub batches : (sum_of log).batches ≡ length log
+  pub moment : (sum_of log).moment ≡ last_moment log
+
+abbrev empty : Index
+empty = record { places = record { live = btree_map [] (inl tt); gone = btree_map [] (inl tt) }; retry = []; listeners = []; tree = [] }
+
+no_listeners : IsListeners []
+unfolding IsStrictlySortedBy
+no_listeners = record { ordered = tt; few = λ s. omega arith }
+
+in_order : IsOrdered client_cmp empty.places.live
+unfolding IsStrictlySortedBy
+in_order = tt
+
+start : Stands []
+start = record {
+  index = empty;
+  holds = record {
+    legal = tt;
+    indexed = record { parts = λ c. refl; sent = λ c. refl; listens = λ s. refl; held = no_listeners; tree = refl };
+    last = refl;
+    ordered = in_order;
+  };
+  is_sum = record { sessions = refl; gone = refl; rows = refl; listeners = refl; tree = refl };
+  number = refl;
+  batches = refl;
+  moment = refl;
+}
+
+-- what its entries make of it
+further : (log : Log) (b : Batch) → (s : Stands log) → MayFollow log b → TakenAll (entries log) b.entries (sum_of log)
+further log b s f =
+    let first : b.first ≡ (sum_of log).number + 1 = f.first ∙ ap (λ n. n + 1) (sym s.number) in
+    taken b.entries (entries log) b.first b.moment s.index (sum_of log) (fitting log (last_moment log) s.index b s.holds f) s.is_sum first s.holds.ordered
+
+step : (log : Log) (b : Batch) → Stands log → MayFollow log b → Stands (log ++ b ∷ [])
+step log b s f = record {
+  index = t.index;
+  holds = subst (λ m. Holds (log ++ b ∷ []) m t.index) kept.last kept;
+  is_sum = subst (IsSumOf t.index) (sym (sum_push nothing log b)) with_batch;
+  number = ap (λ (x : Sum). x.number) (sum_push nothing log b) ∙ t.number ∙ (λ i. s.number i + length b.entries) ∙ sym (length-append (entries log) b.entries) ∙ ap length (sym (entries-push log b));
+  batches = ap (λ (x : Sum). x.batches) (sum_push nothing log b) ∙ ap (λ n. n + 1) s.batches ∙ sym (length-append log (b ∷ []));
+  moment = ap (λ (x : Sum). x.moment) (sum_push nothing log b) ∙ kept.last;
+} where
+  t : TakenAll (entries log) b.entries (sum_of log)
+  t = further log b s f
+
+  kept : Holds (log ++ b ∷ []) b.moment t.index
+  kept = kept_after log (last_moment log) s.index t.index b s.holds f t.indexed t.ordered
+
+  with_batch : IsSumOf t.index (sum_with (sum_of log) b)
+  with_batch = record { sessions = t.is_sum.sessions; gone = t.is_sum.gone; rows = t.is_sum.rows; listeners = t.is_sum.listeners; tree = t.is_sum.tree }
+
+pub stands : (log : Log) → IsLegal log → Stands log
+stands = of_legal Stands start step
+
+-- ---- what it says
+
+-- the sessions that it names
+named : (es : List (ClientId × Session)) → map (λ (e : ClientId × OpenSession). session_with e.0 e.1.stamp) (each open_of es) ≡ map (λ (e : ClientId × SessionId). e.1) (behind id_of es)
+named [] = refl
+named (e ∷ es) = ap (λ l. session_with e.0 e.1.stamp ∷ l) (named es)
+
+says : (log : Log) → IsLegal log → Stands log → Says (entries log) (sum_of log)
+says log legal s = record {
+  number = s.number;
+  parts = λ c. part_is s.index (sum_of log) s.is_sum c ∙ s.holds.indexed.parts c;
+  sent = λ c. sent_is s.index (sum_of log) s.is_sum c ∙ s.holds.indexed.sent c;
+  listens = λ t. ap (paths_of t) s.is_sum.listeners ∙ s.holds.indexed.listens t;
+  sessions =
+      ap (map (λ (e : ClientId × OpenSession). session_with e.0 e.1.stamp)) s.is_sum.sessions
+      ∙ named s.index.places.live.entries
+      ∙ ap (map (λ (e : ClientId × SessionId). e.1)) (open_list (entries log) s.index s.holds.indexed (legal_is_sound log legal) s.holds.ordered);
+  tree = s.is_sum.tree ∙ s.holds.indexed.tree;
+}
+
+-- how many sessions are open
+counted : (log : Log) → (s : Stands log) → length (sum_of log).sessions ≡ open_count s.index.places
+counted log s = ap length s.is_sum.sessions ∙ length-map s.index.places.live.entries (λ (e : ClientId × Session). (e.0, open_of e.1))
+
+-- ---- what may follow
+
+abbrev Said : Type 0
+Said = (ClientId → Part) × (SessionId → List Path) × ℕ × Rows Scalar
+
+said : (log : Log) → (s : Stands log)
+    → let a : Said = (part_in (sum_of log), paths_in (sum_of log), length (sum_of log).sessions, (sum_of log).tree) in
+    let b : Said = (part_at s.index, paths_at s.index, open_count s.index.places, s.index.tree) in a ≡ b
+said log s = λ i. (λ c. part_is s.index (sum_of log) s.is_sum c i, λ t. paths_of t (s.is_sum.listeners i), counted log s i, s.is_sum.tree i)
+
+abbrev Together : ℕ → List Entry → Said → Type 0
+Together m xs x = MayComeTogetherBy x.0 x.1 x.2 x.3 m xs
+
+abbrev Room : List Entry → ℕ × ℕ → Type 0
+Room xs x = LeavesRoomBy x.0 x.1 xs
+
+follows_in : (log : Log) (b : Batch) → Stands log → FollowsSum (sum_of log) b → MayFollow log b
+follows_in log b s f = joins_in log (last_moment log) s.index b s.holds f.in_range (record {
+  first = f.first ∙ ap (λ n. n + 1) s.number;
+  not_earlier = subst (λ m. m ≤ b.moment) s.moment f.not_earlier;
+  room = subst (Room b.entries) (λ i. (s.number i, counted log s i)) f.room;
+  together = subst (Together b.moment b.entries) (said log s) f.allowed;
+})
+
+follows_out : (log : Log) (b : Batch) → Stands log → MayFollow log b → FollowsSum (sum_of log) b
+follows_out log b s f =
+    let j = joins_out log (last_moment log) s.index b s.holds f in
+    record {
+      first = f.first ∙ ap (λ n. n + 1) (sym s.number);
+      not_earlier = subst (λ m. m ≤ b.moment) (sym s.moment) f.not_earlier;
+      in_range = f.in_range;
+      allowed = subst (Together b.moment b.entries) (sym (said log s)) j.together;
+      room = subst (Room b.entries) (λ i. (sym s.number i, sym (counted log s) i)) j.room;
+    }
+
+-- ---- turns
+
+turns : (log : Log) → IsLegal log → (s : Stands log) → (heard : Heard) (input : Input) (now : ℕ) → turn_by (record { sum = sum_of log; heard = heard }) input now ≡ turn (record { log = log; heard = heard }) input now
+turns log legal s heard input now = sym (
+    limited_is es m (wanted state m input) sound (wanted_allowed state m input sound)
+    ∙ (λ i. limited_by (sym s.number i) (sym open_now i) (wanted_is state m input sound i))
+    ∙ (λ i. limited_by (sum_of log).number (length (sum_of log).sessions) (wanted_by (λ c. sym (w.parts c) i) (λ t. sym (w.listens t) i) heard (sym w.tree i) (sym moment_now i) input))) where
+      es : List Entry
+      es = entries log
+
+      m : ℕ
+      m = moment_of log now
+
+      state : State
+      state = record { log = log; heard = heard }
+
+      sound : Sound es
+      sound = legal_is_sound log legal
+
+      w : Says es (sum_of log)
+      w = says log legal s
+
+      open_now : length (sum_of log).sessions ≡ length (open_sessions es)
+      open_now = counted log s ∙ count_is log (last_moment log) s.index s.holds
+
+      moment_now : moment_by (sum_of log) now ≡ m
+      moment_now = ap (max (min now moments.last_moment)) s.moment
+
+-- the sum after the commit; where a batch begins makes no difference to it
+committed : (log : Log) (m : ℕ) (d : Decision) → sum_after_turn (sum_of log) m d ≡ sum_of (log_after log m d)
+committed log m (makes es) = sym (sum_push nothing log (batch_of log m es))
+committed log m quiet = refl
+committed log m (refused f) = refl
+
+-- ---- the laws
+
+pub sum_says : (log : Log) → LegalSumSays log
+sum_says log legal = record {
+  says = says log legal s;
+  batches = s.batches;
+  moment = s.moment;
+  follows = λ b. (follows_in log b s, follows_out log b s);
+  turns = turns log legal s;
+  committed = committed log;
+  answered = λ b f. (further log b s f).answered;
+} where
+  s : Stands log
+  s = stands log legal

@@ -1,0 +1,4 @@
+pub mod Sums
+pub mod SumAnswers
+pub mod SumTurns
+pub mod SumLaws

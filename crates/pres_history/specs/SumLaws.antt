@@ -1,0 +1,42 @@
+-- What the sum of a legal log says.
+use Rattle.std.specs.Prelude.{◌≡◌, ◌↔◌, ℕ, List, [], map, length, if◌then◌else◌}
+use Rattle.pres_ids.specs.declared.id.SessionId.{SessionId}
+use Rattle.pres_ids.specs.Ids.{ClientId}
+use Rattle.pres_log.specs.declared.entry.Batch.{Batch}
+use Rattle.pres_log.specs.declared.entry.Entry.{Entry}
+use Rattle.pres_log.specs.Logs.{Log, entries, last_moment, tree}
+use Rattle.pres_server.specs.declared.input.Input.{Input}
+use Rattle.pres_server.specs.Sessions.{is_open, open_sessions}
+use Rattle.pres_server.specs.Listening.{listened}
+use Rattle.pres_server.specs.Streams.{answers}
+use Rattle.pres_server.specs.LegalLog.{MayFollow, IsLegal}
+use Rattle.pres_server.specs.Heard.{Heard}
+use Rattle.pres_server.specs.Turns.{Decision, turn, log_after}
+use Rattle.pres_server.specs.Parts.{part_of, sent_of, session_with}
+use Rattle.pres_history.specs.Sums.{Sum, part_in, paths_in, sent_by, sum_of}
+use Rattle.pres_history.specs.SumAnswers.{answers_by}
+use Rattle.pres_history.specs.SumTurns.{FollowsSum, turn_by, sum_after_turn}
+
+-- the sum says what the entries say
+pub record Says (es : List Entry) (sum : Sum) : Type 0 where
+  pub number : sum.number ≡ length es
+  pub parts : (client : ClientId) → part_in sum client ≡ part_of client es
+  pub sent : (client : ClientId) → sent_by client sum.sessions ≡ sent_of client es
+  pub listens : (session : SessionId) → paths_in sum session ≡ (if is_open session es then listened session es else [])
+  -- the open sessions, in byte order of their clients
+  pub sessions : map (λ e. session_with e.0 e.1.stamp) sum.sessions ≡ open_sessions es
+  pub tree : sum.tree ≡ tree es
+
+-- what the sum of the log says is what the log says, and it decides as the log does
+pub record SumSays (log : Log) : Type 0 where
+  pub says : Says (entries log) (sum_of log)
+  pub batches : (sum_of log).batches ≡ length log
+  pub moment : (sum_of log).moment ≡ last_moment log
+  pub follows : (batch : Batch) → FollowsSum (sum_of log) batch ↔ MayFollow log batch
+  pub turns : (heard : Heard) (input : Input) (now : ℕ) → turn_by (record { sum = sum_of log; heard = heard }) input now ≡ turn (record { log = log; heard = heard }) input now
+  pub committed : (moment : ℕ) (decision : Decision) → sum_after_turn (sum_of log) moment decision ≡ sum_of (log_after log moment decision)
+  pub answered : (batch : Batch) → MayFollow log batch → answers_by (sum_of log) batch.entries ≡ answers (entries log) batch.entries
+
+-- The sum of a legal log says what the log says.
+abbrev pub LegalSumSays : Log → Type 0
+LegalSumSays log = IsLegal log → SumSays log
