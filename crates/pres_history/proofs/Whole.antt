@@ -33,8 +33,9 @@ use Rattle.pres_server.proofs.OpenList.{id_of, open_list}
 use Rattle.pres_server.proofs.Turned.{count_is, fitting, kept_after}
 use Rattle.pres_server.proofs.Whole.{of_legal, legal_is_sound}
 use Rattle.pres_history.specs.Sums.{Sum, OpenSession, nothing, part_in, paths_in, sum_with, sum_from, sum_of}
+use Rattle.pres_history.specs.SumAnswers.{answers_by}
 use Rattle.pres_history.specs.SumTurns.{FollowsSum, moment_by, turn_by, sum_after_turn}
-use Rattle.pres_history.specs.SumLaws.{Says, SumSays, LegalSumSays}
+use Rattle.pres_history.specs.SumLaws.{Says, SumSays, LegalSumSays, SumsDecide}
 use Rattle.pres_history.proofs.Keyed.{each}
 use Rattle.pres_history.proofs.Summed.{open_of, IsSumOf, part_is, sent_is, TakenAll, taken}
 
@@ -213,3 +214,22 @@ sum_says log legal = record {
 } where
   s : Stands log
   s = stands log legal
+
+pub sums_decide : (a b : Log) → SumsDecide a b
+sums_decide a b la lb same = record {
+  follows = λ batch. (over batch, back batch);
+  turns = λ heard input now. sym (x.turns heard input now) ∙ ap (λ s. turn_by (record { sum = s; heard = heard }) input now) same ∙ y.turns heard input now;
+  answered = λ batch f. sym (x.answered batch f) ∙ ap (λ s. answers_by s batch.entries) same ∙ y.answered batch (over batch f);
+  sums = λ batch. sum_push nothing a batch ∙ ap (λ s. sum_with s batch) same ∙ sym (sum_push nothing b batch);
+} where
+  x : SumSays a
+  x = sum_says a la
+
+  y : SumSays b
+  y = sum_says b lb
+
+  over : (batch : Batch) → MayFollow a batch → MayFollow b batch
+  over batch f = (y.follows batch).0 (subst (λ s. FollowsSum s batch) same ((x.follows batch).1 f))
+
+  back : (batch : Batch) → MayFollow b batch → MayFollow a batch
+  back batch f = (x.follows batch).0 (subst (λ s. FollowsSum s batch) (sym same) ((y.follows batch).1 f))

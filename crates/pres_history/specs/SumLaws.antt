@@ -1,5 +1,5 @@
--- What the sum of a legal log says.
-use Rattle.std.specs.Prelude.{◌≡◌, ◌↔◌, ℕ, List, [], map, length, if◌then◌else◌}
+-- What the sum of a legal log says, and that it decides what comes next.
+use Rattle.std.specs.Prelude.{◌≡◌, ◌↔◌, ℕ, List, [], ◌∷◌, ◌++◌, map, length, if◌then◌else◌}
 use Rattle.pres_ids.specs.declared.id.SessionId.{SessionId}
 use Rattle.pres_ids.specs.Ids.{ClientId}
 use Rattle.pres_log.specs.declared.entry.Batch.{Batch}
@@ -40,3 +40,15 @@ pub record SumSays (log : Log) : Type 0 where
 -- The sum of a legal log says what the log says.
 abbrev pub LegalSumSays : Log → Type 0
 LegalSumSays log = IsLegal log → SumSays log
+
+-- the same comes next after both logs
+pub record SameNext (a b : Log) : Type 0 where
+  pub follows : (batch : Batch) → MayFollow a batch ↔ MayFollow b batch
+  pub turns : (heard : Heard) (input : Input) (now : ℕ) → turn (record { log = a; heard = heard }) input now ≡ turn (record { log = b; heard = heard }) input now
+  pub answered : (batch : Batch) → MayFollow a batch → answers (entries a) batch.entries ≡ answers (entries b) batch.entries
+  pub sums : (batch : Batch) → sum_of (a ++ batch ∷ []) ≡ sum_of (b ++ batch ∷ [])
+
+-- After two legal logs with equal sums the same batches may follow, the same turns are made and the same is answered, and
+-- the sums stay equal.
+abbrev pub SumsDecide : Log → Log → Type 0
+SumsDecide a b = IsLegal a → IsLegal b → sum_of a ≡ sum_of b → SameNext a b

@@ -1,10 +1,16 @@
 //! Laws of the sum of a server's log, for crates that hold a sum in the place of a log.
 
 ghost use Rattle.pres_log.specs.Logs.{Log};
-ghost use Rattle.pres_history.specs.SumLaws.{LegalSumSays};
+ghost use Rattle.pres_history.specs.SumLaws.{LegalSumSays, SumsDecide};
 
 /// What the sum of a legal log says is what the log says: of each client, session and path. By it
 /// the same batches may follow, each turn makes the same, and a batch answers the same.
 pub fn sums_say()
     ensures { (log : Log) → LegalSumSays log }
+{}
+
+/// After two legal logs with equal sums the same batches may follow, the same turns are made and
+/// the same is answered, and the sums stay equal.
+pub fn sums_decide()
+    ensures { (a b : Log) → SumsDecide a b }
 {}
