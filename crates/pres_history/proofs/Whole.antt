@@ -1,5 +1,5 @@
 -- The sum of a whole legal log.
-use Rattle.std.proofs.Common.{inl, refl, sym, ◌∙◌, ap, subst, ◌≡◌, ℕ, ◌+◌, ◌≤◌, min, max, List, [], ◌∷◌, ◌++◌, length, map, arith, length-append}
+use Rattle.std.proofs.Common.{inl, refl, sym, ◌∙◌, ap, subst, ◌≡◌, ℕ, ◌+◌, ◌≤◌, min, max, List, [], ◌∷◌, ◌++◌, length, map, append-nil, append_assoc, arith, length-append}
 use Rattle.std.specs.BTreeMap.{IsOrdered}
 use Rattle.std.specs.List.Sorted.{IsStrictlySortedBy}
 use Rattle.std.proofs.lemmas.List.{length-map}
@@ -31,11 +31,11 @@ use Rattle.pres_server.proofs.Follows.{joins_in, joins_out}
 use Rattle.pres_server.proofs.Heard.{behind}
 use Rattle.pres_server.proofs.OpenList.{id_of, open_list}
 use Rattle.pres_server.proofs.Turned.{count_is, fitting, kept_after}
-use Rattle.pres_server.proofs.Whole.{of_legal, legal_is_sound}
+use Rattle.pres_server.proofs.Whole.{of_legal, legal_after, legal_is_sound}
 use Rattle.pres_history.specs.Sums.{Sum, OpenSession, nothing, part_in, paths_in, sum_with, sum_from, sum_of}
 use Rattle.pres_history.specs.SumAnswers.{answers_by}
-use Rattle.pres_history.specs.SumTurns.{FollowsSum, moment_by, turn_by, sum_after_turn}
-use Rattle.pres_history.specs.SumLaws.{Says, SumSays, LegalSumSays, SumsDecide}
+use Rattle.pres_history.specs.SumTurns.{FollowsSum, FollowAll, moment_by, turn_by, sum_after_turn}
+use Rattle.pres_history.specs.SumLaws.{Says, SumSays, LegalSumSays, SumsDecide, WholeIsLegal}
 use Rattle.pres_history.proofs.Keyed.{each}
 use Rattle.pres_history.proofs.Summed.{open_of, IsSumOf, part_is, sent_is, TakenAll, taken}
 
@@ -233,3 +233,18 @@ sums_decide a b la lb same = record {
 
   back : (batch : Batch) → MayFollow b batch → MayFollow a batch
   back batch f = (x.follows batch).0 (subst (λ s. FollowsSum s batch) (sym same) ((y.follows batch).1 f))
+
+-- the batches that follow from the sum follow the log
+all_follow : (later log : Log) → IsLegal log → FollowAll (sum_of log) later → IsLegal (log ++ later) × (sum_of (log ++ later) ≡ sum_from (sum_of log) later)
+all_follow [] log legal f = (subst IsLegal (sym (append-nil log)) legal, ap sum_of (append-nil log))
+all_follow (b ∷ later) log legal f =
+    let next = ((sum_says log legal).follows b).0 f.0 in
+    let rest = all_follow later (log ++ b ∷ []) (legal_after log b legal next) (subst (λ s. FollowAll s later) (sym (sum_push nothing log b)) f.1) in (
+      subst IsLegal (append_assoc log (b ∷ []) later) rest.0,
+      ap sum_of (sym (append_assoc log (b ∷ []) later)) ∙ rest.1 ∙ ap (λ s. sum_from s later) (sum_push nothing log b),
+    )
+
+pub whole_is_legal : (log : Log) (base : Sum) (later : Log) → WholeIsLegal log base later
+whole_is_legal log base later legal same f =
+    let all = all_follow later log legal (subst (λ s. FollowAll s later) (sym same) f) in
+    (all.0, all.1 ∙ ap (λ s. sum_from s later) same)

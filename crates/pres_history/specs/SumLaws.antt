@@ -13,9 +13,9 @@ use Rattle.pres_server.specs.LegalLog.{MayFollow, IsLegal}
 use Rattle.pres_server.specs.Heard.{Heard}
 use Rattle.pres_server.specs.Turns.{Decision, turn, log_after}
 use Rattle.pres_server.specs.Parts.{part_of, sent_of, session_with}
-use Rattle.pres_history.specs.Sums.{Sum, part_in, paths_in, sent_by, sum_of}
+use Rattle.pres_history.specs.Sums.{Sum, part_in, paths_in, sent_by, sum_from, sum_of}
 use Rattle.pres_history.specs.SumAnswers.{answers_by}
-use Rattle.pres_history.specs.SumTurns.{FollowsSum, turn_by, sum_after_turn}
+use Rattle.pres_history.specs.SumTurns.{FollowsSum, FollowAll, turn_by, sum_after_turn}
 
 -- the sum says what the entries say
 pub record Says (es : List Entry) (sum : Sum) : Type 0 where
@@ -52,3 +52,9 @@ pub record SameNext (a b : Log) : Type 0 where
 -- the sums stay equal.
 abbrev pub SumsDecide : Log → Log → Type 0
 SumsDecide a b = IsLegal a → IsLegal b → sum_of a ≡ sum_of b → SameNext a b
+
+-- Where a legal log has the sum, and the later batches follow from that sum, the whole is legal, and its sum is the one that they lead to.
+abbrev pub WholeIsLegal : Log → Sum → Log → Type 0
+WholeIsLegal log base later =
+    IsLegal log → sum_of log ≡ base → FollowAll base later →
+    IsLegal (log ++ later) × (sum_of (log ++ later) ≡ sum_from base later)

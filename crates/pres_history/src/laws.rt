@@ -1,7 +1,8 @@
 //! Laws of the sum of a server's log, for crates that hold a sum in the place of a log.
 
 ghost use Rattle.pres_log.specs.Logs.{Log};
-ghost use Rattle.pres_history.specs.SumLaws.{LegalSumSays, SumsDecide};
+ghost use Rattle.pres_history.specs.Sums.{Sum};
+ghost use Rattle.pres_history.specs.SumLaws.{LegalSumSays, SumsDecide, WholeIsLegal};
 
 /// What the sum of a legal log says is what the log says: of each client, session and path. By it
 /// the same batches may follow, each turn makes the same, and a batch answers the same.
@@ -13,4 +14,10 @@ pub fn sums_say()
 /// the same is answered, and the sums stay equal.
 pub fn sums_decide()
     ensures { (a b : Log) → SumsDecide a b }
+{}
+
+/// Where a legal log has a sum, and later batches follow from that sum, the log with these appended
+/// is legal, and its sum is the one that they lead to.
+pub fn whole_is_legal()
+    ensures { (log : Log) (base : Sum) (later : Log) → WholeIsLegal log base later }
 {}
