@@ -18,7 +18,7 @@ use Rattle.pres_log.proofs.Entries.{entries-push}
 use Rattle.pres_server.specs.declared.index.Index.{Index}
 use Rattle.pres_server.specs.declared.input.Input.{Input}
 use Rattle.pres_server.specs.Sessions.{open_sessions}
-use Rattle.pres_server.specs.LegalLog.{MayFollow, IsLegal}
+use Rattle.pres_server.specs.LegalLog.{MayFollow, IsLegal, IsLegalAfter}
 use Rattle.pres_server.specs.Heard.{Heard, State}
 use Rattle.pres_server.specs.Turns.{Decision, makes, quiet, refused, moment_of, wanted, turn, batch_of, log_after}
 use Rattle.pres_server.specs.Parts.{Part, Sound, session_with, wanted_by, limited_by}
@@ -35,7 +35,7 @@ use Rattle.pres_server.proofs.Whole.{of_legal, legal_after, legal_is_sound}
 use Rattle.pres_history.specs.Sums.{Sum, OpenSession, nothing, part_in, paths_in, sum_with, sum_from, sum_of}
 use Rattle.pres_history.specs.SumAnswers.{answers_by}
 use Rattle.pres_history.specs.SumTurns.{FollowsSum, FollowAll, moment_by, turn_by, sum_after_turn}
-use Rattle.pres_history.specs.SumLaws.{Says, SumSays, LegalSumSays, SumsDecide, WholeIsLegal}
+use Rattle.pres_history.specs.SumLaws.{Says, SumSays, LegalSumSays, LegalByTheSum, SumsDecide, WholeIsLegal}
 use Rattle.pres_history.proofs.Keyed.{each}
 use Rattle.pres_history.proofs.Summed.{open_of, IsSumOf, part_is, sent_is, TakenAll, taken}
 
@@ -248,3 +248,13 @@ pub whole_is_legal : (log : Log) (base : Sum) (later : Log) → WholeIsLegal log
 whole_is_legal log base later legal same f =
     let all = all_follow later log legal (subst (λ s. FollowAll s later) (sym same) f) in
     (all.0, all.1 ∙ ap (λ s. sum_from s later) same)
+
+each_follows : (later log : Log) → IsLegal log → IsLegalAfter log later → FollowAll (sum_of log) later
+each_follows [] log legal h = tt
+each_follows (b ∷ later) log legal h = (
+  ((sum_says log legal).follows b).1 h.0,
+  subst (λ s. FollowAll s later) (sum_push nothing log b) (each_follows later (log ++ b ∷ []) (legal_after log b legal h.0) h.1),
+)
+
+pub legal_by_the_sum : (log : Log) → LegalByTheSum log
+legal_by_the_sum log = (λ legal. each_follows log [] tt legal, λ f. (all_follow log [] tt f).0)

@@ -13,7 +13,7 @@ use Rattle.pres_server.specs.LegalLog.{MayFollow, IsLegal}
 use Rattle.pres_server.specs.Heard.{Heard}
 use Rattle.pres_server.specs.Turns.{Decision, turn, log_after}
 use Rattle.pres_server.specs.Parts.{part_of, sent_of, session_with}
-use Rattle.pres_history.specs.Sums.{Sum, part_in, paths_in, sent_by, sum_from, sum_of}
+use Rattle.pres_history.specs.Sums.{Sum, nothing, part_in, paths_in, sent_by, sum_from, sum_of}
 use Rattle.pres_history.specs.SumAnswers.{answers_by}
 use Rattle.pres_history.specs.SumTurns.{FollowsSum, FollowAll, turn_by, sum_after_turn}
 
@@ -40,6 +40,10 @@ pub record SumSays (log : Log) : Type 0 where
 -- The sum of a legal log says what the log says.
 abbrev pub LegalSumSays : Log → Type 0
 LegalSumSays log = IsLegal log → SumSays log
+
+-- A log is legal exactly where its batches follow, one after another, from the empty log's sum.
+abbrev pub LegalByTheSum : Log → Type 0
+LegalByTheSum log = IsLegal log ↔ FollowAll nothing log
 
 -- the same comes next after both logs
 pub record SameNext (a b : Log) : Type 0 where

@@ -2,12 +2,17 @@
 
 ghost use Rattle.pres_log.specs.Logs.{Log};
 ghost use Rattle.pres_history.specs.Sums.{Sum};
-ghost use Rattle.pres_history.specs.SumLaws.{LegalSumSays, SumsDecide, WholeIsLegal};
+ghost use Rattle.pres_history.specs.SumLaws.{LegalSumSays, LegalByTheSum, SumsDecide, WholeIsLegal};
 
 /// What the sum of a legal log says is what the log says: of each client, session and path. By it
 /// the same batches may follow, each turn makes the same, and a batch answers the same.
 pub fn sums_say()
     ensures { (log : Log) → LegalSumSays log }
+{}
+
+/// A log is legal exactly where its batches follow, one after another, from the empty log's sum.
+pub fn legal_by_the_sum()
+    ensures { (log : Log) → LegalByTheSum log }
 {}
 
 /// After two legal logs with equal sums the same batches may follow, the same turns are made and
