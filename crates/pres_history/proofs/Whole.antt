@@ -35,7 +35,7 @@ use Rattle.pres_server.proofs.Whole.{of_legal, legal_after, legal_is_sound}
 use Rattle.pres_history.specs.Sums.{Sum, OpenSession, nothing, part_in, paths_in, sum_with, sum_from, sum_of}
 use Rattle.pres_history.specs.SumAnswers.{answers_by}
 use Rattle.pres_history.specs.SumTurns.{FollowsSum, FollowAll, moment_by, turn_by, sum_after_turn}
-use Rattle.pres_history.specs.SumLaws.{Says, SumSays, LegalSumSays, LegalByTheSum, SumsDecide, WholeIsLegal}
+use Rattle.pres_history.specs.SumLaws.{Says, SumSays, LegalSumSays, LegalByTheSum, SumsDecide, WholeIsLegal, ReachedStays}
 use Rattle.pres_history.proofs.Keyed.{each}
 use Rattle.pres_history.proofs.Summed.{open_of, IsSumOf, part_is, sent_is, TakenAll, taken}
 
@@ -248,6 +248,11 @@ pub whole_is_legal : (log : Log) (base : Sum) (later : Log) → WholeIsLegal log
 whole_is_legal log base later legal same f =
     let all = all_follow later log legal (subst (λ s. FollowAll s later) (sym same) f) in
     (all.0, all.1 ∙ ap (λ s. sum_from s later) same)
+
+pub reached_stays : (base : Sum) (later : Log) → ReachedStays base later
+reached_stays base later r f =
+    let whole = whole_is_legal r.log base later r.legal r.summed f in
+    record { log = r.log ++ later; legal = whole.0; summed = whole.1 }
 
 each_follows : (later log : Log) → IsLegal log → IsLegalAfter log later → FollowAll (sum_of log) later
 each_follows [] log legal h = tt

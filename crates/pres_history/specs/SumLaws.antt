@@ -62,3 +62,13 @@ abbrev pub WholeIsLegal : Log → Sum → Log → Type 0
 WholeIsLegal log base later =
     IsLegal log → sum_of log ≡ base → FollowAll base later →
     IsLegal (log ++ later) × (sum_of (log ++ later) ≡ sum_from base later)
+
+-- some legal log has the sum
+pub record IsReached (sum : Sum) : Type 0 where
+  pub log : Log
+  pub legal : IsLegal log
+  pub summed : sum_of log ≡ sum
+
+-- Batches that follow from a sum that some legal log has lead to a sum that some legal log has.
+abbrev pub ReachedStays : Sum → Log → Type 0
+ReachedStays base later = IsReached base → FollowAll base later → IsReached (sum_from base later)

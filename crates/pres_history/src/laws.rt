@@ -2,7 +2,7 @@
 
 ghost use Rattle.pres_log.specs.Logs.{Log};
 ghost use Rattle.pres_history.specs.Sums.{Sum};
-ghost use Rattle.pres_history.specs.SumLaws.{LegalSumSays, LegalByTheSum, SumsDecide, WholeIsLegal};
+ghost use Rattle.pres_history.specs.SumLaws.{LegalSumSays, LegalByTheSum, SumsDecide, WholeIsLegal, ReachedStays};
 
 /// What the sum of a legal log says is what the log says: of each client, session and path. By it
 /// the same batches may follow, each turn makes the same, and a batch answers the same.
@@ -25,4 +25,9 @@ pub fn sums_decide()
 /// is legal, and its sum is the one that they lead to.
 pub fn whole_is_legal()
     ensures { (log : Log) (base : Sum) (later : Log) → WholeIsLegal log base later }
+{}
+
+/// Batches that follow from a sum that some legal log has lead to a sum that some legal log has.
+pub fn reached_sums_stay_reached()
+    ensures { (base : Sum) (later : Log) → ReachedStays base later }
 {}
