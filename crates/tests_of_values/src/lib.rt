@@ -8,6 +8,8 @@ mod apply;
 #[cfg(test)]
 mod bodies;
 #[cfg(test)]
+mod false_texts;
+#[cfg(test)]
 mod messages;
 #[cfg(test)]
 mod operations;
