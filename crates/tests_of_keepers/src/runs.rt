@@ -31,6 +31,18 @@ const KEPT_BACK: &str = r#"1000 join alice => 1
 1000 say alice {"m":"beat","s":["alice",1,1]} => 1
 1000 lost alice => made 1, no fault"#;
 
+// A seat that saw a greater number than the server's: another session's message is refused before that,
+// and the same message is taken once the server has so many entries.
+const BEHIND: &str = r#"1000 join alice => 1
+1000 join bob => 2
+1000 see alice 3 => 3
+1000 say alice {"m":"beat","s":["bob",1,1]} => the session is not open
+1000 say alice {"m":"op","n":1,"op":{"op":"set","path":"/a","value":1},"q":1,"s":["alice",1,1]} => the server has 2 entries, and the seat was told of 3
+1000 say bob {"m":"op","n":1,"op":{"op":"set","path":"/b","value":1},"q":1,"s":["bob",1,1]} => 3
+1000 say alice {"m":"op","n":1,"op":{"op":"set","path":"/a","value":1},"q":1,"s":["alice",1,1]} => 4
+1000 lost alice => made 2, no fault
+1000 lost bob => made 2, no fault"#;
+
 const SLOW: &str = r#"1000 join bob => 1
 1000 say bob {"m":"left","op":{"op":"set","path":"/b","value":true},"q":1,"s":["bob",1,1]} => 2
 1000 say bob {"m":"on","path":"/a","q":2,"s":["bob",1,1]} => 3
@@ -122,6 +134,14 @@ fn messages_are_kept_back_in_order(rt: HostRuntime) {
     let (told, keeper) = run(&rt, rt.alloc(), MemKeeper::new(rt.alloc()), KEPT_BACK);
     drop(keeper);
     told.expect_counts(&rt, (2, 1, 0, Some(1)));
+}
+
+#[test]
+fn a_seat_ahead_of_the_server_is_refused(rt: HostRuntime) {
+    let (told, keeper) = run(&rt, rt.alloc(), MemKeeper::new(rt.alloc()), BEHIND);
+    drop(keeper);
+    told.expect_counts(&rt, (6, 4, 0, Some(4)));
+    told.expect_tree(&rt, r#"{"a":1,"b":1}"#);
 }
 
 // Who takes nothing is ended in the call that fills the ring, and what was put stays to be taken.

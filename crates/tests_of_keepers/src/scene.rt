@@ -240,6 +240,17 @@ impl<L: Ledger, K: Keeper + Drop> Scene<L, K> {
         text
     }
 
+    // Shows the client's seat the number, as if the server had answered it: the greatest that it saw.
+    fn see(&mut self, rt: &impl Abort, client: &str, number: u64) -> String {
+        let alloc = self.alloc;
+        let Some(place) = self.place(client) else {
+            panic!(rt; "no seat");
+        };
+        let seat = &mut place.seat;
+        seat.see(number.max(seat.seen()));
+        seat.seen().to_string(alloc).expect(rt, "memory")
+    }
+
     fn tick(&mut self, rt: &impl Abort, now: Moment) -> String {
         let answer = self.core.tick(now);
         answer_text(rt, self.alloc, &answer)
@@ -256,6 +267,7 @@ impl<L: Ledger, K: Keeper + Drop> Scene<L, K> {
             "say" => self.say(rt, client, more, now),
             "sets" => self.sets(rt, rest, now),
             "take" => self.take(rt, client, more.parse().expect(rt, "a number")),
+            "see" => self.see(rt, client, more.parse().expect(rt, "a number")),
             "lost" => self.leave(rt, client, now),
             "tick" => self.tick(rt, now),
             _ => panic!(rt; "no such step"),

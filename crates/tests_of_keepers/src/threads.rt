@@ -17,6 +17,7 @@ use std::sync::ledger::{Blank, Ledger};
 use std::sync::{Barrier, Wait};
 use std::thread;
 use std::thread::Threads;
+use std::time::Clock;
 
 // In which order a thread does what it does.
 #[derive(Clone, Copy)]
@@ -455,12 +456,13 @@ fn a_reader_that_takes_nothing_is_ended(rt: HostRuntime) {
     outcome.expect_reads(&rt, READ_LATE);
 }
 
-// Two threads, of which one is held at its first call until the other was answered.
-fn held<R: Threads + Wait + Abort + Sync>(rt: &R, alloc: Global, held: u64) -> Outcome {
+// Two threads, of which one is held at its first call while a call of the other is answered.
+fn held<R: Threads + Wait + Abort + Clock + Sync>(rt: &R, alloc: Global, held: u64) -> Outcome {
     let callers = (writer(1, "alice", 1), writer(2, "bob", 1));
-    two(rt, alloc, Holding::of(held), callers)
+    two(rt, alloc, Holding::of(rt, held), callers)
 }
 
+// The gate fails where the other isn't answered meanwhile.
 #[test]
 fn a_caller_that_is_held_holds_no_other(rt: HostRuntime) {
     for caller in 1..=2 {
