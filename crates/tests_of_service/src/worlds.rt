@@ -1,6 +1,6 @@
-//! Scripts of a world, and what each makes. A script is data, so a new one costs no proof. A told
-//! script has, behind each line, what clients note then and why a call is refused, and at its end how
-//! the world is, each line behind `> `; the packets that come of it are left out.
+//! Scripts of a world, and what each makes. A script is data, so a new one costs no proof. A whole
+//! script has, after each line, what it makes, and at its end how the world is, each line after `> `.
+//! A told script has the same without the packets.
 
 use pres_sim::sim_run;
 use std::alloc::Global;
@@ -129,6 +129,11 @@ const BAD: &[(&str, &str)] = &[
     ("clients a b a", "bad line 1\nstatus 1\n"),
     ("clients a.b", "bad line 1\nstatus 1\n"),
     ("clients a\nup 1", "bad line 2\nstatus 1\n"),
+    ("clients a\nup 1 -5", "bad line 2\nstatus 1\n"),
+    (
+        "clients a\ntick 18446744073709551616",
+        "bad line 2\nstatus 1\n",
+    ),
     ("clients a\ncall a", "bad line 2\nstatus 1\n"),
     ("clients a\ncall a wait 1", "bad line 2\nstatus 1\n"),
     ("clients a\nnosuch 1", "bad line 2\nstatus 1\n"),
@@ -147,8 +152,8 @@ const BAD: &[(&str, &str)] = &[
     ),
 ];
 
-// Writes that are made before a session is open go out at its Welcome, and a goodbye carries out
-// what was left for the end.
+// Writes that are made before a session is open go out at its Welcome. A goodbye ends the session, and
+// the client passes its Gone over.
 const BEFORE_ONLINE: &str = r#"clients alice
 call alice set /a 1
 call alice set /a 2
@@ -157,24 +162,50 @@ call alice od-set /a 3
 call alice od-cancel /a
 > refused 2
 call alice online
+> up 1 {"m":"hello","s":["alice",1,1]}
+up 1 1000
+> down 1 {"m":"welcome","ops":0,"s":["alice",1,1],"z":1}
+down 1
+> up 2 {"m":"op","n":1,"op":{"op":"set","path":"/a","value":1},"q":1,"s":["alice",1,1]}
+> up 3 {"m":"op","n":2,"op":{"op":"set","path":"/a","value":2},"q":2,"s":["alice",1,1]}
+> note alice connected true
+up 2 1000
+> down 2 {"done":2,"m":"reply","n":1,"out":"wrote","q":1,"r":1,"s":["alice",1,1],"z":2}
+up 3 1000
+> down 3 {"done":3,"m":"reply","n":2,"out":"wrote","q":2,"r":2,"s":["alice",1,1],"z":3}
+down 2
+> note alice done 1 2
+down 3
+> note alice done 2 3
+call alice offline
+> up 4 {"m":"bye","q":3,"s":["alice",1,1]}
+> note alice connected false
+up 4 1000
+> down 4 {"m":"gone","r":3,"s":["alice",1,1],"why":"bye","z":4}
+down 4
+> number 4
+> tree {"a":2}
+> status 0"#;
+
+// A goodbye carries out what was left for the end.
+const LEFT: &str = r#"clients alice
+call alice online
 up 1 1000
 down 1
 > note alice connected true
+call alice set /a 1
+call alice od-set /a 3
 up 2 1000
 up 3 1000
 down 2
 > note alice done 1 2
 down 3
-> note alice done 2 3
-call alice od-set /a 3
-up 4 1000
-down 4
-> note alice armed 3
+> note alice armed 2
 call alice offline
 > note alice connected false
-up 5 1000
-down 5
-> number 5
+up 4 1000
+down 4
+> number 4
 > tree {"a":3}
 > status 0"#;
 
@@ -269,6 +300,39 @@ down 2
 > tree null
 > status 0"#;
 
+// A client that starts again opens the first session of its next incarnation. The Welcome of its old
+// session arrives again, before the new one is open and after that, and a Hello of the old incarnation
+// arrives late.
+const OLD_STAMPS: &str = r#"clients alice
+call alice online
+> up 1 {"m":"hello","s":["alice",1,1]}
+up 1 1000
+> down 1 {"m":"welcome","ops":0,"s":["alice",1,1],"z":1}
+down 1
+> note alice connected true
+up 1 1000
+> down 2 {"code":2,"last":[1,1],"m":"fault","s":["alice",1,1]}
+call alice lost
+> note alice connected false
+call alice online
+> up 2 {"m":"hello","s":["alice",1,2]}
+restart-client alice
+call alice online
+> up 3 {"m":"hello","s":["alice",2,1]}
+down 1
+up 3 1000
+> down 3 {"m":"gone","r":1,"s":["alice",1,1],"why":"superseded","z":2}
+> down 4 {"m":"welcome","ops":0,"s":["alice",2,1],"z":3}
+down 1
+down 4
+> note alice connected true
+down 1
+up 2 1000
+> down 5 {"code":2,"last":[2,1],"m":"fault","s":["alice",1,2]}
+> number 3
+> tree null
+> status 0"#;
+
 // A path that is listened to again shows the value of its new Snap, and what comes after it.
 const AGAIN: &str = r#"clients bob
 call bob online
@@ -297,36 +361,94 @@ down 6
 > view bob /a 5 1
 > status 0"#;
 
-// What a client shows of a path stays over the end of its session.
-const VIEW_STAYS: &str = r#"clients alice bob
+// What a client shows of a path stays over the end of its session, until the next one shows it anew;
+// once it doesn't listen any more it shows nothing. Each part goes on from those before it, and ends
+// with how the world is then.
+const ACROSS_A_LOSS: &[(&str, &str)] = &[
+    (
+        r#"clients alice bob
 call alice online
+> up 1 {"m":"hello","s":["alice",1,1]}
 up 1 1000
+> down 1 {"m":"welcome","ops":0,"s":["alice",1,1],"z":1}
 down 1
 > note alice connected true
 call bob online
+> up 2 {"m":"hello","s":["bob",1,1]}
 up 2 1000
+> down 2 {"m":"welcome","ops":0,"s":["bob",1,1],"z":2}
 down 2
 > note bob connected true
 call bob listen /a
+> up 3 {"m":"on","path":"/a","q":1,"s":["bob",1,1]}
 up 3 1000
+> down 3 {"m":"snap","path":"/a","q":1,"r":1,"s":["bob",1,1],"value":null,"z":3}
 down 3
 > note bob value /a 3 null
 call alice set /a 1
+> up 4 {"m":"op","n":1,"op":{"op":"set","path":"/a","value":1},"q":1,"s":["alice",1,1]}
 up 4 1000
+> down 4 {"m":"push","r":2,"s":["bob",1,1],"values":[["/a",1]],"z":4}
+> down 5 {"done":4,"m":"reply","n":1,"out":"wrote","q":1,"r":1,"s":["alice",1,1],"z":4}
 down 4
 > note bob value /a 4 1
-drop bob 1000
+"#,
+        r#"> number 4
+> tree {"a":1}
+> view bob /a 4 1
+> status 0"#,
+    ),
+    (
+        r#"drop bob 1000
+> down 6 {"m":"gone","r":3,"s":["bob",1,1],"why":"lost","z":5}
 call bob lost
 > note bob connected false
 call alice set /a 2
+> up 5 {"m":"op","n":2,"op":{"op":"set","path":"/a","value":2},"q":2,"s":["alice",1,1]}
 up 5 1000
-> number 6
+> down 7 {"done":6,"m":"reply","n":2,"out":"wrote","q":2,"r":2,"s":["alice",1,1],"z":6}
+"#,
+        r#"> number 6
 > tree {"a":2}
 > view bob /a 4 1
-> status 0"#;
+> status 0"#,
+    ),
+    (
+        r#"call bob online
+> up 6 {"m":"hello","s":["bob",1,2]}
+up 6 1000
+> down 8 {"m":"welcome","ops":0,"s":["bob",1,2],"z":7}
+down 8
+> up 7 {"m":"on","path":"/a","q":1,"s":["bob",1,2]}
+> note bob connected true
+"#,
+        r#"> number 7
+> tree {"a":2}
+> view bob /a 4 1
+> status 0"#,
+    ),
+    (
+        r#"up 7 1000
+> down 9 {"m":"snap","path":"/a","q":1,"r":1,"s":["bob",1,2],"value":2,"z":8}
+down 9
+> note bob value /a 8 2
+"#,
+        r#"> number 8
+> tree {"a":2}
+> view bob /a 8 2
+> status 0"#,
+    ),
+    (
+        r#"call bob unlisten /a
+> up 8 {"m":"off","path":"/a","q":2,"s":["bob",1,2]}
+"#,
+        r#"> number 8
+> tree {"a":2}
+> status 0"#,
+    ),
+];
 
-// The next session shows it anew, what was put for the one before is passed over, and a path that
-// isn't listened to any more shows nothing.
+// What was put for a session arrives late, and the next one passes it over.
 const VIEW_ANEW: &str = r#"clients alice bob
 call alice online
 up 1 1000
@@ -357,42 +479,83 @@ call bob unlisten /a
 > tree {"a":2}
 > status 0"#;
 
-// Of two transactions that race the later one asks again.
+// Of two transactions that race the later one asks again. Both clients listen, so that each gets the
+// written value before the answer to its own try.
 const RACE: &str = r#"clients alice bob
 call alice online
+> up 1 {"m":"hello","s":["alice",1,1]}
 up 1 1000
+> down 1 {"m":"welcome","ops":0,"s":["alice",1,1],"z":1}
 down 1
 > note alice connected true
 call bob online
+> up 2 {"m":"hello","s":["bob",1,1]}
 up 2 1000
+> down 2 {"m":"welcome","ops":0,"s":["bob",1,1],"z":2}
 down 2
 > note bob connected true
-call alice transact /n
-> note alice ask 1 1 null
-call bob transact /n
-> note bob ask 1 1 null
-call alice answer 1 1
-call bob answer 1 1
+call alice set /n 0
+> up 3 {"m":"op","n":1,"op":{"op":"set","path":"/n","value":0},"q":1,"s":["alice",1,1]}
 up 3 1000
-up 4 1000
+> down 3 {"done":3,"m":"reply","n":1,"out":"wrote","q":1,"r":1,"s":["alice",1,1],"z":3}
 down 3
 > note alice done 1 3
+call alice listen /n
+> up 4 {"m":"on","path":"/n","q":2,"s":["alice",1,1]}
+up 4 1000
+> down 4 {"m":"snap","path":"/n","q":2,"r":2,"s":["alice",1,1],"value":0,"z":4}
 down 4
-> note bob ask 1 2 1
-call bob answer 1 2
+> note alice value /n 4 0
+call bob listen /n
+> up 5 {"m":"on","path":"/n","q":1,"s":["bob",1,1]}
 up 5 1000
+> down 5 {"m":"snap","path":"/n","q":1,"r":1,"s":["bob",1,1],"value":0,"z":5}
 down 5
-> note bob done 1 5
+> note bob value /n 5 0
+call alice transact /n
+> note alice ask 3 1 0
+call bob transact /n
+> note bob ask 2 1 0
+call alice answer 3 1
+> up 6 {"m":"op","n":2,"op":{"expect":0,"op":"tx","path":"/n","value":1},"q":3,"s":["alice",1,1]}
+call bob answer 2 1
+> up 7 {"m":"op","n":1,"op":{"expect":0,"op":"tx","path":"/n","value":1},"q":2,"s":["bob",1,1]}
+up 6 1000
+> down 6 {"m":"push","r":3,"s":["alice",1,1],"values":[["/n",1]],"z":6}
+> down 7 {"m":"push","r":2,"s":["bob",1,1],"values":[["/n",1]],"z":6}
+> down 8 {"done":6,"m":"reply","n":2,"out":"wrote","q":3,"r":4,"s":["alice",1,1],"z":6}
+up 7 1000
+> down 9 {"done":7,"m":"reply","n":1,"out":{"stale":1},"q":2,"r":3,"s":["bob",1,1],"z":7}
+down 6
+> note alice value /n 6 1
+down 8
+> note alice done 3 6
+down 7
+> note bob value /n 6 1
+down 9
+> note bob ask 2 2 1
+call bob answer 2 2
+> up 8 {"m":"op","n":2,"op":{"expect":1,"op":"tx","path":"/n","value":2},"q":3,"s":["bob",1,1]}
+up 8 1000
+> down 10 {"m":"push","r":5,"s":["alice",1,1],"values":[["/n",2]],"z":8}
+> down 11 {"m":"push","r":4,"s":["bob",1,1],"values":[["/n",2]],"z":8}
+> down 12 {"done":8,"m":"reply","n":2,"out":"wrote","q":3,"r":5,"s":["bob",1,1],"z":8}
+down 11
+> note bob value /n 8 2
+down 12
+> note bob done 2 8
+call alice transact /n
+> note alice ask 4 1 1
+call alice abort 4
+> note alice aborted 4
+call alice answer 4 1
+> refused 3
 call alice answer 99 1
 > refused 3
-call alice transact /n
-> note alice ask 2 1 null
-call alice abort 2
-> note alice aborted 2
-call alice answer 2 1
-> refused 3
-> number 5
+> number 8
 > tree {"n":2}
+> view alice /n 6 1
+> view bob /n 8 2
 > status 0"#;
 
 // Updates are written all or none, now and at the end of a session.
@@ -530,6 +693,23 @@ fn without_packets(rt: &impl Abort, alloc: Global, made: &str) -> String {
     lines
 }
 
+// The whole script has to make what it says.
+fn check_whole(rt: &impl Abort, alloc: Global, script: &str) {
+    let made = made(rt, alloc, lines_of(rt, alloc, script, false).as_str());
+    let wanted = lines_of(rt, alloc, script, true);
+    assert_eq!(rt; made.as_str(), wanted.as_str(), "{script}");
+}
+
+// The whole script of these parts has to make what it says, up to the end of each part.
+fn check_parts(rt: &impl Abort, alloc: Global, parts: &[(&str, &str)]) {
+    let mut script = String::new(alloc);
+    for (part, end) in parts {
+        script.push_str(part).expect(rt, "memory");
+        let ended = format!(in alloc; "{script}{end}").expect(rt, "memory");
+        check_whole(rt, alloc, ended.as_str());
+    }
+}
+
 // The script has to make what it tells.
 fn check_told(rt: &impl Abort, alloc: Global, script: &str) {
     let made = made(rt, alloc, lines_of(rt, alloc, script, false).as_str());
@@ -541,17 +721,28 @@ fn check_told(rt: &impl Abort, alloc: Global, script: &str) {
 #[test]
 fn clients_and_a_server_get_on(rt: HostRuntime) {
     let alloc = rt.alloc();
-    check_told(&rt, alloc, BEFORE_ONLINE);
+    check_told(&rt, alloc, LEFT);
     check_told(&rt, alloc, RESTARTED);
     check_told(&rt, alloc, LOST_ANSWER);
     check_told(&rt, alloc, LATE);
     check_told(&rt, alloc, OLD);
     check_told(&rt, alloc, AGAIN);
-    check_told(&rt, alloc, VIEW_STAYS);
     check_told(&rt, alloc, VIEW_ANEW);
-    check_told(&rt, alloc, RACE);
     check_told(&rt, alloc, UPDATES);
     check_told(&rt, alloc, IN_ORDER);
+}
+
+#[test]
+fn sessions_come_and_go(rt: HostRuntime) {
+    let alloc = rt.alloc();
+    check_whole(&rt, alloc, BEFORE_ONLINE);
+    check_whole(&rt, alloc, OLD_STAMPS);
+    check_parts(&rt, alloc, ACROSS_A_LOSS);
+}
+
+#[test]
+fn the_later_of_two_transactions_asks_again(rt: HostRuntime) {
+    check_whole(&rt, rt.alloc(), RACE);
 }
 
 #[test]
