@@ -25,7 +25,7 @@ const FEW: usize = 32;
 
 /// Values under keys, in key order. Contracts see them as they see an ordered map: by their
 /// entries.
-pub(crate) struct Children<V> {
+pub struct Children<V> {
     store: Store<V>,
 }
 
@@ -259,7 +259,7 @@ impl<V> Children<V> {
     ghost use Rattle.pres_tree.specs.Lends.{children_lend};
 
     /// None.
-    pub(crate) fn new(alloc: Global) -> Children<V>
+    pub fn new(alloc: Global) -> Children<V>
         ensures empty { IsEmpty result }
         ensures ordered { IsOrdered key_cmp result }
     {
@@ -269,7 +269,7 @@ impl<V> Children<V> {
     }
 
     /// Whether there are none.
-    pub(crate) fn is_empty(&self) -> bool
+    pub fn is_empty(&self) -> bool
         ensures none { IsTrue result ↔ (btree_map_len self.now ≡ 0) }
         ensures ordered { IsOrdered key_cmp self.now }
     {
@@ -280,7 +280,7 @@ impl<V> Children<V> {
     }
 
     /// The value under the key.
-    pub(crate) fn get(&self, key: &Key) -> Option<&V>
+    pub fn get(&self, key: &Key) -> Option<&V>
         ensures value { option_copied result ≡ get_by (key_cmp key.now) self.now }
         ensures member { IfSome result (λ v. IsAmong (values self.now) v.now) }
         ensures ordered { IsOrdered key_cmp self.now }
@@ -295,7 +295,7 @@ impl<V> Children<V> {
     }
 
     /// The value under the key, for writing.
-    pub(crate) fn get_mut(&mut self, key: &Key) -> Option<&mut V>
+    pub fn get_mut(&mut self, key: &Key) -> Option<&mut V>
         ensures* writes_back { sem 𝓛 (children_lend V.row self.entry key.now result) }
         ensures value { option_copied_mut result ≡ get_by (key_cmp key.now) self.old }
         ensures member { IfSome result (λ v. IsAmong (values self.old) v.now) }
@@ -308,12 +308,7 @@ impl<V> Children<V> {
 impl<V: Drop> Children<V> {
     /// Puts the value under the key, and answers the one that was there. At a refused allocation
     /// they are as they were.
-    pub(crate) fn insert(
-        &mut self,
-        alloc: Global,
-        key: Key,
-        value: V,
-    ) -> Result<Option<V>, AllocError>
+    pub fn insert(&mut self, alloc: Global, key: Key, value: V) -> Result<Option<V>, AllocError>
         ensures old { IfOk result (λ old. old ≡ get key_cmp self.old key) }
         ensures updates { OnOk result (Updates key_cmp self.old self.new key (Some value)) }
         ensures entries { OnOk result (self.new.entries ≡ insert_entry key_cmp self.old.entries key value) }
@@ -325,7 +320,7 @@ impl<V: Drop> Children<V> {
     }
 
     /// Takes away the value under the key, and answers it. It takes no memory.
-    pub(crate) fn remove(&mut self, key: &Key) -> Option<V>
+    pub fn remove(&mut self, key: &Key) -> Option<V>
         ensures value { result ≡ get_by (key_cmp key.now) self.old }
         ensures updates { UpdatesBy key_cmp (key_cmp key.now) self.old self.new None }
         ensures entries { self.new.entries ≡ remove_entry (is_at (key_cmp key.now)) self.old.entries }
@@ -335,7 +330,7 @@ impl<V: Drop> Children<V> {
     }
 
     /// Takes the last entry. It takes no memory.
-    pub(crate) fn pop_last(&mut self) -> Option<(Key, V)>
+    pub fn pop_last(&mut self) -> Option<(Key, V)>
         ensures entries { MatchOption result
             (self.old.entries ≡ [])
             (λ e. self.old.entries ≡ self.new.entries ++ e ∷ []) }
@@ -346,7 +341,7 @@ impl<V: Drop> Children<V> {
 
 /// The entries that are left, in order.
 #[derive(Drop)]
-pub(crate) struct Iter<'a, V> {
+pub struct Iter<'a, V> {
     rest: Rest<'a, V>,
 }
 
@@ -369,7 +364,7 @@ impl<'a, V> Model for Iter<'a, V> {
 
 impl<V> Children<V> {
     /// The entries, in order.
-    pub(crate) fn iter(&self) -> Iter<'_, V>
+    pub fn iter(&self) -> Iter<'_, V>
         ensures rest { result ≡ self.now.entries }
         ensures ordered { IsOrdered key_cmp self.now }
     {

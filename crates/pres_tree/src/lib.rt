@@ -5,7 +5,7 @@
 #![tactic(auto)]
 
 mod as_json;
-mod children;
+pub mod children;
 mod equal;
 mod fault;
 mod key;
@@ -18,6 +18,7 @@ mod scalar;
 mod text;
 
 pub use as_json::{OfTree, TreeJson};
+pub use children::Children;
 pub use fault::TreeFault;
 pub use key::Key;
 pub use nested::{Change, Leaf, Nested};

@@ -101,7 +101,8 @@ impl Path {
         Ok(name)
     }
 
-    pub(crate) fn keys(&self) -> &[Key]
+    /// Its keys, from the root on.
+    pub fn keys(&self) -> &[Key]
         ensures keys { result.now ≡ self.now }
         ensures path { IsPath self.now }
     {
