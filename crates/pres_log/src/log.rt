@@ -1,6 +1,6 @@
 //! The log of a server.
 
-ghost use Rattle.std.specs.Prelude.{◌≡◌, ◌↔◌, ◌+◌, ◌<◌, ◌≤◌, ◌++◌, ◌∷◌, [], ℕ, IsTrue, OnOk, OnErr, IfErr, Some, length, nat_le, slice_get};
+ghost use Rattle.std.specs.Prelude.{◌≡◌, ◌↔◌, ◌+◌, ◌<◌, ◌≤◌, ◌++◌, ◌∷◌, [], ℕ, IsTrue, OnOk, OnErr, IfErr, MatchOption, Some, length, nat_le, slice_get};
 ghost use Rattle.std.specs.Option.{option_copied};
 ghost use Rattle.pres_log.specs.Logs.{number, entry_at, batch_at, IsNumbered};
 ghost use Rattle.pres_log.specs.declared.entry.Batch.{Batch};
@@ -55,6 +55,15 @@ impl Log {
     {
         self.batches.push(batch)?;
         Ok(())
+    }
+
+    /// Takes the last batch away, where there is one. It takes no memory.
+    pub fn pop(&mut self) -> Option<Batch>
+        ensures { MatchOption result
+            ((self.old ≡ []) × (self.new ≡ []))
+            (λ batch. self.old ≡ self.new ++ batch ∷ []) }
+    {
+        self.batches.pop()
     }
 
     /// How many entries it has: the number of the last one.
