@@ -25,3 +25,7 @@ pub mod Anew
 pub mod Replayed
 pub mod Views
 pub mod LastingOns
+pub mod Rewritten
+pub mod Stands
+pub mod Alike
+pub mod Superseded

@@ -40,6 +40,6 @@ pub legal_further : (bs : List Batch) (i : ℕ) (b : Batch) → i < length bs �
 legal_further bs i b h e legal f = subst IsLegal (sym (one_further bs i b h e)) (legal_after (take i bs) b legal f)
 
 -- a batch that isn't added is the first that may not follow
-pub not_added : (bs : List Batch) (i : ℕ) (b : Batch) (new : Log) (fault : ReplayFault) → i < length bs → b ≡ get_or bs i b → IsLegal (take i bs) → IsNotAdded (take i bs) b new fault → IsNoLog bs fault
-not_added bs i b new Memory h e legal r = tt
-not_added bs i b new (NotLegal k) h e legal r = record { before = take i bs; batch = b; later = drop (suc i) bs; parts = begun bs i b h e; number = r.1; legal = legal; refused = r.0 }
+pub not_added : (bs : List Batch) (i : ℕ) (b : Batch) (fault : ReplayFault) → i < length bs → b ≡ get_or bs i b → IsLegal (take i bs) → IsNotAdded (take i bs) b fault → IsNoLog bs fault
+not_added bs i b Memory h e legal r = tt
+not_added bs i b (NotLegal k) h e legal r = record { before = take i bs; batch = b; later = drop (suc i) bs; parts = begun bs i b h e; number = r.1; legal = legal; refused = r.0 }

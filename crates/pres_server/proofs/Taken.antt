@@ -271,7 +271,7 @@ paths_step s (entry.Off t q path) paths = cond (same_session s t) (filter (λ p.
 paths_step s (entry.Ended t q why rows) paths = cond (same_session s t) [] paths
 paths_step s _ paths = paths
 
-paths_stepped : (s : SessionId) (e : Entry) (listeners : List Listener) → IsListeners listeners → paths_of s (listeners_after e listeners) ≡ paths_step s e (paths_of s listeners)
+pub paths_stepped : (s : SessionId) (e : Entry) (listeners : List Listener) → IsListeners listeners → paths_of s (listeners_after e listeners) ≡ paths_step s e (paths_of s listeners)
 paths_stepped s (entry.Open t) listeners held = refl
 paths_stepped s (entry.Op t q n op outcome) listeners held = refl
 paths_stepped s (entry.Again t q n) listeners held = refl
@@ -354,7 +354,7 @@ paths_ended s es t q why rows = by (same_session s t) refl where
   by true k = sym (ap (λ b. cond b (listened s (es ++ e ∷ [])) []) (closes k))
   by false k = other k (is_open s es) refl ∙ ap (λ b. cond b (listened s (es ++ e ∷ [])) []) (sym (is_open-same s es e refl k))
 
-paths_after : (s : SessionId) (es : List Entry) (m : ℕ) (e : Entry) → Sound es → MayComeUncounted es m e
+pub paths_after : (s : SessionId) (es : List Entry) (m : ℕ) (e : Entry) → Sound es → MayComeUncounted es m e
     → paths_step s e (cond (is_open s es) (listened s es) []) ≡ cond (is_open s (es ++ e ∷ [])) (listened s (es ++ e ∷ [])) []
 paths_after s es m (entry.Open t) sound f = paths_opened s es t sound f.0
 paths_after s es m (entry.Op t q n op outcome) sound f = paths_said s es (entry.Op t q n op outcome) (λ _. refl) (λ _. refl) (same_step s (entry.Op t q n op outcome) (λ _. refl)) f.0.0
@@ -370,7 +370,7 @@ paths_after s es m (entry.Ended t q why rows) sound f = paths_ended s es t q why
 filter_few : {A : Type 0} (p : A → Bool) (xs : List A) (n : ℕ) → length xs ≤ n → length (filter p xs) ≤ n
 filter_few p xs n h = let k = filter_small p xs in omega arith
 
-held_after : (index : Index) (e : Entry) → IsListeners index.listeners → MayTake index e → IsListeners (listeners_after e index.listeners)
+pub held_after : (index : Index) (e : Entry) → IsListeners index.listeners → MayTake index e → IsListeners (listeners_after e index.listeners)
 held_after index (entry.Open s) held may = held
 held_after index (entry.Op s q n op outcome) held may = held
 held_after index (entry.Again s q n) held may = held

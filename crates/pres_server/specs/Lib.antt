@@ -12,6 +12,7 @@ pub mod Pushes
 pub mod Index
 pub mod Invariants
 pub mod Follows
+pub mod Growth
 pub mod Replays
 pub mod Faults
 pub mod Laws

@@ -16,10 +16,10 @@ heard_anew log = map (λ e. (e.0, last_moment log)) (open_entries (entries log))
 abbrev pub made_from : Log → State
 made_from log = record { log = log; heard = heard_anew log }
 
--- why a batch isn't added to a log, and the log then: at want of memory it begins anew
-abbrev pub IsNotAdded : Log → Batch → Log → ReplayFault → Type 0
-IsNotAdded old batch new Memory = new ≡ []
-IsNotAdded old batch new (NotLegal k) = ¬ (MayFollow old batch) × (k ≡ length old + 1) × (new ≡ old)
+-- why a batch isn't added to a log
+abbrev pub IsNotAdded : Log → Batch → ReplayFault → Type 0
+IsNotAdded log batch Memory = Unit {0}
+IsNotAdded log batch (NotLegal k) = ¬ (MayFollow log batch) × (k ≡ length log + 1)
 
 -- batch number k is the first that may not follow those before it
 pub record IsFirstIllegal (batches : List Batch) (k : ℕ) : Type 0 where

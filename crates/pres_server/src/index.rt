@@ -1,6 +1,6 @@
 //! What the log says of each client and of the tree, kept as the log grows.
 
-ghost use Rattle.std.specs.Prelude.{◌≡◌, ◌+◌, ◌++◌, ◌∷◌, [], ℕ, List, Option, length, IfOk};
+ghost use Rattle.std.specs.Prelude.{◌≡◌, ◌+◌, ◌++◌, ◌∷◌, [], ℕ, List, Option, length, IfOk, OnErr};
 ghost use Rattle.std.specs.BTreeMap.{IsOrdered};
 ghost use Rattle.pres_write.specs.Outcomes.{kept_of};
 ghost use Rattle.pres_fan.specs.Listeners.{touched};
@@ -133,7 +133,7 @@ impl Index {
     }
 
     // Keeps the answer to the client's next write.
-    fn keep(
+    pub(crate) fn keep(
         &mut self,
         alloc: Global,
         client: &ClientId,
@@ -142,8 +142,9 @@ impl Index {
         outcome: &Outcome,
     ) -> Result<(), Reopen>
         requires { n ≡ length (rows_of client.now self.old.retry) + 1 }
-        ensures { IfOk result (λ _. self.new ≡ record self.old
+        ensures kept { IfOk result (λ _. self.new ≡ record self.old
             { retry = recorded client.now n (row done (kept_of outcome.now)) self.old.retry }) }
+        ensures unchanged { OnErr result (self.new ≡ self.old) }
     {
         let client = client.copy(alloc)?;
         let kept = outcome.kept(alloc)?;

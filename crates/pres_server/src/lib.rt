@@ -3,6 +3,7 @@
 #![tactic(auto)]
 
 mod follow;
+mod grow;
 mod index;
 mod input;
 pub mod laws;

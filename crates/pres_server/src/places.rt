@@ -1,8 +1,8 @@
 //! Where each client stands.
 
-ghost use Rattle.std.specs.Prelude.{◌≡◌, ◌+◌, nat_lt, [], map, IfSome, OnOk, IfOk, IsSome, Some, None, option_map, option_copied};
-ghost use Rattle.std.specs.BTreeMap.{get, Updates, IsOrdered};
-ghost use Rattle.pres_ids.specs.Ids.{client_cmp, stamp_of};
+ghost use Rattle.std.specs.Prelude.{◌≡◌, ◌+◌, nat_lt, [], map, IfSome, OnOk, OnErr, IfOk, IsSome, false, Some, None, option_map, option_copied};
+ghost use Rattle.std.specs.BTreeMap.{get, Updates, IsOrdered, IsUnchanged};
+ghost use Rattle.pres_ids.specs.Ids.{ClientId, client_cmp, same_client, stamp_of};
 ghost use Rattle.pres_server.specs.Places.{began, next_number, last_stamp, open_count, MayOpen, MayLeave, MayLeaveAt, AreDueAt, HasRoom, MaySend, sent_one, answered, answered_at, live_after, heard_at, heard_only, heard_of_all};
 ghost use Rattle.pres_server.specs.Heard.{lease, first_client, late_client};
 ghost use Rattle.pres_log.specs.declared.entry.Entry.TheVariants as entry;
@@ -15,6 +15,7 @@ use pres_wire::{ClientId, Number, SessionId, Stamp, Why};
 use pres_write::{Basic, Moment, Puts};
 use std::alloc::{AllocError, Global};
 use std::collections::BTreeMap;
+use std::mem::replace;
 
 // How long a client may be silent, in milliseconds.
 const LEASE: u64 = 60_000;
@@ -67,6 +68,7 @@ fn leave_in(
     ensures number { IfOk result (λ r. Some r ≡ next_number (Some live.old)) }
     ensures session { OnOk result
         (Some live.new ≡ live_after moment (entry.Left session.now q puts) (Some live.old)) }
+    ensures unchanged { OnErr result (live.new ≡ live.old) }
 {
     match live.plan_mut().update(alloc, q, puts) {
         Ok(()) => Ok(answer_in(live, moment)),
@@ -90,6 +92,7 @@ fn cancel_in(
     ensures session { OnOk result
         (Some live.new ≡ live_after moment (entry.Cancelled session.now q path.now)
         (Some live.old)) }
+    ensures unchanged { OnErr result (live.new ≡ live.old) }
 {
     match live.plan_mut().cancel(alloc, q, path) {
         Ok(()) => Ok(answer_in(live, moment)),
@@ -131,12 +134,13 @@ impl Places {
         ensures live { OnOk result
             (Updates client_cmp self.old.live self.new.live client (Some live)) }
         ensures gone { self.new.gone ≡ self.old.gone }
+        ensures unchanged { OnErr result (IsUnchanged self.old.live self.new.live) }
     {
         drop(self.live.insert(client, live)?);
         Ok(())
     }
 
-    /// Opens a session of a client that has none open.
+    /// Opens a session of a client that has none open. Where memory is refused nothing is changed.
     pub(crate) fn open(
         &mut self,
         alloc: Global,
@@ -148,17 +152,45 @@ impl Places {
             session.now.client (Some (began (stamp_of session.now) moment))) }
         ensures gone { OnOk result (Updates client_cmp self.old.gone self.new.gone
             session.now.client None) }
+        ensures unchanged { OnErr result (IsUnchanged self.old.live self.new.live
+            × (self.new.gone ≡ self.old.gone)) }
     {
-        let stamp = session.stamp();
-        let Some((client, gone)) = take(&mut self.gone, &session.client) else {
-            let client = session.client.copy(alloc)?;
-            let live = first(stamp, moment, Plan::new(alloc));
-            return self.begin(client, live);
-        };
-        let Ok(live) = gone.open(stamp, moment, Plan::new(alloc)) else {
+        let client = session.client.copy(alloc)?;
+        self.begin(client, first(session.stamp(), moment, Plan::new(alloc)))?;
+        drop(take(&mut self.gone, &session.client));
+        Ok(())
+    }
+
+    /// A newer session of the client takes the place of its open one. It takes no memory.
+    pub(crate) fn supersede(&mut self, alloc: Global, session: &SessionId, moment: Moment)
+        requires { IsSome (get client_cmp self.old.live session.now.client) }
+        ensures live { Updates client_cmp self.old.live self.new.live session.now.client
+            (Some (began (stamp_of session.now) moment)) }
+        ensures gone { self.new.gone ≡ self.old.gone }
+    {
+        let Some(live) = self.live.get_mut(&session.client) else {
             unreachable!()
         };
-        self.begin(client, live)
+        drop(replace(live, first(session.stamp(), moment, Plan::new(alloc))));
+    }
+
+    /// Makes room for the last stamp of a client that has a session open, so that its end takes no
+    /// memory.
+    pub(crate) fn make_room(&mut self, alloc: Global, client: &ClientId) -> Result<(), AllocError>
+        requires { IsSome (get client_cmp self.old.live client.now) }
+        ensures live { self.new.live ≡ self.old.live }
+        ensures room { OnOk result (IsSome (get client_cmp self.new.gone client.now)) }
+        ensures others { (other : ClientId) → same_client client.now other ≡ false
+            → get client_cmp self.new.gone other ≡ get client_cmp self.old.gone other }
+    {
+        let Some(live) = self.live.get(client) else {
+            unreachable!()
+        };
+        // a session with the stamp that leaves nothing, so that nothing is due
+        let blank = first(live.stamp(), live.heard(), Plan::new(alloc));
+        let gone = blank.end(Why::Superseded).spend(&[]);
+        drop(self.gone.insert(client.copy(alloc)?, gone)?);
+        Ok(())
     }
 
     /// Counts a message of the client's open session, which was accepted at the moment, and its
@@ -212,6 +244,8 @@ impl Places {
             session.now.client (live_after moment (entry.Left session.now q puts)
             (get client_cmp self.old.live session.now.client))) }
         ensures gone { self.new.gone ≡ self.old.gone }
+        ensures unchanged { OnErr result (Updates client_cmp self.old.live self.new.live
+            session.now.client (get client_cmp self.old.live session.now.client)) }
     {
         let Some(live) = self.live.get_mut(&session.client) else {
             unreachable!()
@@ -238,6 +272,8 @@ impl Places {
             session.now.client (live_after moment (entry.Cancelled session.now q path.now)
             (get client_cmp self.old.live session.now.client))) }
         ensures gone { self.new.gone ≡ self.old.gone }
+        ensures unchanged { OnErr result (Updates client_cmp self.old.live self.new.live
+            session.now.client (get client_cmp self.old.live session.now.client)) }
     {
         let Some(live) = self.live.get_mut(&session.client) else {
             unreachable!()
@@ -246,6 +282,7 @@ impl Places {
     }
 
     /// Ends the client's open session, whose due writes these are: the number of its last message.
+    /// Memory is refused only where there is no room for the client's last stamp.
     pub(crate) fn end(
         &mut self,
         client: &ClientId,
@@ -260,6 +297,7 @@ impl Places {
         ensures gone { OnOk result (Updates client_cmp self.old.gone self.new.gone client.now
             (last_stamp (get client_cmp self.old.live client.now)
             (get client_cmp self.old.gone client.now))) }
+        ensures refused { OnErr result (get client_cmp self.old.gone client.now ≡ None) }
     {
         let Some((client, mut live)) = take(&mut self.live, client) else {
             unreachable!()

@@ -89,3 +89,15 @@ pub(crate) fn push_all(
     }
     Ok(())
 }
+
+/// Counts a Push to each of the sessions. It takes no memory.
+pub(crate) fn count_all(places: &mut Places, touched: Vec<Touched>)
+    requires { MayPushAll (standing places.old) touched.items }
+    ensures live { (c : ClientId) → get client_cmp places.new.live c
+        ≡ after_pushes (standing places.old) touched.items c }
+    ensures gone { places.new.gone ≡ places.old.gone }
+{
+    for reached in touched {
+        let _ = places.emit(&reached.session().client);
+    }
+}

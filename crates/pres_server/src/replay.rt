@@ -1,17 +1,17 @@
 //! Servers that are made anew from the batches of their log.
 
-ghost use Rattle.std.specs.Prelude.{◌≡◌, ◌+◌, ◌++◌, ◌∷◌, [], ℕ, length, IfErr, IfOk, OnOk};
+ghost use Rattle.std.specs.Prelude.{◌≡◌, ◌+◌, ◌++◌, ◌∷◌, [], ℕ, length, IfErr, IfOk, OnErr, OnOk};
 ghost use Rattle.pres_server.specs.declared.replay.ReplayFault.TheVariants.{NotLegal};
 ghost use Rattle.pres_server.specs.Faults.{number_of, name_of};
 ghost use Rattle.pres_server.specs.LegalLog.{IsLegal, MayFollow};
 ghost use Rattle.pres_server.specs.Replays.{made_from, IsNotAdded, IsNoLog};
 
+use crate::reopen::Reopen;
 use crate::server::Server;
 use pres_log::{Batch, Log};
 use pres_wire::Number;
 use std::alloc::{AllocError, AllocFailed, Global};
 use std::marker::Model;
-use std::mem;
 use thiserror::Error;
 
 /// Why batches are refused as a server's log.
@@ -69,10 +69,20 @@ impl<T: Drop> From<AllocFailed<T>> for ReplayFault {
     }
 }
 
+impl From<Reopen> for ReplayFault {
+    ghost use Rattle.std.specs.Prelude.{◌≡◌};
+    ghost use Rattle.pres_server.specs.declared.replay.ReplayFault.TheVariants.{Memory};
+
+    ghost from_gives = { λ _ e. e ≡ Memory };
+
+    fn from(_refused: Reopen) -> ReplayFault {
+        ReplayFault::Memory
+    }
+}
+
 /// A server that is made anew batch by batch. Contracts see it as the log so far.
 #[derive(Drop)]
 pub struct Replay {
-    alloc: Global,
     server: Server,
 }
 
@@ -90,7 +100,6 @@ impl Replay {
         ensures { result ≡ [] }
     {
         Replay {
-            alloc,
             server: Server::new(alloc),
         }
     }
@@ -115,33 +124,24 @@ impl Replay {
     }
 
     /// Adds a batch that may follow the log. NotLegal, with one more than the number of the batches
-    /// so far, where it may not follow, and then nothing is changed. After Memory the replay begins
-    /// anew.
+    /// so far, where it may not follow. At a refusal nothing is changed, also where memory is
+    /// refused.
     pub fn add(&mut self, batch: Batch) -> Result<(), ReplayFault>
         ensures follows { OnOk result (MayFollow self.old batch) }
         ensures added { OnOk result (self.new ≡ self.old ++ batch ∷ []) }
-        ensures refused { IfErr result (IsNotAdded self.old batch self.new) }
+        ensures refused { IfErr result (IsNotAdded self.old batch) }
+        ensures unchanged { OnErr result (self.new ≡ self.old) }
     {
         match self.server.may_follow(&batch) {
-            Ok(true) => {}
+            Ok(true) => Ok(self.server.grow(batch)?),
             Ok(false) => {
                 drop(batch);
-                return Err(self.refused());
+                Err(self.refused())
             }
-            Err(_) => {
+            Err(refused) => {
                 drop(batch);
-                *self = Replay::new(self.alloc);
-                return Err(ReplayFault::Memory);
+                Err(refused.into())
             }
-        }
-        let server = mem::replace(&mut self.server, Server::new(self.alloc));
-        match server.join(batch) {
-            Ok((server, answers)) => {
-                drop(answers);
-                self.server = server;
-                Ok(())
-            }
-            Err(_) => Err(ReplayFault::Memory),
         }
     }
 

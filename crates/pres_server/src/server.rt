@@ -1,6 +1,6 @@
 //! The server.
 
-ghost use Rattle.std.specs.Prelude.{◌≡◌, ◌↔◌, ◌++◌, ◌∷◌, [], IsTrue, IfOk, IfErr, IfSome, IfNone, MatchOption, Some, None, true, false, is_some, option_copied, if◌then◌else◌};
+ghost use Rattle.std.specs.Prelude.{◌≡◌, ◌↔◌, ◌++◌, ◌∷◌, [], IsTrue, IfOk, IfErr, IfSome, IfNone, OnOk, OnErr, MatchOption, Some, None, true, false, is_some, option_copied, if◌then◌else◌};
 ghost use Rattle.pres_tree.specs.Rows.{is_null, value_at};
 ghost use Rattle.pres_log.specs.Logs.{number, entries, tree};
 ghost use Rattle.pres_log.specs.declared.fault.Fault.TheVariants.{Busy as OutOfMemory};
@@ -279,6 +279,34 @@ impl Server {
             index,
         };
         Ok((server, Items::of(answers)))
+    }
+
+    /// Adds a batch that may follow the log. Where memory is refused the log is as it was.
+    pub(crate) fn grow(&mut self, batch: Batch) -> Result<(), Reopen>
+        requires { MayFollow self.old.log batch }
+        ensures added { OnOk result (self.new.log ≡ self.old.log ++ batch ∷ []) }
+        ensures unchanged { OnErr result (self.new.log ≡ self.old.log) }
+    {
+        let moment = batch.moment();
+        let made = Made {
+            number: batch.first(),
+            moment,
+        };
+        let Ok(()) = self.log.push(batch) else {
+            return Err(Reopen);
+        };
+        let Some(batch) = self.log.batches().last() else {
+            unreachable!()
+        };
+        let grown = self.index.grow(self.alloc, batch.entries(), made);
+        // it ensures that the clients are in order
+        let _ = self.index.places.open_count();
+        if let Err(refused) = grown {
+            drop(self.log.pop());
+            return Err(refused);
+        }
+        self.moment = moment;
+        Ok(())
     }
 
     /// The client of each open session counts as heard of at the log's greatest moment.

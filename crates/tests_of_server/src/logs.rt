@@ -165,6 +165,18 @@ fn check_batch(rt: &impl Abort, batch: &Batch, first: u64, now: u64, count: usiz
 }
 
 #[test]
+fn the_last_batch_is_popped(rt: HostRuntime) {
+    let mut log = log_of_two(&rt, rt.alloc());
+    let Some(batch) = log.pop() else {
+        panic!(rt; "no batch");
+    };
+    check_batch(&rt, &batch, 2, 2000, 2);
+    assert_eq!(rt; log.len(), 1);
+    assert!(rt; log.pop().is_some());
+    assert!(rt; log.pop().is_none());
+}
+
+#[test]
 fn batches_are_kept_in_order(rt: HostRuntime) {
     let log = log_of_two(&rt, rt.alloc());
     let [first, second] = log.batches() else {

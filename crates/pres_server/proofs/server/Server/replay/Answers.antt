@@ -12,8 +12,8 @@ pub returns-in-Err-clause-refused : goal.returns-in-Err-clause-refused
 returns-in-Err-clause-refused c =
     let bs = c.args.batches.now in
     let i = c.loop-batch.batch-index in
-    not_added bs i c.batch-item.result c.add.new.self c.in-Err.fault c.loop-batch-test.true c.batch-item.is c.loop-batch.invariant.1
-    (subst (λ (x : Log × Batch). IsNotAdded x.0 x.1 c.add.new.self c.in-Err.fault) (λ j. (c.loop-batch.invariant.0 j, c.in-Ok.ensures j)) c.in-Err.ensures.refused)
+    not_added bs i c.batch-item.result c.in-Err.fault c.loop-batch-test.true c.batch-item.is c.loop-batch.invariant.1
+    (subst (λ (x : Log × Batch). IsNotAdded x.0 x.1 c.in-Err.fault) (λ j. (c.loop-batch.invariant.0 j, c.in-Ok.ensures j)) c.in-Err.ensures.refused)
 
 pub loop-batch-preserved : goal.loop-batch-preserved
 loop-batch-preserved c =
