@@ -1,19 +1,22 @@
 -- What is read of a line.
-use Rattle.std.proofs.Common.{◌≡◌, ◌⊎◌, ◌<◌, ◌^◌, ◌++◌, ◌∷◌, [], ℕ, List, Bool, true, false, if◌then◌else◌, Option, Some, None, Result, Ok, Err, option_map, option_and_then, length, nat_lt, refl, sym, ap, subst, ◌∙◌, ◌&&◌, append_assoc}
+use Rattle.std.proofs.Common.{◌≡◌, ◌⊎◌, ◌<◌, ◌^◌, ◌++◌, ◌∷◌, [], ℕ, List, Bool, true, false, if◌then◌else◌, Option, Some, None, Result, Ok, Err, option_map, option_and_then, length, nat_lt, refl, sym, ap, subst, ◌∙◌, ◌&&◌, append_assoc, rules}
 use Rattle.std.proofs.lemmas.Bool.{false≢true, and_from, ltb-true, lt-ltb}
 use Rattle.std.specs.Prelude.{IsErr, IsErrAnd}
-use Rattle.std.specs.Char.{digit_value}
-use Rattle.std.specs.List.{list_all}
-use Rattle.std.specs.Str.Parse.{AllDigits, IsNumeral, digits_value, without_leading_plus}
+use Rattle.std.proofs.lemmas.Str.Parse.{IsDigitsTest, numerals_by_value, parse_digits}
+use Rattle.std.specs.Char.{is_ascii_digit}
+use Rattle.std.specs.List.{after_first, before_first, list_all, position_or_len}
+use Rattle.std.specs.Result.{OkIff}
+use Rattle.std.specs.Str.Parse.{ParsesUnsigned, digits_value}
 use Rattle.serde_json.specs.Data.{Data, Members, member}
 use Rattle.pres_tree.specs.Paths.{Path}
 use Rattle.pres_tree.specs.Rows.{Rows}
 use Rattle.pres_write.specs.declared.draft.Slot.{Slot}
 use Rattle.pres_wire.specs.Fields.{path_in}
+use Rattle.pres_drive.specs.declared.drive.Line.{Line}
 use Rattle.pres_service.specs.declared.lines.Unread.{Unread}
 use Rattle.pres_service.specs.declared.lines.Unread.TheVariants as unread
 use Rattle.pres_service.specs.Reading.{IsPart, IsRead, IsRefusal}
-use Rattle.pres_service.specs.Lines.{Said, draft_in, is_numeral, places_of, whole_in}
+use Rattle.pres_service.specs.Lines.{Said, draft_in, given_line, halves, is_numeral, is_space, line_in, line_of_halves, places_of, said, whole_in}
 
 -- what `?` makes of a refusal
 pub part_refused : {A B : Type 0} (view : A → B) (part : Option B) (r : Result A Unread) (e : Unread) → IsErr r × IsErrAnd r (λ x. x ≡ e) → ((e ≡ unread.Memory) ⊎ ((e ≡ unread.Refused) × (part ≡ None))) → IsPart view part r
@@ -52,40 +55,49 @@ module _ (all left : Members) (name : List ℕ) (d : Data) (xs : Places) (so_far
 
 -- ---- numbers
 
-abbrev is_digit : ℕ → Bool
-is_digit c = nat_lt (digit_value c) 10
-
-digits_test : (ds : List ℕ) → AllDigits 10 ds → list_all is_digit ds ≡ true
-digits_test [] h = refl
-digits_test (c ∷ cs) h = and_from (is_digit c) (list_all is_digit cs) (lt-ltb (digit_value c) 10 h.0) (digits_test cs h.1)
-
 both : (a b : Bool) → (a && b) ≡ true → (a ≡ true) × (b ≡ true)
 both true b h = (refl, h)
 both false b h = absurd (false≢true h)
 
-test_digits : (ds : List ℕ) → list_all is_digit ds ≡ true → AllDigits 10 ds
-test_digits [] h = tt
-test_digits (c ∷ cs) h = let k = both (is_digit c) (list_all is_digit cs) h in (ltb-true (digit_value c) 10 k.0, test_digits cs k.1)
+tells_digits_alone : IsDigitsTest (λ ds. list_all is_ascii_digit ds ≡ true)
+tells_digits_alone = search rules
 
-abbrev fits : List ℕ → Bool
-fits ds = is_numeral ds && nat_lt (digits_value 10 ds) (2 ^ 64)
+module _ (text : List ℕ) where
+  abbrev fits : Bool
+  fits = is_numeral text && nat_lt (digits_value 10 text) (2 ^ 64)
 
-pub whole_some : (text : List ℕ) (n : ℕ) → IsNumeral 10 (without_leading_plus text) → digits_value 10 (without_leading_plus text) < 2 ^ 64 → n ≡ digits_value 10 (without_leading_plus text) → whole_in text ≡ Some n
-whole_some text n is small same =
-    let ds = without_leading_plus text in
-    let yes : fits ds ≡ true = and_from (is_numeral ds) (nat_lt (digits_value 10 ds) (2 ^ 64)) (and_from (nat_lt 0 (length ds)) (list_all is_digit ds) (lt-ltb 0 (length ds) is.0) (digits_test ds is.1)) (lt-ltb (digits_value 10 ds) (2 ^ 64) small) in
-    ap (λ b. if b then Some (digits_value 10 ds) else None) yes ∙ ap Some (sym same)
+  numeral_from_fits : fits ≡ true → (0 < length text) × (list_all is_ascii_digit text ≡ true) × (digits_value 10 text < 2 ^ 64)
+  numeral_from_fits is =
+      let k = both (is_numeral text) (nat_lt (digits_value 10 text) (2 ^ 64)) is in
+      let m = both (nat_lt 0 (length text)) (list_all is_ascii_digit text) k.0 in
+      (ltb-true 0 (length text) m.0, m.1, ltb-true (digits_value 10 text) (2 ^ 64) k.1)
 
-pub whole_none : (text : List ℕ) → (IsNumeral 10 (without_leading_plus text) × (digits_value 10 (without_leading_plus text) < 2 ^ 64) → ⊥) → whole_in text ≡ None
-whole_none text bad = by (fits (without_leading_plus text)) refl
-  where
-    by : (b : Bool) → fits (without_leading_plus text) ≡ b → (if b then Some (digits_value 10 (without_leading_plus text)) else None) ≡ None
-    by false e = refl
-    by true e =
-        let ds = without_leading_plus text in
-        let k = both (is_numeral ds) (nat_lt (digits_value 10 ds) (2 ^ 64)) e in
-        let m = both (nat_lt 0 (length ds)) (list_all is_digit ds) k.0 in
-        absurd (bad ((ltb-true 0 (length ds) m.0, test_digits ds m.1), ltb-true (digits_value 10 ds) (2 ^ 64) k.1))
+  whole_if : (b : Bool) → fits ≡ b → whole_in text ≡ (if b then Some (digits_value 10 text) else None)
+  unfolding whole_in
+  whole_if b is = ap (λ t. if t then Some (digits_value 10 text) else None) is
+
+  none_if : (b : Bool) → fits ≡ b → (b ≡ true → ⊥) → whole_in text ≡ None
+  none_if false is bad = whole_if false is
+  none_if true is bad = absurd (bad refl)
+
+  -- a text with another character is no number
+  pub no_numeral : list_all is_ascii_digit text ≡ false → whole_in text ≡ None
+  no_numeral other = none_if fits refl (λ is. false≢true (sym other ∙ (numeral_from_fits is).1))
+
+  module _ (digits : list_all is_ascii_digit text ≡ true) where
+    parsed_as : (r : Result ℕ Unread) → ParsesUnsigned 64 10 text r → OkIff r ((0 < length text) × (digits_value 10 text < 2 ^ 64)) (digits_value 10 text)
+    parsed_as r parsed = parse_digits (numerals_by_value _ tells_digits_alone) 64 text r parsed digits
+
+    -- digits alone that are parsed are a number
+    pub a_number : (n : ℕ) → ParsesUnsigned {E = Unread} 64 10 text (Ok n) → whole_in text ≡ Some n
+    a_number n parsed =
+        let k = parsed_as (Ok n) parsed in
+        let yes : fits ≡ true = and_from (is_numeral text) (nat_lt (digits_value 10 text) (2 ^ 64)) (and_from (nat_lt 0 (length text)) (list_all is_ascii_digit text) (lt-ltb 0 (length text) k.0.0) digits) (lt-ltb (digits_value 10 text) (2 ^ 64) k.0.1) in
+        whole_if true yes ∙ ap Some (sym k.1)
+
+    -- digits alone that are not parsed are none
+    pub no_number : (e : Unread) → ParsesUnsigned 64 10 text (Err e) → whole_in text ≡ None
+    no_number e parsed = none_if fits refl (λ is. let k = numeral_from_fits is in parsed_as (Err e) parsed (k.0, k.2))
 
 -- ---- lines
 
@@ -93,3 +105,11 @@ whole_none text bad = by (fits (without_leading_plus text)) refl
 pub line_refused : {A : Type 0} (says : A → Said) (line : Option Said) (r : Result A Unread) (e : Unread) → IsErr r × IsErrAnd r (λ x. x ≡ e) → IsRefusal line e → IsRead says line r
 line_refused says line (Ok a) e h q = absurd (false≢true h.0)
 line_refused says line (Err x) e h q = subst (IsRefusal line) (sym h.1) q
+
+-- a line with a space is that of its word with what this is given
+pub line_of_parts : (text word given : List ℕ) → (position_or_len is_space text < length text) × (word ≡ before_first is_space text) × (given ≡ after_first is_space text) → (r : Result Line Unread) → IsRead said (given_line word given) r → IsRead said (line_in text) r
+line_of_parts text word given parts r read =
+    let cut : halves text ≡ Some (word, given) =
+    ap (λ b. if b then Some (before_first is_space text, after_first is_space text) else None) (lt-ltb (position_or_len is_space text) (length text) parts.0)
+    ∙ ap Some (ap (λ w. (w, after_first is_space text)) (sym parts.1) ∙ ap (λ g. (word, g)) (sym parts.2)) in
+    subst (λ h. IsRead said (line_of_halves text h) r) (sym cut) read

@@ -2,9 +2,9 @@
 use Rattle.std.specs.Prelude.{◌≡◌, ◌==◌, ◌&&◌, ◌+◌, ◌-◌, ◌^◌, ℕ, Bool, List, [], ◌∷◌, if◌then◌else◌, codes, drop, take, length, map, nat_lt, nat_le, Option, Some, None, is_none, option_map, option_and_then}
 use Rattle.std.specs.Cmp.Lexicographic.{pointwise}
 use Rattle.std.specs.List.{after_first, before_first, list_all, position_or_len, slice_split}
-use Rattle.std.specs.Char.{digit_value}
+use Rattle.std.specs.Char.{is_ascii_digit}
 use Rattle.std.specs.Str.{is_utf8}
-use Rattle.std.specs.Str.Parse.{digits_value, without_leading_plus}
+use Rattle.std.specs.Str.Parse.{digits_value}
 use Rattle.serde_json.specs.Data.{Data, null, boolean, number, string, array, object, Members, no_members, member}
 use Rattle.serde_json.specs.Read.{read}
 use Rattle.pres_tree.specs.Paths.{Path, max_depth}
@@ -49,13 +49,13 @@ is_space b = b == 32
 abbrev pub halves : Text → Option (Text × Text)
 halves text = if nat_lt (position_or_len is_space text) (length text) then Some (before_first is_space text, after_first is_space text) else None
 
+-- decimal digits alone, one at least
 abbrev pub is_numeral : Text → Bool
-is_numeral digits = nat_lt 0 (length digits) && list_all (λ c. nat_lt (digit_value c) 10) digits
+is_numeral text = nat_lt 0 (length text) && list_all is_ascii_digit text
 
--- a whole number below 2^64: decimal digits, behind a plus or without
-abbrev pub whole_in : Text → Option ℕ
-whole_in text = let digits = without_leading_plus text in
-    if is_numeral digits && nat_lt (digits_value 10 digits) (2 ^ 64) then Some (digits_value 10 digits) else None
+-- a whole number below 2^64
+unfoldable pub whole_in : Text → Option ℕ
+whole_in text = if is_numeral text && nat_lt (digits_value 10 text) (2 ^ 64) then Some (digits_value 10 text) else None
 
 abbrev pub draft_in : Data → Option (Rows Slot)
 draft_in d = if is_none (fault_of slot_reading (max_depth + 1) d) then Some (rows_of slot_reading d) else None

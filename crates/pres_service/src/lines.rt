@@ -1,6 +1,8 @@
 //! The lines of a client's calls.
 
 ghost use Rattle.std.specs.Prelude.{◌≡◌, List, IfOk, option_map};
+ghost use Rattle.std.specs.Char.{is_ascii_digit};
+ghost use Rattle.std.specs.List.{list_all};
 ghost use Rattle.serde_json.specs.Read.{read};
 ghost use Rattle.serde_json.specs.View.{members_view, view};
 ghost use Rattle.pres_tree.specs.Paths.{Path};
@@ -152,17 +154,27 @@ fn answering(alloc: Global, given: &str) -> Result<Line, Unread>
     Ok(Line::Call(Call::Answer(request, answer)))
 }
 
-/// A whole number below 2^64: none where the text is none.
+/// A whole number below 2^64, in decimal digits alone: none where the text is none.
 pub fn number_of(text: &str) -> Option<u64>
     ensures { result ≡ whole_in text.now }
 {
     whole(text).ok()
 }
 
-// A whole number.
+// Whether each character is a decimal digit.
+fn has_digits_alone(text: &str) -> bool
+    ensures { result ≡ list_all is_ascii_digit text.now }
+{
+    text.bytes().all(|byte| byte.is_ascii_digit())
+}
+
+// A whole number, in decimal digits alone.
 fn whole(text: &str) -> Result<u64, Unread>
     ensures { IsWhole (whole_in text.now) result }
 {
+    if !has_digits_alone(text) {
+        return Err(Unread::Bad);
+    }
     match text.parse::<u64>() {
         Ok(number) => Ok(number),
         Err(_) => Err(Unread::Bad),
