@@ -20,15 +20,20 @@ use Rattle.pres_wire.specs.declared.up.Up.TheVariants as up
 use Rattle.pres_wire.specs.declared.down.Down.{Down}
 use Rattle.pres_wire.specs.declared.down.Down.TheVariants.{Welcome, Reply, Armed, Snap, Push, Gone}
 use Rattle.pres_retry.specs.Tables.{row}
+use Rattle.pres_log.specs.declared.entry.Batch.{Batch}
 use Rattle.pres_log.specs.declared.entry.Entry.{Entry}
 use Rattle.pres_log.specs.declared.entry.Entry.TheVariants as entry
 use Rattle.pres_log.specs.declared.fault.Fault.TheVariants as fault
+use Rattle.pres_log.specs.Logs.{Log}
 use Rattle.pres_server.specs.declared.input.Input.{Input}
 use Rattle.pres_server.specs.declared.input.Input.TheVariants as input
 use Rattle.pres_server.specs.Turns.{Decision, refused, quiet, makes}
-use Rattle.pres_history.specs.Sums.{Sum, nothing, began}
+use Rattle.pres_history.specs.Sums.{Sum, nothing, began, sum_from}
 use Rattle.pres_history.specs.SumAnswers.{answers_by}
 use Rattle.pres_history.specs.SumTurns.{SumState, moment_by, turn_by, sum_after_turn}
+use Rattle.pres_history.specs.Histories.{History, LeadsTo, whole, answers_in}
+use Rattle.pres_history.proofs.Turning.{turn_follows}
+use Rattle.pres_history.proofs.Histories.{nothing_holds, history_grows}
 
 abbrev alice : ℕ → SessionId
 alice attempt = record { client = codes "alice"; incarnation = 1; attempt = attempt }
@@ -291,3 +296,62 @@ crowded_gap = refl
 
 crowded_answer : told crowded 1001 (input.Up (up.Op (alice 1) 3 1 (set_a 1))) ≡ Reply (alice 1) 3 3 3 1 3 kept.Wrote ∷ []
 crowded_answer = refl
+
+-- ---- histories
+
+abbrev opening : Batch
+opening = record { first = 1; moment = 1000; entries = entry.Open (alice 1) ∷ [] }
+
+abbrev writing : Batch
+writing = record { first = 2; moment = 1001; entries = entry.Op (alice 1) 1 1 (set_a 1) (wrote_a 1) ∷ [] }
+
+abbrev losing : Batch
+losing = record { first = 3; moment = 1002; entries = entry.Ended (alice 1) None why.Lost [] ∷ [] }
+
+abbrev three : Log
+three = opening ∷ writing ∷ losing ∷ []
+
+whole_sum : sum_from nothing three ≡ lost_once
+whole_sum = refl
+
+whole_answers : answers_in (whole three) ≡ Welcome (alice 1) 1 0 ∷ Reply (alice 1) 1 2 1 1 2 kept.Wrote ∷ Gone (alice 1) 2 3 why.Lost ∷ []
+whole_answers = refl
+
+-- the same sum, from the sum behind the write
+abbrev since_write : History
+since_write = record { base = wrote_once; log = losing ∷ [] }
+
+since_write_sum : sum_from since_write.base since_write.log ≡ lost_once
+since_write_sum = refl
+
+since_write_answers : answers_in since_write ≡ Gone (alice 1) 2 3 why.Lost ∷ []
+since_write_answers = refl
+
+-- from a sum that no legal log has
+abbrev since_crowded : History
+since_crowded = record {
+  base = crowded;
+  log = record { first = 3; moment = 1001; entries = entry.Op (alice 1) 3 1 (set_a 1) (wrote_a 1) ∷ [] } ∷ record { first = 4; moment = 1002; entries = entry.Ended (alice 1) None why.Lost [] ∷ [] } ∷ [];
+}
+
+since_crowded_sum : sum_from since_crowded.base since_crowded.log ≡ record {
+  batches = 4;
+  moment = 1002;
+  number = 4;
+  tree = number_at at_a 1;
+  rows = (codes "alice", row 3 kept.Wrote ∷ []) ∷ [];
+  gone = (codes "alice", stamp) ∷ [];
+  sessions = [];
+  listeners = [];
+}
+since_crowded_sum = refl
+
+since_crowded_answers : answers_in since_crowded ≡ Reply (alice 1) 3 3 3 1 3 kept.Wrote ∷ Gone (alice 1) 4 4 why.Lost ∷ []
+since_crowded_answers = refl
+
+-- what turns make leads from nothing to the sum
+leads_nowhere : LeadsTo (whole []) nothing
+leads_nowhere = record { base = nothing_holds; legal = tt; there = refl }
+
+leads_to_opened : LeadsTo (whole (opening ∷ [])) opened_once
+leads_to_opened = (history_grows (whole []) nothing opening leads_nowhere (turn_follows (state nothing) (input.Up (up.Hello (alice 1))) 1000 nothing_holds (opening.entries) refl)).leads

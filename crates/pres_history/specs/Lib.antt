@@ -2,3 +2,5 @@ pub mod Sums
 pub mod SumAnswers
 pub mod SumTurns
 pub mod SumLaws
+pub mod Histories
+pub mod HistoryLaws

@@ -1,5 +1,5 @@
 -- The sum of a log: what a server knows of it, as plain data. What its next batches and their answers depend on is all here.
-use Rattle.std.specs.Prelude.{ℕ, ◌+◌, not, List, [], ◌∷◌, map, fold, Option, Some, None, if◌then◌else◌}
+use Rattle.std.specs.Prelude.{ℕ, ◌+◌, Bool, not, List, [], ◌∷◌, map, fold, Option, Some, None, if◌then◌else◌}
 use Rattle.std.specs.Option.{option_map}
 use Rattle.std.specs.FinMap.Entries.{find, put, where_key}
 use Rattle.pres_tree.specs.declared.scalar.Scalar.{Scalar}
@@ -18,7 +18,7 @@ use Rattle.pres_log.specs.declared.entry.Entry.{Entry}
 use Rattle.pres_log.specs.declared.entry.Entry.TheVariants as entry
 use Rattle.pres_log.specs.Logs.{Log, writes_of}
 use Rattle.pres_server.specs.Sessions.{session_of}
-use Rattle.pres_server.specs.Parts.{LivePart, Part, plan_after}
+use Rattle.pres_server.specs.Parts.{LivePart, Part, plan_after, is_live}
 use Rattle.pres_server.specs.Index.{retry_after, listeners_after}
 use Rattle.pres_server.specs.Pushes.{Reached}
 
@@ -69,6 +69,10 @@ part_by session gone rows client = record { last = last_by session gone; rows = 
 -- what it says of a client
 abbrev pub part_in : Sum → ClientId → Part
 part_in sum client = part_by (find client_cmp client sum.sessions) (find client_cmp client sum.gone) sum.rows client
+
+-- the session is its client's open one
+abbrev pub is_open_in : SessionId → Sum → Bool
+is_open_in session sum = is_live (part_in sum session.client).live (stamp_of session)
 
 -- the paths that a session listens to
 abbrev pub paths_in : Sum → SessionId → List Path

@@ -1,8 +1,14 @@
 //! Laws of the sum of a server's log, for crates that hold a sum in the place of a log.
 
+ghost use Rattle.std.specs.Prelude.{ℕ};
 ghost use Rattle.pres_log.specs.Logs.{Log};
+ghost use Rattle.pres_log.specs.declared.entry.Batch.{Batch};
+ghost use Rattle.pres_server.specs.declared.input.Input.{Input};
 ghost use Rattle.pres_history.specs.Sums.{Sum};
+ghost use Rattle.pres_history.specs.SumTurns.{SumState};
 ghost use Rattle.pres_history.specs.SumLaws.{LegalSumSays, LegalByTheSum, SumsDecide, WholeIsLegal, ReachedStays};
+ghost use Rattle.pres_history.specs.Histories.{History};
+ghost use Rattle.pres_history.specs.HistoryLaws.{TurnFollows, HistoryHolds, HistoryGrows, LegalIsHistory, HistoryIsLegal, ReachedHasLog};
 
 /// What the sum of a legal log says is what the log says: of each client, session and path. By it
 /// the same batches may follow, each turn makes the same, and a batch answers the same.
@@ -30,4 +36,37 @@ pub fn whole_is_legal()
 /// Batches that follow from a sum that some legal log has lead to a sum that some legal log has.
 pub fn reached_sums_stay_reached()
     ensures { (base : Sum) (later : Log) → ReachedStays base later }
+{}
+
+/// What a turn makes, by a sum of which all holds that holds of every server's, may follow.
+pub fn turns_follow()
+    ensures { (state : SumState) (input : Input) (now : ℕ) → TurnFollows state input now }
+{}
+
+/// What holds of every server's sum holds of the sum that a history leads to.
+pub fn histories_lead_to_sums()
+    ensures { (history : History) (sum : Sum) → HistoryHolds history sum }
+{}
+
+/// A history goes on by each batch that may follow, and what it answered by the batch's answers.
+pub fn histories_grow()
+    ensures { (history : History) (sum : Sum) (batch : Batch) → HistoryGrows history sum batch }
+{}
+
+/// A legal log is a history that begins at nothing, leads to the log's sum, and answered what the
+/// log says.
+pub fn legal_logs_are_histories()
+    ensures { (log : Log) → LegalIsHistory log }
+{}
+
+/// Of a server that began at nothing there is a legal log whose sum is the server's: a history that
+/// begins at nothing is one.
+pub fn histories_are_legal_logs()
+    ensures { (history : History) (sum : Sum) → HistoryIsLegal history sum }
+{}
+
+/// Of a server that began at the sum of a legal log there is a legal log whose sum is the server's.
+/// It ends in the batches since.
+pub fn reached_histories_have_logs()
+    ensures { (history : History) (sum : Sum) → ReachedHasLog history sum }
 {}

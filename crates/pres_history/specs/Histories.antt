@@ -1,0 +1,77 @@
+-- Histories: a sum, and the batches since. Nobody holds one. That there is one says where a server's sum comes from.
+use Rattle.std.specs.Prelude.{ℕ, ◌≡◌, ◌≤◌, ◌+◌, ◌-◌, ◌*◌, ◌^◌, false, List, [], ◌∷◌, ◌++◌, length, Some, IfSome}
+use Rattle.std.specs.Map.{keys_of}
+use Rattle.std.specs.List.Sorted.{IsStrictlySortedBy}
+use Rattle.std.specs.FinMap.Entries.{find}
+use Rattle.pres_write.specs.Moments as moments
+use Rattle.pres_ids.specs.declared.id.SessionId.{SessionId}
+use Rattle.pres_ids.specs.Ids.{ClientId, client_cmp}
+use Rattle.pres_wire.specs.declared.down.Down.{Down}
+use Rattle.pres_fan.specs.Listeners.{IsListeners}
+use Rattle.pres_log.specs.declared.entry.Batch.{Batch}
+use Rattle.pres_log.specs.Logs.{Log}
+use Rattle.pres_server.specs.Parts.{IsAsked}
+use Rattle.pres_history.specs.Sums.{Sum, OpenSession, nothing, live_of, is_open_in, paths_in, sum_with, sum_from}
+use Rattle.pres_history.specs.SumAnswers.{answers_by}
+use Rattle.pres_history.specs.SumTurns.{FollowAll}
+
+-- ---- what holds of every server's sum
+
+-- what holds of an open session after so many entries
+pub record IsOpenSession (number : ℕ) (session : OpenSession) : Type 0 where
+  -- each of its messages made an entry
+  pub count : session.count ≤ number
+  -- an entry sends it a Push and an answer at the most
+  pub sent : session.sent ≤ 2 * number
+  -- what it leaves was asked for by its messages so far
+  pub asked : IsAsked (Some (live_of session))
+
+-- what holds of the sum between the entries of a batch too
+pub record Keeps (sum : Sum) : Type 0 where
+  -- clients stand in byte order, each once
+  pub sessions : IsStrictlySortedBy client_cmp (keys_of sum.sessions)
+  pub gone : IsStrictlySortedBy client_cmp (keys_of sum.gone)
+  pub each : (client : ClientId) → IfSome (find client_cmp client sum.sessions) (IsOpenSession sum.number)
+  pub listeners : IsListeners sum.listeners
+  -- only open sessions listen
+  pub listening : (session : SessionId) → is_open_in session sum ≡ false → paths_in sum session ≡ []
+
+pub record IsSum (sum : Sum) : Type 0 where
+  pub keeps : Keeps sum
+  pub few : length sum.sessions ≤ 1024
+  -- each batch has an entry
+  pub batches : sum.batches ≤ sum.number
+  -- a number is left for the end of each open session
+  pub room : sum.number + length sum.sessions ≤ 2 ^ 52 - 1
+  pub moment : sum.moment ≤ moments.last_moment
+
+-- ---- histories
+
+pub record History : Type 0 where
+  -- the sum at which it begins
+  pub base : Sum
+  -- the batches since
+  pub log : Log
+
+-- the history of a whole log
+abbrev pub whole : Log → History
+whole log = record { base = nothing; log = log }
+
+-- a history with one batch more
+abbrev pub with_batch : History → Batch → History
+with_batch history batch = record { base = history.base; log = history.log ++ batch ∷ [] }
+
+-- its batches follow from its base, one after another, and make the sum
+pub record LeadsTo (history : History) (sum : Sum) : Type 0 where
+  pub base : IsSum history.base
+  pub legal : FollowAll history.base history.log
+  pub there : sum_from history.base history.log ≡ sum
+
+-- what the batches answer, one after another
+abbrev pub answers_from : Sum → Log → List Down
+answers_from sum [] = []
+answers_from sum (batch ∷ later) = answers_by sum batch.entries ++ answers_from (sum_with sum batch) later
+
+-- all that was answered since the base
+abbrev pub answers_in : History → List Down
+answers_in history = answers_from history.base history.log
