@@ -3,6 +3,8 @@
 #![tactic(auto)]
 
 #[cfg(test)]
+mod callers;
+#[cfg(test)]
 mod gates;
 #[cfg(test)]
 mod keepers;
@@ -16,6 +18,10 @@ mod runs;
 mod scene;
 #[cfg(test)]
 mod seats;
+#[cfg(test)]
+mod slow;
+#[cfg(test)]
+mod starts;
 #[cfg(test)]
 mod stops;
 #[cfg(test)]

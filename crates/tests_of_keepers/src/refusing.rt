@@ -98,3 +98,14 @@ pub(crate) fn tree_text<K: Keeper>(rt: &impl Abort, alloc: Global, keeper: &mut 
     drop(server);
     text
 }
+
+/// How many entries a replay of the keeper's batches gives, and the tree that it makes.
+pub(crate) fn replayed_text<K: Keeper>(rt: &impl Abort, alloc: Global, keeper: &mut K) -> String {
+    let batches = keeper.batches().expect(rt, "rows");
+    let server = Server::replay(alloc, &batches).expect(rt, "a legal log");
+    drop(batches);
+    let number = server.number();
+    let tree = root_text(rt, alloc, &server);
+    drop(server);
+    format!(in alloc; "{number} entries, {tree}").expect(rt, "memory")
+}

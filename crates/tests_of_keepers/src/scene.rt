@@ -108,8 +108,8 @@ fn parting_text<L: Ledger>(rt: &impl Abort, alloc: Global, parting: &Parting<L>)
     text.expect(rt, "memory")
 }
 
-// How many messages are taken, at most so many, and the last of them.
-fn taken(rt: &impl Abort, alloc: Global, outbox: &mut Outbox, most: u64) -> String {
+/// How many messages are taken, at most so many, and the last of them.
+pub(crate) fn taken(rt: &impl Abort, alloc: Global, outbox: &mut Outbox, most: u64) -> String {
     let mut count: u64 = 0;
     let mut last = String::from_str(alloc, "none").expect(rt, "memory");
     for _ in 0..most {

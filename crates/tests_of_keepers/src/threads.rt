@@ -2,13 +2,14 @@
 
 ghost use Rattle.std.specs.Prelude.{◌≡◌, ◌^◌};
 
+use crate::callers::{Caller, Left, Role, visit};
 use crate::gates::Holding;
-use crate::refusing::tree_text;
-use crate::scene::{Counts, Place, counted, next_text, session};
-use pres_exchange::Outbox;
-use pres_hub::{Core, Gate, Hub, Keeper, MemKeeper, NoBell, OpenGate, Parting, Report, Seat};
+use crate::refusing::{log_text, replayed_text};
+use crate::scene::{Counts, counted};
+use crate::slow::{read_late, write_later};
+use pres_hub::{Core, Gate, Hub, Keeper, MemKeeper, NoBell, OpenGate, Report};
 use pres_saved::SqlKeeper;
-use pres_server::{Moment, Up, Why};
+use pres_server::Moment;
 use sqlite::Connection;
 use std::alloc::Global;
 use std::marker::Brand;
@@ -19,42 +20,14 @@ use std::thread;
 use std::thread::Threads;
 use std::time::Clock;
 
-// In which order a thread does what it does.
-#[derive(Clone, Copy)]
-enum Role {
-    // It writes, and listens once both have written.
-    Visits,
-    // It writes once the other one listens, and leaves before that one reads.
-    WritesFirst,
-    // It listens, and takes nothing until the other one has left.
-    ReadsLast,
-}
-
-// What a thread does: whose session it opens, how often it writes to a path of its own, where it
-// listens before it leaves, and in which order.
-#[derive(Clone, Copy)]
-struct Caller {
-    number: u64,
-    client: &'static str,
-    writes: u64,
-    listens: Option<&'static str>,
-    role: Role,
-}
-
-// What a thread leaves: its seat's parting, and what it read where it listened.
-#[derive(Drop)]
-struct Left<L: Ledger> {
-    parting: Parting<L>,
-    read: Option<String>,
-}
-
 // What a run of two threads or more came to: what was counted, what was read, each on a line of its
-// own, and the tree that is kept.
+// own, the log that is kept, and what its replay gives.
 #[derive(Drop)]
 struct Outcome {
     counts: Counts,
     reads: String,
-    tree: String,
+    log: String,
+    replayed: String,
 }
 
 impl Outcome {
@@ -68,169 +41,15 @@ impl Outcome {
         assert_eq!(rt; self.reads.as_str(), wanted);
     }
 
-    // The tree has to be this.
-    fn expect_tree(&self, rt: &impl Abort, wanted: &str) {
-        assert_eq!(rt; self.tree.as_str(), wanted);
+    // The batch with this index has to be this.
+    fn expect_batch(&self, rt: &impl Abort, index: usize, wanted: &str) {
+        assert_eq!(rt; self.log.lines().nth(index), Some(wanted));
     }
-}
 
-// The caller's write number n, which sets its own path to n.
-fn write(rt: &impl Abort, alloc: Global, caller: Caller, n: u64) -> Up {
-    let client = caller.client;
-    let text = format!(in alloc;
-        r#"{{"m":"op","n":{n},"op":{{"op":"set","path":"/{client}","value":{n}}},"q":{n},"s":["{client}",1,1]}}"#
-    );
-    Up::decode(alloc, text.expect(rt, "memory").as_str()).expect(rt, "a message")
-}
-
-// The caller's listen to the path, behind its writes.
-fn listen(rt: &impl Abort, alloc: Global, caller: Caller, path: &str) -> Up {
-    let (client, q) = (caller.client, caller.writes.saturating_add(1));
-    let text = format!(in alloc; r#"{{"m":"on","path":"{path}","q":{q},"s":["{client}",1,1]}}"#);
-    Up::decode(alloc, text.expect(rt, "memory").as_str()).expect(rt, "a message")
-}
-
-// The moment of all calls.
-fn now() -> Moment {
-    Moment::at(1000)
-}
-
-// Opens the caller's session.
-fn joined<L: Ledger, K: Keeper + Drop, G: Gate, R: Wait + Abort>(
-    rt: &R,
-    alloc: Global,
-    hub: &Hub<L, K, NoBell, G>,
-    caller: Caller,
-) -> Place<L> {
-    let session = session(rt, alloc, caller.client);
-    let joined = hub.enter(rt, caller.number).join(&session, now());
-    drop(session);
-    let (seat, outbox) = joined.expect(rt, "a seat");
-    Place { seat, outbox }
-}
-
-// Says the message. Whether it was taken.
-fn say<L: Ledger, K: Keeper + Drop, G: Gate, R: Wait + Abort>(
-    rt: &R,
-    hub: &Hub<L, K, NoBell, G>,
-    seat: &mut Seat<L>,
-    up: Up,
-    caller: Caller,
-) -> bool {
-    let said = hub.enter(rt, caller.number).say(seat, up, now());
-    said.is_ok()
-}
-
-// Says the caller's writes, and takes what is put for it after each.
-fn write_all<L: Ledger, K: Keeper + Drop, G: Gate, R: Wait + Abort>(
-    rt: &R,
-    alloc: Global,
-    hub: &Hub<L, K, NoBell, G>,
-    place: &mut Place<L>,
-    caller: Caller,
-) {
-    for n in 1..=caller.writes {
-        let up = write(rt, alloc, caller, n);
-        let _ = say(rt, hub, &mut place.seat, up, caller);
-        drop(last_taken(rt, alloc, &mut place.outbox));
+    // The replay has to give so many entries and this tree.
+    fn expect_replayed(&self, rt: &impl Abort, wanted: &str) {
+        assert_eq!(rt; self.replayed.as_str(), wanted);
     }
-}
-
-// The caller's connection is lost.
-fn leave<L: Ledger, K: Keeper + Drop, G: Gate, R: Wait + Abort>(
-    rt: &R,
-    hub: &Hub<L, K, NoBell, G>,
-    place: Place<L>,
-    caller: Caller,
-) -> Parting<L> {
-    let Place { seat, outbox } = place;
-    drop(outbox);
-    hub.enter(rt, caller.number).leave(seat, Why::Lost, now())
-}
-
-// The last message that is taken, without its number.
-fn last_taken(rt: &impl Abort, alloc: Global, outbox: &mut Outbox) -> Option<String> {
-    let mut last = None;
-    for _ in 0..300 {
-        let Some(text) = next_text(rt, alloc, outbox) else {
-            break;
-        };
-        last = Some(text);
-    }
-    let text = last?;
-    let (front, _) = text.as_str().split_once(r#","z":"#)?;
-    Some(String::from_str(alloc, front).expect(rt, "memory"))
-}
-
-// Listens where the caller is to listen. Whether that was taken.
-fn listen_on<L: Ledger, K: Keeper + Drop, G: Gate, R: Wait + Abort>(
-    rt: &R,
-    alloc: Global,
-    hub: &Hub<L, K, NoBell, G>,
-    seat: &mut Seat<L>,
-    caller: Caller,
-) -> bool {
-    let Some(path) = caller.listens else {
-        return false;
-    };
-    let up = listen(rt, alloc, caller, path);
-    say(rt, hub, seat, up, caller)
-}
-
-// What a thread does that listens once both have written.
-fn visit<L: Ledger, K: Keeper + Drop, G: Gate, R: Wait + Abort>(
-    rt: &R,
-    alloc: Global,
-    hub: &Hub<L, K, NoBell, G>,
-    barrier: &Barrier,
-    caller: Caller,
-) -> Left<L> {
-    let mut place = joined(rt, alloc, hub, caller);
-    write_all(rt, alloc, hub, &mut place, caller);
-    barrier.wait(rt);
-    let read = if listen_on(rt, alloc, hub, &mut place.seat, caller) {
-        last_taken(rt, alloc, &mut place.outbox)
-    } else {
-        None
-    };
-    let parting = leave(rt, hub, place, caller);
-    Left { parting, read }
-}
-
-// What a thread does that writes once the other listens, and leaves before it reads.
-fn write_first<L: Ledger, K: Keeper + Drop, G: Gate, R: Wait + Abort>(
-    rt: &R,
-    alloc: Global,
-    hub: &Hub<L, K, NoBell, G>,
-    barrier: &Barrier,
-    caller: Caller,
-) -> Left<L> {
-    let mut place = joined(rt, alloc, hub, caller);
-    barrier.wait(rt);
-    write_all(rt, alloc, hub, &mut place, caller);
-    let parting = leave(rt, hub, place, caller);
-    barrier.wait(rt);
-    Left {
-        parting,
-        read: None,
-    }
-}
-
-// What a thread does that listens, and takes nothing until the other has left.
-fn read_last<L: Ledger, K: Keeper + Drop, G: Gate, R: Wait + Abort>(
-    rt: &R,
-    alloc: Global,
-    hub: &Hub<L, K, NoBell, G>,
-    barrier: &Barrier,
-    caller: Caller,
-) -> Left<L> {
-    let mut place = joined(rt, alloc, hub, caller);
-    let _ = listen_on(rt, alloc, hub, &mut place.seat, caller);
-    barrier.wait(rt);
-    barrier.wait(rt);
-    let read = last_taken(rt, alloc, &mut place.outbox);
-    let parting = leave(rt, hub, place, caller);
-    Left { parting, read }
 }
 
 // What a thread does.
@@ -243,8 +62,8 @@ fn act<L: Ledger, K: Keeper + Drop, G: Gate, R: Wait + Abort>(
 ) -> Left<L> {
     match caller.role {
         Role::Visits => visit(rt, alloc, hub, barrier, caller),
-        Role::WritesFirst => write_first(rt, alloc, hub, barrier, caller),
-        Role::ReadsLast => read_last(rt, alloc, hub, barrier, caller),
+        Role::WritesLater => write_later(rt, alloc, hub, barrier, caller),
+        Role::ReadsLate => read_late(rt, alloc, hub, barrier, caller),
     }
 }
 
@@ -297,11 +116,13 @@ fn reported<L: Ledger, K: Keeper + Drop>(
     add_line(rt, &mut reads, gather(&mut report, left.1));
     let counts = counted(&report);
     let mut keeper = report.into_keeper();
-    let tree = tree_text(rt, alloc, &mut keeper);
+    let log = log_text(rt, alloc, &mut keeper);
+    let replayed = replayed_text(rt, alloc, &mut keeper);
     Outcome {
         counts,
         reads,
-        tree,
+        log,
+        replayed,
     }
 }
 
@@ -389,16 +210,18 @@ fn four<K: Keeper + Drop + Send, R: Threads + Wait + Abort + Sync>(
     requires { K.ready keeper }
 {
     let callers = (
-        (writer(1, "a", 50), writer(2, "b", 50)),
-        (writer(3, "c", 50), writer(4, "d", 50)),
+        (writer(1, "a", "/a", 50), writer(2, "b", "/b", 50)),
+        (writer(3, "c", "/c", 50), writer(4, "d", "/d", 50)),
     );
     four_with::<Brand, K, R>(rt, alloc, Blank::new(1 << 53), keeper, callers)
 }
 
-fn writer(number: u64, client: &'static str, writes: u64) -> Caller {
+// A thread that writes to a path of its own.
+fn writer(number: u64, client: &'static str, path: &'static str, writes: u64) -> Caller {
     Caller {
         number,
         client,
+        path,
         writes,
         listens: None,
         role: Role::Visits,
@@ -408,10 +231,13 @@ fn writer(number: u64, client: &'static str, writes: u64) -> Caller {
 // The number, what was accepted and the total are exact in each order of the threads.
 #[test]
 fn two_threads_are_counted_exactly(rt: HostRuntime) {
-    let callers = (writer(1, "alice", 100), writer(2, "bob", 100));
+    let callers = (
+        writer(1, "alice", "/alice", 100),
+        writer(2, "bob", "/bob", 100),
+    );
     let outcome = two(&rt, rt.alloc(), OpenGate, callers);
     outcome.expect_counts(&rt, (204, 202, 0, Some(202)));
-    outcome.expect_tree(&rt, r#"{"alice":100,"bob":100}"#);
+    outcome.expect_replayed(&rt, r#"204 entries, {"alice":100,"bob":100}"#);
 }
 
 const READ: &str = r#"{"m":"snap","path":"/bob","q":101,"r":101,"s":["alice",1,1],"value":100
@@ -420,7 +246,10 @@ const READ: &str = r#"{"m":"snap","path":"/bob","q":101,"r":101,"s":["alice",1,1
 
 #[test]
 fn two_threads_read_what_the_other_wrote(rt: HostRuntime) {
-    let (alice, bob) = (writer(1, "alice", 100), writer(2, "bob", 100));
+    let (alice, bob) = (
+        writer(1, "alice", "/alice", 100),
+        writer(2, "bob", "/bob", 100),
+    );
     let callers = (
         Caller {
             listens: Some("/bob"),
@@ -436,29 +265,37 @@ fn two_threads_read_what_the_other_wrote(rt: HostRuntime) {
     outcome.expect_reads(&rt, READ);
 }
 
-const READ_LATE: &str = r#"{"m":"push","r":255,"s":["bob",1,1],"values":[["/alice",254]]
+const READ_LATE: &str = r#"262
+3, the last {"m":"snap","path":"/a","q":2,"r":2,"s":["bob",1,1],"value":null,"z":3}
+256, the last {"m":"push","r":258,"s":["bob",1,1],"values":[["/a",256]],"z":260}
 "#;
 
-// Bob's ring holds his Welcome, the answer to his listen and 254 values. The next one ends him.
+// The batch of entry 262.
+const SLOW_END: &str =
+    r#"[{"e":"ended","q":null,"rows":[["/b",true]],"s":["bob",1,1],"why":"slow"}]"#;
+
+// Bob takes his first three messages, and nothing more until Alice has ended: her 256th write fills his
+// ring, and the next one ends him.
 #[test]
 fn a_reader_that_takes_nothing_is_ended(rt: HostRuntime) {
     let alice = Caller {
-        role: Role::WritesFirst,
-        ..writer(1, "alice", 257)
+        role: Role::WritesLater,
+        ..writer(1, "alice", "/a", 257)
     };
     let bob = Caller {
-        listens: Some("/alice"),
-        role: Role::ReadsLast,
-        ..writer(2, "bob", 0)
+        role: Role::ReadsLate,
+        ..writer(2, "bob", "/b", 0)
     };
     let outcome = two(&rt, rt.alloc(), OpenGate, (alice, bob));
-    outcome.expect_counts(&rt, (262, 260, 0, Some(260)));
+    outcome.expect_counts(&rt, (263, 261, 0, Some(261)));
     outcome.expect_reads(&rt, READ_LATE);
+    outcome.expect_batch(&rt, 261, SLOW_END);
+    outcome.expect_replayed(&rt, r#"263 entries, {"a":257,"b":true}"#);
 }
 
 // Two threads, of which one is held at its first call while a call of the other is answered.
 fn held<R: Threads + Wait + Abort + Clock + Sync>(rt: &R, alloc: Global, held: u64) -> Outcome {
-    let callers = (writer(1, "alice", 1), writer(2, "bob", 1));
+    let callers = (writer(1, "alice", "/alice", 1), writer(2, "bob", "/bob", 1));
     two(rt, alloc, Holding::of(rt, held), callers)
 }
 
@@ -468,17 +305,17 @@ fn a_caller_that_is_held_holds_no_other(rt: HostRuntime) {
     for caller in 1..=2 {
         let outcome = held(&rt, rt.alloc(), caller);
         outcome.expect_counts(&rt, (6, 4, 0, Some(4)));
-        outcome.expect_tree(&rt, r#"{"alice":1,"bob":1}"#);
+        outcome.expect_replayed(&rt, r#"6 entries, {"alice":1,"bob":1}"#);
     }
 }
 
-const FOUR: &str = r#"{"a":50,"b":50,"c":50,"d":50}"#;
+const FOUR: &str = r#"208 entries, {"a":50,"b":50,"c":50,"d":50}"#;
 
 #[test]
 fn four_threads_leave_their_last_values(rt: HostRuntime) {
     let outcome = four(&rt, rt.alloc(), MemKeeper::new(rt.alloc()));
     outcome.expect_counts(&rt, (208, 204, 0, Some(204)));
-    outcome.expect_tree(&rt, FOUR);
+    outcome.expect_replayed(&rt, FOUR);
 }
 
 // The same over a database in memory.
@@ -494,5 +331,5 @@ fn four_in_database<R: Threads + Wait + Abort + Sync>(rt: &R, alloc: Global) -> 
 fn four_threads_leave_their_last_values_in_a_database(rt: HostRuntime) {
     let outcome = four_in_database(&rt, rt.alloc());
     outcome.expect_counts(&rt, (208, 204, 0, Some(204)));
-    outcome.expect_tree(&rt, FOUR);
+    outcome.expect_replayed(&rt, FOUR);
 }

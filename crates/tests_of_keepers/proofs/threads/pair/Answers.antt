@@ -3,7 +3,7 @@ use Rattle.std.proofs.Crossing.{crosses, send as global_is}
 use Rattle.pres_exchange.proofs.bells.NoBell.TheSendSync.{the_send as bell_is}
 use Rattle.pres_hub.proofs.Crossing.{hub_sync}
 use Rattle.std.proofs.sync.Barrier.TheSendSync.{the_sync as barrier_is}
-use Rattle.tests_of_keepers.proofs.threads.Caller.TheSendSync.{the_send as caller_is}
+use Rattle.tests_of_keepers.proofs.callers.Caller.TheSendSync.{the_send as caller_is}
 use Rattle.tests_of_keepers.proofs.threads.pair.Goals as goal
 
 pub join-requires-send-F : goal.join-requires-send-F
