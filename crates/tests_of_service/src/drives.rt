@@ -5,7 +5,7 @@ use crate::texts::{expect_text, fault_word};
 use pres_client::Client;
 use pres_drive::{Line, drive_client};
 use pres_ids::{ClientId, Number};
-use pres_service::line_of;
+use pres_service::{line_of, number_of};
 use pres_websocket::SockFault;
 use std::alloc::Global;
 use std::process::Abort;
@@ -259,4 +259,39 @@ fn a_transaction_has_25_tries(rt: HostRuntime) {
     let (_, told, ended) = driven(&rt, rt.alloc(), TRIES, served.as_str());
     expect_text(&rt, told, TRIES_TOLD);
     assert_eq!(rt; ended, "done");
+}
+
+// Texts that are no whole number.
+const NO_NUMBERS: [&str; 8] = [
+    "",
+    "+",
+    "+1",
+    "-1",
+    " 1",
+    "1.0",
+    "1e3",
+    "18446744073709551616",
+];
+
+// Lines that say nothing, since they have one of these.
+const NO_LINES: [&str; 6] = [
+    "wait +1",
+    "wait 1 ",
+    "abort +1",
+    "abort -1",
+    "answer +1 1",
+    "answer 18446744073709551616 1",
+];
+
+#[test]
+fn numbers_are_digits_alone(rt: HostRuntime) {
+    for text in NO_NUMBERS {
+        assert_eq!(rt; number_of(text), None, "at {text}");
+    }
+    assert_eq!(rt; number_of("0"), Some(0));
+    assert_eq!(rt; number_of("018446744073709551615"), Some(u64::MAX));
+    for text in NO_LINES {
+        let line = line_of(rt.alloc(), text).expect(&rt, "memory");
+        assert!(rt; line.is_none(), "at {text}");
+    }
 }

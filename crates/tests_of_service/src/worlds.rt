@@ -130,6 +130,11 @@ const BAD: &[(&str, &str)] = &[
     ("clients a.b", "bad line 1\nstatus 1\n"),
     ("clients a\nup 1", "bad line 2\nstatus 1\n"),
     ("clients a\nup 1 -5", "bad line 2\nstatus 1\n"),
+    ("clients a\nup 1 +5", "bad line 2\nstatus 1\n"),
+    ("clients a\nup +1 5", "bad line 2\nstatus 1\n"),
+    ("clients a\ndown +1", "bad line 2\nstatus 1\n"),
+    ("clients a\ncall a abort +1", "bad line 2\nstatus 1\n"),
+    ("clients a\ncall a answer +1 1", "bad line 2\nstatus 1\n"),
     (
         "clients a\ntick 18446744073709551616",
         "bad line 2\nstatus 1\n",
