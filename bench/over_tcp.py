@@ -96,21 +96,19 @@ class Server:
         return said.strip()
 
 
-class Client:
-    """A connection with a session: a JSON message in each text. What it can't do is a ConnectionError."""
+class Connection:
+    """A connection for a session: a JSON message in each text. What it can't do is a ConnectionError."""
 
     def __init__(self, port, session, patience=PATIENCE):
         self.socket = socket.create_connection(("127.0.0.1", port), patience)
         self.socket.setsockopt(socket.IPPROTO_TCP, socket.TCP_NODELAY, 1)
         self.file = self.socket.makefile("rb")
-        self.session, self.q = session, 0
+        self.session = session
         self.socket.sendall(UPGRADE)
         if b" 101 " not in self.file.readline():
             raise ConnectionError("no upgrade")
         while self.file.readline().strip():
             pass
-        self.say(m="hello")
-        self.welcome = self.hear()
 
     def __enter__(self):
         return self
@@ -139,6 +137,16 @@ class Client:
         if len(found) < count:
             raise ConnectionError("the connection ended")
         return found
+
+
+class Client(Connection):
+    """A connection with an open session."""
+
+    def __init__(self, port, session, patience=PATIENCE):
+        super().__init__(port, session, patience)
+        self.q = 0
+        self.say(m="hello")
+        self.welcome = self.hear()
 
     def ask(self, **message):
         """Sends the session's next message: what comes next, its answer where it listens to nothing."""

@@ -1,5 +1,6 @@
 """Runs a program again and again, and refuses another one of its allocations each time. Wants a C compiler, `cc`."""
 
+import contextlib
 import itertools
 import os
 import subprocess
@@ -8,14 +9,16 @@ import tempfile
 LIBRARY = r'''
 #define _GNU_SOURCE
 #include <dlfcn.h>
+#include <stdatomic.h>
 #include <stdlib.h>
 #include <unistd.h>
 
-static long calls, refused;
+static atomic_long calls;
+static long refused;
 
 static int refuses(void) {
     if (refused == 0) refused = atol(getenv("REFUSED") ? getenv("REFUSED") : "-1");
-    return ++calls == refused;
+    return atomic_fetch_add(&calls, 1) + 1 == refused;
 }
 
 void *malloc(size_t size) {
@@ -49,16 +52,31 @@ __attribute__((destructor)) static void last(void) {
 '''
 
 
-def runs(command, given=b""):
-    """For each allocation of the command its number, from 1 on, and the run in which it was refused."""
+# The status of a run that ended before the allocation that was to be refused.
+NONE_REFUSED = 77
+
+
+@contextlib.contextmanager
+def library():
+    """The library to load before a program, so that one of its allocations is refused."""
     with tempfile.TemporaryDirectory() as folder:
-        source, library = os.path.join(folder, "refuse.c"), os.path.join(folder, "refuse.so")
+        source, made = os.path.join(folder, "refuse.c"), os.path.join(folder, "refuse.so")
         with open(source, "w") as file:
             file.write(LIBRARY)
-        subprocess.run(["cc", "-O1", "-shared", "-fPIC", "-o", library, source, "-ldl"], check=True)
+        subprocess.run(["cc", "-O1", "-shared", "-fPIC", "-o", made, source, "-ldl"], check=True)
+        yield made
+
+
+def environment(made, number):
+    """The environment in which the allocation of this number is refused, from 1 on."""
+    return {"LD_PRELOAD": made, "REFUSED": str(number)}
+
+
+def runs(command, given=b""):
+    """For each allocation of the command its number, from 1 on, and the run in which it was refused."""
+    with library() as made:
         for number in itertools.count(1):
-            run = subprocess.run(command, input=given, capture_output=True,
-                                 env={"LD_PRELOAD": library, "REFUSED": str(number)})
-            if run.returncode == 77:
+            run = subprocess.run(command, input=given, capture_output=True, env=environment(made, number))
+            if run.returncode == NONE_REFUSED:
                 return
             yield number, run

@@ -201,7 +201,7 @@ class Generator:
         word = random.choice(list(TASTES["all"]))
         path = texts.bad_path(random) if random.random() < 0.4 else self._path()
         if word in ("answer", "abort"):
-            request = random.choice(["0", "1", "01", "+2", "7", "18446744073709551615"])
+            request = random.choice(["0", "1", "01", "2", "7", "18446744073709551615"])
             rest = "" if word == "abort" else " " + texts.bad_value(random)
             return f"{word} {request}{rest}"
         if word in ("set", "od-set"):
