@@ -1,7 +1,6 @@
-"""A server that runs over a file, and a client of it over a WebSocket, for scripts that look at both."""
+"""A server that runs over a file, and a client of it over a WebSocket, for bench/serve and bench/crash."""
 
 import contextlib
-import itertools
 import json
 import os
 import random
@@ -41,15 +40,12 @@ def raise_descriptors():
     resource.setrlimit(resource.RLIMIT_NOFILE, (most, most))
 
 
-# Ports below those that the system gives to clients: a client that tries a port of those over and over may be connected with
-# itself.
-PORTS = itertools.cycle(random.SystemRandom().sample(range(20000, 32000), 12000))
-
-
 def free_port():
-    """A port where nobody listens. It is another one each time, so that servers that start side by side don't meet at one."""
-    for port in PORTS:
+    """A port where nobody listens, below those that the system gives to clients: a client that tries a port of those
+    over and over may be connected with itself."""
+    while True:
         with socket.socket() as tried:
+            port = random.SystemRandom().randrange(20000, 32000)
             try:
                 tried.bind(("127.0.0.1", port))
                 return port
