@@ -1,11 +1,12 @@
 //! Stops: from some call on each call on one of the two files fails, and then the machine comes back,
 //! with what was synced alone or with all that was written. What is opened then has the batches
-//! that were committed, with or without the one at which it stopped.
+//! that were committed, with or without the one at which it stopped, or is no file of ours, where it
+//! was never answered that the tables were made.
 
 ghost use Rattle.std.specs.Prelude.{IsTrue};
 
-use crate::turns::{listed, turn};
-use crate::words::{refused, said};
+use crate::turns::{listed, step};
+use crate::words::{expect_text, refused, said};
 use pres_keeper::Keeper;
 use pres_saved::SqlKeeper;
 use sqlite::{Alter, Connection, FileStore, Files, Options};
@@ -13,11 +14,14 @@ use sqlite_disk::{Crash, Disk, Fuse, Memory};
 use std::alloc::Global;
 use std::process::Abort;
 
-// The turns of a run, each with its batch.
+// The turns of a run, each with its batch. The server stops behind the commit of the last one.
 const TURNS: &str =
     r#"1000 {"m":"hello","s":["alice",1,1]} => 1 1000 [{"e":"open","s":["alice",1,1]}]
-2000 {"m":"on","path":"/a","q":1,"s":["alice",1,1]} => 2 2000 [{"e":"on","path":"/a","q":1,"s":["alice",1,1]}]
-3000 {"m":"hello","s":["bob",1,1]} => 3 3000 [{"e":"open","s":["bob",1,1]}]"#;
+2000 {"m":"hello","s":["bob",1,1]} => 2 2000 [{"e":"open","s":["bob",1,1]}]
+stop 3000 {"m":"op","n":1,"op":{"op":"set","path":"/x","value":7},"q":1,"s":["bob",1,1]} => 3 3000 [{"e":"op","n":1,"op":{"op":"set","path":"/x","value":7},"out":{"wrote":[["/x",7]]},"q":1,"s":["bob",1,1]}]"#;
+
+// The first turn that writes is this one.
+const WRITES_AT: usize = 3;
 
 // How far a run came.
 #[derive(Clone, Copy)]
@@ -52,26 +56,58 @@ fn batches(rt: &impl Abort, alloc: Global, count: usize) -> String {
     text
 }
 
-// Makes the turns, up to the first that the keeper refuses, and reads them.
-fn kept<K: Keeper>(rt: &impl Abort, alloc: Global, keeper: &mut K) -> Ran {
-    let mut commits: usize = 0;
-    for line in TURNS.lines() {
-        let (case, _) = line.split_once(" => ").expect(rt, "a batch");
-        let text = turn(rt, alloc, keeper, case, false);
-        if text.as_str() == "Database" {
-            return Ran {
-                created: true,
-                commits,
-                stopped: true,
-            };
-        }
-        commits = commits.saturating_add(1);
+// What is to be found after so many commits: the batches, and the server that they make.
+fn wanted(rt: &impl Abort, alloc: Global, commits: usize) -> String {
+    let batches = batches(rt, alloc, commits);
+    let tree = if commits < WRITES_AT {
+        "null"
+    } else {
+        r#"{"x":7}"#
+    };
+    format!(in alloc; "{batches}; {commits} entries, {tree}").expect(rt, "memory")
+}
+
+// The batches, and the server that they make.
+fn read<K: Keeper>(rt: &impl Abort, alloc: Global, keeper: &mut K) -> String {
+    let batches = listed(rt, alloc, keeper);
+    let server = step(rt, alloc, keeper, "server");
+    format!(in alloc; "{batches}; {server}").expect(rt, "memory")
+}
+
+// Whether the keeper refuses to load the batches, which have to be so many.
+fn refuses_load<K: Keeper>(rt: &impl Abort, alloc: Global, keeper: &mut K, commits: usize) -> bool {
+    let text = read(rt, alloc, keeper);
+    if text.ends_with("Database") {
+        return true;
     }
-    let text = listed(rt, alloc, keeper);
-    Ran {
+    expect_text(rt, text, wanted(rt, alloc, commits).as_str());
+    false
+}
+
+// Makes the turns, up to the first that the keeper refuses, and then loads what is kept, as each of two
+// restarts does.
+fn kept<K: Keeper>(rt: &impl Abort, alloc: Global, keeper: &mut K) -> Ran {
+    let mut ran = Ran {
         created: true,
-        commits,
-        stopped: text.as_str() == "Database",
+        commits: 0,
+        stopped: true,
+    };
+    for line in TURNS.lines() {
+        let (turn, _) = line.split_once(" => ").expect(rt, "a batch");
+        let text = step(rt, alloc, keeper, turn);
+        if text.as_str() == "Database" {
+            return ran;
+        }
+        ran.commits = ran.commits.saturating_add(1);
+    }
+    for _ in 0..2 {
+        if refuses_load(rt, alloc, keeper, ran.commits) {
+            return ran;
+        }
+    }
+    Ran {
+        stopped: false,
+        ..ran
     }
 }
 
@@ -133,19 +169,6 @@ fn left<D: Disk + Drop>(rt: &impl Abort, alloc: Global, files: Files<D>) -> (Fil
             closed(connection, ran)
         }
         Err(files) => (files, NOT_OPENED),
-    }
-}
-
-// The batches and how many entries their server has.
-fn read<K: Keeper>(rt: &impl Abort, alloc: Global, keeper: &mut K) -> String {
-    let text = listed(rt, alloc, keeper);
-    match keeper.server() {
-        Ok(server) => {
-            let number = server.number();
-            drop(server);
-            format!(in alloc; "{text}, server {number}").expect(rt, "memory")
-        }
-        Err(fault) => refused(rt, alloc, fault),
     }
 }
 
@@ -212,12 +235,6 @@ fn one(rt: &impl Abort, alloc: Global, calls: (u64, u64), loses: bool) -> (Strin
     }
     let files = with_all_written(rt, alloc, &files);
     (reopened(rt, alloc, files), ran)
-}
-
-// What is to be found after so many commits.
-fn wanted(rt: &impl Abort, alloc: Global, commits: usize) -> String {
-    let batches = batches(rt, alloc, commits);
-    format!(in alloc; "{batches}, server {commits}").expect(rt, "memory")
 }
 
 // Whether what was found after a run is right, in a word.
