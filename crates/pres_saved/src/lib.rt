@@ -1,8 +1,11 @@
-//! A keeper whose batches are rows of a SQLite database, of which a server is made again.
+//! A keeper whose batches are rows of a SQLite database, of which a server is made again, and one that
+//! tells what became of each commit.
 #![tactic(auto)]
 
 mod sql;
 mod taker;
+mod watch;
 
 pub use pres_keeper::{Keeper, SavedFault};
 pub use sql::SqlKeeper;
+pub use watch::{Commit, Watch, Watched};

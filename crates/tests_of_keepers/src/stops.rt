@@ -7,11 +7,12 @@ ghost use Rattle.std.specs.Prelude.{IsTrue};
 use crate::turns::{listed, turn};
 use crate::words::{refused, said};
 use pres_keeper::Keeper;
-use pres_saved::SqlKeeper;
+use pres_saved::{Commit, SqlKeeper, Watch, Watched};
 use sqlite::{Alter, Connection, FileStore, Files, Options};
 use sqlite_disk::{Crash, Disk, Fuse, Memory};
 use std::alloc::Global;
 use std::process::Abort;
+use std::sync::atomic::{AtomicUsize, Ordering};
 
 // The turns of a run, each with its batch.
 const TURNS: &str =
@@ -293,4 +294,97 @@ fn stops_of_the_database_leave_what_was_committed(rt: HostRuntime) {
         let seen = stops(&rt, rt.alloc(), false, loses);
         assert!(rt; seen.none > 0 && seen.without > 0);
     }
+}
+
+// How often a watch was told of each.
+#[derive(Drop)]
+struct Told {
+    taken: AtomicUsize,
+    refused: AtomicUsize,
+    shut: AtomicUsize,
+}
+
+// Counts what it is told.
+#[derive(Drop)]
+struct Counting<'a> {
+    told: &'a Told,
+}
+
+impl Watch for Counting<'_> {
+    fn note(&self, commit: Commit) {
+        let count = match commit {
+            Commit::Taken => &self.told.taken,
+            Commit::Refused => &self.told.refused,
+            Commit::Shut => &self.told.shut,
+        };
+        count.fetch_add(1, Ordering::SeqCst);
+    }
+}
+
+// A run over a keeper that is watched.
+fn watched<S: Alter + Drop>(
+    rt: &impl Abort,
+    alloc: Global,
+    connection: Connection<S>,
+    told: &Told,
+) -> Ran {
+    if !connection.is_autocommit() {
+        panic!(rt; "a transaction is open");
+    }
+    match SqlKeeper::create(alloc, connection) {
+        Ok(keeper) => {
+            let mut keeper = Watched::new(keeper, Counting { told });
+            let ran = kept(rt, alloc, &mut keeper);
+            drop(keeper);
+            ran
+        }
+        Err((_, connection)) => {
+            drop(connection);
+            NOT_OPENED
+        }
+    }
+}
+
+// What a run came to whose log fails after so many calls, and how often its watch was told that commits
+// were taken, refused, and refused by a store that was shut.
+fn told_of(rt: &impl Abort, alloc: Global, calls: u64) -> (Ran, [usize; 3]) {
+    let told = Told {
+        taken: AtomicUsize::new(0),
+        refused: AtomicUsize::new(0),
+        shut: AtomicUsize::new(0),
+    };
+    let files = Files {
+        log: Fuse::new(Memory::new(alloc), calls),
+        db: Fuse::new(Memory::new(alloc), u64::MAX),
+    };
+    let ran = match opened(alloc, files) {
+        Ok(connection) => watched(rt, alloc, connection, &told),
+        Err(files) => {
+            drop(files);
+            NOT_OPENED
+        }
+    };
+    let counts = [
+        told.taken.load(Ordering::SeqCst),
+        told.refused.load(Ordering::SeqCst),
+        told.shut.load(Ordering::SeqCst),
+    ];
+    (ran, counts)
+}
+
+// Each commit is told once, and where a sync of the log failed, that the store was shut.
+#[test]
+fn each_commit_is_told(rt: HostRuntime) {
+    let mut all_shut: usize = 0;
+    for number in 0..1000 {
+        let (ran, [taken, refused, shut]) = told_of(&rt, rt.alloc(), number);
+        let refusals = refused.saturating_add(shut);
+        all_shut = all_shut.saturating_add(shut);
+        assert!(rt; taken == ran.commits && refusals <= 1);
+        if !ran.stopped {
+            assert!(rt; refusals == 0 && all_shut > 0);
+            return;
+        }
+    }
+    panic!(rt; "no run without a stop")
 }
