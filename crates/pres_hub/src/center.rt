@@ -18,9 +18,6 @@ ghost use Rattle.pres_hub.specs.Cores.{Stands, end_by};
 ghost use Rattle.pres_hub.specs.Said.{IsCarriedOut, IsOpened, IsKeptBack, IsAbreast, accepted_of, IsOwnMessage, IsHeard, IsRefused, IsNotHeard, IsNotOpened, IsRefusedEnd, IsMarked, NoneMarked, AreMarkedEnded, AreLateEnded, IsTicked, StopsAtMark, IsNotTicked};
 ghost use Rattle.pres_seats.specs.declared.fault.HubFault.TheVariants.{Down as Gone, Memory};
 
-#[cfg(test)]
-mod tests;
-
 use pres_exchange::{
     Bell, Count, Exchange, Fault, Input, Keeper, Moment, Outbox, Server, SessionId, Up, Why,
 };
