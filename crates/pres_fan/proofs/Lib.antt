@@ -1,10 +1,10 @@
 pub mod Orders
 pub mod Lists
 pub mod Places
-pub mod Searches
+pub mod Ordered
+pub mod Levels
 pub mod Members
 pub mod Sets
-pub mod Gone
 pub mod Rows
-pub mod Probed
+pub mod Walks
 pub mod Held

@@ -1,11 +1,11 @@
 -- Filters over filters, and keys put into lists in order.
-use Rattle.std.proofs.Common.{refl, sym, ◌∙◌, ap, ◌≡◌, suc, List, [], ◌∷◌, length, map, filter, Bool, true, false, cond, ◌||◌, true≢false, Ordering, Less, Equal, Greater, is_eq, ◌⊎◌, inl, inr}
+use Rattle.std.proofs.Common.{refl, sym, ◌∙◌, ap, ◌≡◌, suc, List, [], ◌∷◌, length, map, filter, Bool, true, false, cond, ◌||◌, ◌&&◌, true≢false, Ordering, Less, Equal, Greater, is_eq, ◌⊎◌, inl, inr}
 use Rattle.std.specs.List.{list_any, AllByRecursion}
 use Rattle.std.specs.List.Sorted.{IsStrictlySortedBy}
 use Rattle.std.specs.BTreeSet.{insert_key}
-use Rattle.std.specs.Cmp.{IsTotalOrder, tied_itself}
-use Rattle.std.specs.Ordering.{match_ordering}
-use Rattle.std.proofs.lemmas.Bool.{or_cases, or_parts}
+use Rattle.std.specs.Cmp.{IsTotalOrder, tied_itself, both_ways}
+use Rattle.std.specs.Ordering.{match_ordering, ordering_reverse}
+use Rattle.std.proofs.lemmas.Bool.{or_cases, or_parts, or_left, or_right}
 use Rattle.std.proofs.lemmas.Map.Keys.{sorted_head, sorted_tail}
 
 module _ {A : Type 0} where
@@ -151,3 +151,76 @@ module _ {A : Type 0} where
           rest : (same k x ≡ true) ⊎ (list_any (same k) xs ≡ true) → list_any (same k) xs ≡ true
           rest (inl e) = absurd (true≢false (ap is_eq (sym (tied e) ∙ o)))
           rest (inr e) = e
+
+module _ {A : Type 0} (cmp : A → A → Ordering) (k : A) (p : A → Bool) where
+  -- what is there stays
+  pub put_keeps : (xs : List A) → list_any p xs ≡ true → list_any p (insert_key cmp xs k) ≡ true
+  put_keeps [] h = absurd (true≢false (sym h))
+  put_keeps (x ∷ xs) h = by (cmp k x) (put_keeps xs) where
+    by : (o : Ordering) → (list_any p xs ≡ true → list_any p (insert_key cmp xs k) ≡ true) → list_any p (match_ordering o (k ∷ x ∷ xs) (x ∷ xs) (x ∷ insert_key cmp xs k)) ≡ true
+    by Less f = or_right (p k) (list_any p (x ∷ xs)) h
+    by Equal f = h
+    by Greater f = later (or_cases (p x) (list_any p xs) h) where
+      later : (p x ≡ true) ⊎ (list_any p xs ≡ true) → (p x || list_any p (insert_key cmp xs k)) ≡ true
+      later (inl e) = ap (λ b. b || list_any p (insert_key cmp xs k)) e
+      later (inr e) = or_right (p x) _ (f e)
+
+  -- the key is there
+  pub put_has : p k ≡ true → ((x : A) → cmp k x ≡ Equal → p x ≡ true) → (xs : List A) → list_any p (insert_key cmp xs k) ≡ true
+  put_has e ties [] = ap (λ b. b || false) e
+  put_has e ties (x ∷ xs) = by (cmp k x) refl (put_has e ties xs) where
+    by : (o : Ordering) → cmp k x ≡ o → list_any p (insert_key cmp xs k) ≡ true → list_any p (match_ordering o (k ∷ x ∷ xs) (x ∷ xs) (x ∷ insert_key cmp xs k)) ≡ true
+    by Less o h = ap (λ b. b || list_any p (x ∷ xs)) e
+    by Equal o h = ap (λ b. b || list_any p xs) (ties x o)
+    by Greater o h = or_right (p x) _ h
+
+  pub put_only : (xs : List A) → list_any p (insert_key cmp xs k) ≡ true → (p k || list_any p xs) ≡ true
+  put_only [] h = h
+  put_only (x ∷ xs) h = by (cmp k x) h (put_only xs) where
+    later : (p x ≡ true) ⊎ (list_any p (insert_key cmp xs k) ≡ true) → (list_any p (insert_key cmp xs k) ≡ true → (p k || list_any p xs) ≡ true) → (p k || (p x || list_any p xs)) ≡ true
+    later (inl e) f = or_right (p k) _ (or_left (p x) _ e)
+    later (inr e) f = last (or_cases (p k) (list_any p xs) (f e)) where
+      last : (p k ≡ true) ⊎ (list_any p xs ≡ true) → (p k || (p x || list_any p xs)) ≡ true
+      last (inl t) = or_left (p k) _ t
+      last (inr t) = or_right (p k) _ (or_right (p x) _ t)
+
+    by : (o : Ordering) → list_any p (match_ordering o (k ∷ x ∷ xs) (x ∷ xs) (x ∷ insert_key cmp xs k)) ≡ true → (list_any p (insert_key cmp xs k) ≡ true → (p k || list_any p xs) ≡ true) → (p k || (p x || list_any p xs)) ≡ true
+    by Less e f = e
+    by Equal e f = or_right (p k) _ e
+    by Greater e f = later (or_cases (p x) (list_any p (insert_key cmp xs k)) e) f
+
+  -- what the test is of the key and of what is there, it is with the key put in
+  pub any_with : ((x : A) → cmp k x ≡ Equal → p k ≡ true → p x ≡ true) → (xs : List A) → list_any p (insert_key cmp xs k) ≡ (p k || list_any p xs)
+  any_with ties xs = both_ways _ _ (put_only xs) (λ h. by (or_cases (p k) (list_any p xs) h)) where
+    by : (p k ≡ true) ⊎ (list_any p xs ≡ true) → list_any p (insert_key cmp xs k) ≡ true
+    by (inl e) = put_has e (λ x t. ties x t e) xs
+    by (inr e) = put_keeps xs e
+
+pub all_put : {A : Type 0} (cmp : A → A → Ordering) (P : A → Type 0) (k : A) → P k → (xs : List A) → AllByRecursion P xs → AllByRecursion P (insert_key cmp xs k)
+all_put cmp P k one [] a = (one, tt)
+all_put {A} cmp P k one (x ∷ xs) a = by (cmp k x) (all_put cmp P k one xs a.1) where
+  by : (o : Ordering) → AllByRecursion P (insert_key cmp xs k) → AllByRecursion P (match_ordering o (k ∷ x ∷ xs) (x ∷ xs) (x ∷ insert_key cmp xs k))
+  by Less h = (one, a)
+  by Equal h = a
+  by Greater h = (a.0, h)
+
+-- a key put into a list in order leaves it in order
+pub put_rises : {A : Type 0} (cmp : A → A → Ordering) → IsTotalOrder cmp → (k : A) (xs : List A) → IsStrictlySortedBy cmp xs → IsStrictlySortedBy cmp (insert_key cmp xs k)
+unfolding IsStrictlySortedBy
+put_rises cmp total k [] o = (tt, tt)
+put_rises cmp total k (x ∷ xs) o = by (cmp k x) refl (put_rises cmp total k xs (sorted_tail cmp x xs o)) where
+  by : (c : Ordering) → cmp k x ≡ c → IsStrictlySortedBy cmp (insert_key cmp xs k) → IsStrictlySortedBy cmp (match_ordering c (k ∷ x ∷ xs) (x ∷ xs) (x ∷ insert_key cmp xs k))
+  by Less c h = ((c, all_then (λ y. cmp x y ≡ Less) (λ y. cmp k y ≡ Less) (λ y e. total.trans k x y c e) xs (sorted_head cmp x xs o)), o)
+  by Equal c h = o
+  by Greater c h = (all_put cmp (λ y. cmp x y ≡ Less) k (total.antisymm x k ∙ ap ordering_reverse c) xs (sorted_head cmp x xs o), h)
+
+-- a test that tells nothing apart that q passes is a test of those behind the filter
+pub any_filtered : {A : Type 0} (q p : A → Bool) (b : Bool) → ((x : A) → q x ≡ true → p x ≡ b) → (xs : List A) → list_any q (filter p xs) ≡ (b && list_any q xs)
+any_filtered q p true f [] = refl
+any_filtered q p false f [] = refl
+any_filtered q p b f (x ∷ xs) = by (p x) refl (q x) refl (any_filtered q p b f xs) where
+  by : (d : Bool) → p x ≡ d → (c : Bool) → q x ≡ c → list_any q (filter p xs) ≡ (b && list_any q xs) → list_any q (cond d (x ∷ filter p xs) (filter p xs)) ≡ (b && (c || list_any q xs))
+  by true e true k h = ap (λ c. c || list_any q (filter p xs)) k ∙ sym (ap (λ c. c && true) (sym (f x k) ∙ e))
+  by true e false k h = ap (λ c. c || list_any q (filter p xs)) k ∙ h
+  by false e true k h = let out = sym (f x k) ∙ e in h ∙ ap (λ c. c && list_any q xs) out ∙ sym (ap (λ c. c && true) out)
+  by false e false k h = h

@@ -1,27 +1,22 @@
--- Listeners that are members of lists in order, and their places.
-use Rattle.std.proofs.Common.{refl, sym, ◌∙◌, ap, subst, ◌≡◌, arith, length, List, [], ◌∷◌, filter, Bool, true, false, not, cond, ◌||◌, true≢false, Option, Some, None, Ordering, Less, Equal, Greater, is_eq, is_lt, ◌⊎◌, inl, inr}
+-- Listeners that are members of lists in order.
+use Rattle.std.proofs.Common.{refl, sym, ◌∙◌, ap, subst, ◌≡◌, arith, length, List, [], ◌∷◌, ◌++◌, filter, Bool, true, false, not, cond, ◌||◌, true≢false, Ordering, Less, Equal, Greater, is_eq, is_lt, ◌⊎◌, inl, inr}
 use Rattle.std.specs.List.{list_any, AllByRecursion, dedup, dedup_from}
 use Rattle.std.specs.List.Sorted.{IsPermutation, IsSorted, IsStrictlySortedBy}
-use Rattle.std.specs.BTreeMap.{is_at}
 use Rattle.std.specs.BTreeSet.{insert_key}
-use Rattle.std.specs.Option.{option_cmp}
-use Rattle.std.specs.Ordering.{match_ordering, ordering_then, ordering_reverse}
+use Rattle.std.specs.Ordering.{ordering_reverse}
 use Rattle.std.specs.Cmp.{tied_itself, both_ways}
-use Rattle.std.proofs.lemmas.Bool.{or_cases, or_parts, or_left, or_right, false_from_ne_true}
+use Rattle.std.proofs.lemmas.Bool.{or_cases, or_parts, or_left, or_right}
+use Rattle.std.proofs.lemmas.List.Folds.{list_any-append}
 use Rattle.std.proofs.lemmas.List.Kept.{IsStrictlySortedBy-filter, IsStrictlySortedBy-dedup}
 use Rattle.std.proofs.lemmas.List.Sorted.{list_any-IsPermutation}
 use Rattle.std.proofs.lemmas.Map.Keys.{sorted_head, sorted_tail}
-use Rattle.pres_tree.specs.Paths.{path_cmp}
-use Rattle.pres_tree.specs.Falls.{path_total, path_same as path_apart}
 use Rattle.pres_write.specs.Basics.{BasicWrite}
-use Rattle.pres_ids.specs.declared.id.SessionId.{SessionId}
 use Rattle.pres_fan.specs.declared.listeners.Listener.{Listener}
-use Rattle.pres_fan.specs.declared.index.Place.{Place}
-use Rattle.pres_fan.specs.Listeners.{session_cmp, listener_cmp, same_listener, listener_of, is_touched, IsListeners}
-use Rattle.pres_fan.specs.Places.{place_cmp, is_place_of, HavePlaces, AreListened, ArePlacesOf}
-use Rattle.pres_fan.proofs.Orders.{then_ties, session_total, session_apart, listener_total, listener_apart, listener_same, listener_itself}
-use Rattle.pres_fan.proofs.Lists.{passes, all_filtered, all_then, all_both, filter_all, filter_put_other, any_under}
-use Rattle.pres_fan.proofs.Searches.{tie, put_keeps, put_has, placed, not_placed, FindsTouched}
+use Rattle.pres_fan.specs.declared.level.Level.{Level}
+use Rattle.pres_fan.specs.Levels.{heard, AreHeard}
+use Rattle.pres_fan.specs.Listeners.{listener_cmp, same_listener, is_touched, IsListeners}
+use Rattle.pres_fan.proofs.Orders.{listener_total, listener_apart, listener_same, listener_itself}
+use Rattle.pres_fan.proofs.Lists.{passes, filter_all, filter_put_other, any_under}
 
 -- ---- two lists of listeners in order with the same members are one
 
@@ -68,100 +63,18 @@ same_members (x ∷ xs) (y ∷ ys) sx sy f g =
     let rest = same_members xs ys (sorted_tail listener_cmp x xs sx) (sorted_tail listener_cmp y ys sy) (in_tail x y xs ys is sx f) (in_tail y x ys xs (sym is) sy g) in
     λ i. is i ∷ rest i
 
--- ---- each listener has its place
+-- ---- one listener more
 
-pub place_apart : (x y : Place) → place_cmp x y ≡ Equal → x ≡ y
-place_apart x y e =
-    let a = then_ties (path_cmp x.path y.path) _ e in
-    let p = path_apart x.path y.path a.0 in
-    let s = by x.session y.session a.1 in
-    λ i. record { path = p i; session = s i }
-  where
-    by : (a b : Option SessionId) → option_cmp session_cmp a b ≡ Equal → a ≡ b
-    by None None h = refl
-    by None (Some t) h = absurd (true≢false (sym (ap is_eq h)))
-    by (Some s) None h = absurd (true≢false (sym (ap is_eq h)))
-    by (Some s) (Some t) h = ap (λ u. Some u) (session_apart s t h)
+-- one listener more at the end
+pub keeps_listener : (k l : Listener) (ls : List Listener) → list_any (same_listener l) ls ≡ true → list_any (same_listener l) (ls ++ k ∷ []) ≡ true
+keeps_listener k l ls h = list_any-append (same_listener l) ls (k ∷ []) ∙ or_left _ _ h
 
-any_then : {A : Type 0} (p q : A → Bool) → ((x : A) → p x ≡ true → q x ≡ true) → (xs : List A) → list_any p xs ≡ true → list_any q xs ≡ true
-any_then p q f [] h = h
-any_then p q f (l ∷ ls) h = by (or_cases (p l) (list_any p ls) h) (any_then p q f ls) where
-  by : (p l ≡ true) ⊎ (list_any p ls ≡ true) → (list_any p ls ≡ true → list_any q ls ≡ true) → (q l || list_any q ls) ≡ true
-  by (inl e) g = or_left (q l) _ (f l e)
-  by (inr e) g = or_right (q l) _ (g e)
+pub has_listener : (k : Listener) (ls : List Listener) → list_any (same_listener k) (ls ++ k ∷ []) ≡ true
+has_listener k ls = list_any-append (same_listener k) ls (k ∷ []) ∙ or_right (list_any (same_listener k) ls) _ (or_left (same_listener k k) false (listener_itself k))
 
--- a listener has one place
-pub same_place : (k : Listener) (x y : Place) → is_place_of k x ≡ true → is_place_of k y ≡ true → x ≡ y
-same_place k x y e f = by x.session y.session refl refl where
-  by : (a b : Option SessionId) → x.session ≡ a → y.session ≡ b → x ≡ y
-  by None b h g = absurd (true≢false (not_placed k x h e))
-  by (Some s) None h g = absurd (true≢false (not_placed k y g f))
-  by (Some s) (Some t) h g =
-      let is : listener_of s x.path ≡ listener_of t y.path = placed k x s h e ∙ sym (placed k y t g f) in
-      let sessions : x.session ≡ y.session = h ∙ ap (λ l. Some l.session) is ∙ sym g in
-      λ i. record { path = (is i).path; session = sessions i }
-
-pub place_tied : (x : Place) → place_cmp x x ≡ Equal
-place_tied x = ap (λ o. ordering_then o (option_cmp session_cmp x.session x.session)) (tied_itself path_total x.path) ∙ by x.session where
-  by : (o : Option SessionId) → option_cmp session_cmp o o ≡ Equal
-  by None = refl
-  by (Some s) = tied_itself session_total s
-
--- whose place is not there does not listen
-pub new_listener : (k : Listener) (x : Place) (ls : List Listener) (ps : List Place) → is_place_of k x ≡ true → HavePlaces ls ps → list_any (is_at (place_cmp x)) ps ≡ false → list_any (same_listener k) ls ≡ false
-new_listener k x ls ps e h none =
-    false_from_ne_true _ (λ t. true≢false (sym (any_then (is_place_of k) (is_at (place_cmp x)) (λ y f. ap is_eq (ap (place_cmp x) (sym (same_place k x y e f)) ∙ place_tied x)) ps
-    (all_any (λ l. list_any (is_place_of l) ps ≡ true) k ls h t)) ∙ none))
-
--- one place more
-pub have_more : (x : Place) (ls : List Listener) (ps : List Place) → HavePlaces ls ps → HavePlaces ls (insert_key place_cmp ps x)
-have_more x ls ps h = all_then (λ l. list_any (is_place_of l) ps ≡ true) (λ l. list_any (is_place_of l) (insert_key place_cmp ps x) ≡ true) (λ l e. put_keeps place_cmp x (is_place_of l) ps e) ls h
-
-pub has_place : (l : Listener) (x : Place) (ps : List Place) → is_place_of l x ≡ true → list_any (is_place_of l) (insert_key place_cmp ps x) ≡ true
-has_place l x ps e = put_has place_cmp x (is_place_of l) e (λ y k. ap (is_place_of l) (sym (place_apart x y k)) ∙ e) ps
-
-pub all_put : {A : Type 0} (cmp : A → A → Ordering) (P : A → Type 0) (k : A) → P k → (xs : List A) → AllByRecursion P xs → AllByRecursion P (insert_key cmp xs k)
-all_put cmp P k one [] a = (one, tt)
-all_put {A} cmp P k one (x ∷ xs) a = by (cmp k x) (all_put cmp P k one xs a.1) where
-  by : (o : Ordering) → AllByRecursion P (insert_key cmp xs k) → AllByRecursion P (match_ordering o (k ∷ x ∷ xs) (x ∷ xs) (x ∷ insert_key cmp xs k))
-  by Less h = (one, a)
-  by Equal h = a
-  by Greater h = (a.0, h)
-
--- one listener more, whose place is there
-pub have_with : (k : Listener) (ls : List Listener) (ps : List Place) → list_any (is_place_of k) ps ≡ true → HavePlaces ls ps → HavePlaces (insert_key listener_cmp ls k) ps
-have_with k ls ps one h = all_put listener_cmp (λ l. list_any (is_place_of l) ps ≡ true) k one ls h
-
--- fewer of both, where no place of one who stays is gone
-pub have_fewer : (p : Listener → Bool) (q : Place → Bool) → ((l : Listener) (x : Place) → p l ≡ true → is_place_of l x ≡ true → q x ≡ true) →
-    (ls : List Listener) (ps : List Place) → HavePlaces ls ps → HavePlaces (filter p ls) (filter q ps)
-have_fewer p q stays ls ps h =
-    all_both (λ l. list_any (is_place_of l) ps ≡ true) (λ l. p l ≡ true) (λ l. list_any (is_place_of l) (filter q ps) ≡ true)
-    (λ l e k. any_under (is_place_of l) q (λ x. stays l x k) ps ∙ e) (filter p ls)
-    (all_filtered (λ l. list_any (is_place_of l) ps ≡ true) p ls h) (passes p ls)
-
--- a place is of one listener at most
-pub one_of : (k l : Listener) (x : Place) → is_place_of k x ≡ true → is_place_of l x ≡ true → k ≡ l
-one_of k l x e f = by x.session refl where
-  by : (o : Option SessionId) → x.session ≡ o → k ≡ l
-  by None h = absurd (true≢false (not_placed k x h e))
-  by (Some s) h = sym (placed k x s h e) ∙ placed l x s h f
-
--- who listens on keeps the place where one listener goes
-pub off_stays : (k l : Listener) (x : Place) → not (same_listener k l) ≡ true → is_place_of l x ≡ true → not (is_place_of k x) ≡ true
-off_stays k l x h e = elim (is_place_of k x) as (λ b. is_place_of k x ≡ b → not b ≡ true) [
-  | true ↦ λ f. absurd (true≢false (sym h ∙ ap (λ m. not (same_listener k m)) (sym (one_of k l x f e)) ∙ ap not (listener_itself k)))
-  | false ↦ λ f. refl
-] refl
-
--- ---- each place is a listener's
-
--- one place more, and its listener
-pub are_with : (k : Listener) (x : Place) (ls : List Listener) (ps : List Place) → is_place_of k x ≡ true → AreListened ps ls → AreListened (insert_key place_cmp ps x) (insert_key listener_cmp ls k)
-are_with k x ls ps e h =
-    all_put place_cmp (λ y. list_any (λ l. is_place_of l y) (insert_key listener_cmp ls k) ≡ true) x
-    (put_has listener_cmp k (λ l. is_place_of l x) e (λ y t. ap (λ m. is_place_of m x) (sym (listener_apart k y t)) ∙ e) ls) ps
-    (all_then (λ y. list_any (λ l. is_place_of l y) ls ≡ true) (λ y. list_any (λ l. is_place_of l y) (insert_key listener_cmp ls k) ≡ true) (λ y f. put_keeps listener_cmp k (λ l. is_place_of l y) ls f) ps h)
+pub all_behind : (P : Listener → Type 0) (k : Listener) (ls : List Listener) → AllByRecursion P ls → P k → AllByRecursion P (ls ++ k ∷ [])
+all_behind P k [] a one = (one, tt)
+all_behind P k (l ∷ ls) a one = (a.0, all_behind P k ls a.1 one)
 
 pub none_same : (k : Listener) (ls : List Listener) → list_any (same_listener k) ls ≡ false → AllByRecursion (λ l. not (same_listener k l) ≡ true) ls
 none_same k [] h = tt
@@ -171,27 +84,10 @@ none_same k (l ∷ ls) h = let each = or_parts (same_listener k l) _ h in (ap no
 pub taken_back : (k : Listener) (ls : List Listener) → list_any (same_listener k) ls ≡ false → filter (λ l. not (same_listener k l)) (insert_key listener_cmp ls k) ≡ ls
 taken_back k ls new = filter_put_other listener_cmp k (λ l. not (same_listener k l)) (ap not (listener_itself k)) ls ∙ filter_all (λ l. not (same_listener k l)) ls (none_same k ls new)
 
--- fewer of both, where nobody goes whose place stays
-pub are_fewer : (p : Listener → Bool) (q : Place → Bool) → ((l : Listener) (x : Place) → q x ≡ true → is_place_of l x ≡ true → p l ≡ true) →
-    (ls : List Listener) (ps : List Place) → AreListened ps ls → AreListened (filter q ps) (filter p ls)
-are_fewer p q stays ls ps h =
-    all_both (λ x. list_any (λ l. is_place_of l x) ls ≡ true) (λ x. q x ≡ true) (λ x. list_any (λ l. is_place_of l x) (filter p ls) ≡ true)
-    (λ x e k. any_under (λ l. is_place_of l x) p (λ l f. stays l x k f) ls ∙ e) (filter q ps)
-    (all_filtered (λ x. list_any (λ l. is_place_of l x) ls ≡ true) q ps h) (passes q ps)
-
-pub off_goes : (k l : Listener) (x : Place) → not (is_place_of k x) ≡ true → is_place_of l x ≡ true → not (same_listener k l) ≡ true
-off_goes k l x h e = elim (same_listener k l) as (λ b. same_listener k l ≡ b → not b ≡ true) [
-  | true ↦ λ f. absurd (true≢false (sym h ∙ ap (λ m. not (is_place_of m x)) (listener_same k l f) ∙ ap not e))
-  | false ↦ λ f. refl
-] refl
-
--- whose place is there listens
-listens : (l : Listener) (ls : List Listener) (ps : List Place) → AreListened ps ls → list_any (is_place_of l) ps ≡ true → list_any (same_listener l) ls ≡ true
-listens l ls [] a h = absurd (true≢false (sym h))
-listens l ls (x ∷ ps) a h = by (or_cases (is_place_of l x) (list_any (is_place_of l) ps) h) (listens l ls ps a.1) where
-  by : (is_place_of l x ≡ true) ⊎ (list_any (is_place_of l) ps ≡ true) → (list_any (is_place_of l) ps ≡ true → list_any (same_listener l) ls ≡ true) → list_any (same_listener l) ls ≡ true
-  by (inl e) f = any_then (λ m. is_place_of m x) (same_listener l) (λ m g. ap (same_listener l) (sym (one_of l m x e g)) ∙ listener_itself l) ls a.0
-  by (inr e) f = f e
+pub tie : (o : Ordering) → is_eq o ≡ true → o ≡ Equal
+tie Less h = absurd (true≢false (sym h))
+tie Equal h = refl
+tie Greater h = absurd (true≢false (sym h))
 
 -- ---- those found are all that writes touch
 
@@ -211,13 +107,15 @@ of_filter p l ls h = (all_any (λ m. p m ≡ true) l (filter p ls) (passes p ls)
     by true e f = later (or_cases (same_listener l m) (list_any (same_listener l) (filter p ms)) e) f
     by false e f = or_right (same_listener l m) _ (f e)
 
-pub found_touched : (writes : List BasicWrite) (ls found : List Listener) (ps : List Place) → IsListeners ls → ArePlacesOf ls ps → IsStrictlySortedBy listener_cmp found → FindsTouched writes ps found →
-    ((l : Listener) → list_any (same_listener l) found ≡ true → (is_touched writes l.path ≡ true) × (list_any (is_place_of l) ps ≡ true)) →
+-- those found, each once and in order, where they are the listeners whose paths the writes touch
+pub found_touched : (writes : List BasicWrite) (ls found : List Listener) (root : Level) → IsListeners ls → AreHeard ls root → IsStrictlySortedBy listener_cmp found →
+    ((l : Listener) → is_touched writes l.path ≡ true → heard l.path l.session root ≡ true → list_any (same_listener l) found ≡ true) →
+    ((l : Listener) → list_any (same_listener l) found ≡ true → (is_touched writes l.path ≡ true) × (heard l.path l.session root ≡ true)) →
     found ≡ filter (λ l. is_touched writes l.path) ls
-found_touched writes ls found ps held are sorted finds only =
+found_touched writes ls found root held are sorted finds only =
     same_members found (filter touches ls) sorted (IsStrictlySortedBy-filter listener_cmp touches ls held.ordered)
-    (λ l h. let is = only l h in in_filter touches l ls is.0 (listens l ls ps are.1 is.1))
-    (λ l h. let is = of_filter touches l ls h in finds l is.0 (all_any (λ k. list_any (is_place_of k) ps ≡ true) l ls are.0 is.1))
+    (λ l h. let is = only l h in in_filter touches l ls is.0 (sym (are.heard_where l.path l.session) ∙ is.1))
+    (λ l h. let is = of_filter touches l ls h in finds l is.0 (are.heard_where l.path l.session ∙ is.1))
   where
     touches : Listener → Bool
     touches l = is_touched writes l.path

@@ -1,14 +1,13 @@
 -- The paths of each session, in a map, and the list of listeners that they are.
-use Rattle.std.proofs.Common.{refl, sym, ◌∙◌, ap, subst, ◌≡◌, List, [], ◌∷◌, ◌++◌, map, filter, Bool, true, false, not, cond, ◌||◌, ◌&&◌, Option, Some, None, Ordering, Less, Equal, Greater, is_eq, ◌⊎◌, inl, inr}
+use Rattle.std.proofs.Common.{refl, sym, ◌∙◌, ap, subst, ◌≡◌, List, [], ◌∷◌, ◌++◌, map, filter, Bool, true, false, not, cond, ◌||◌, ◌&&◌, Option, Some, None, Less, is_eq}
 use Rattle.std.specs.List.{list_any, All, AllByRecursion}
 use Rattle.std.specs.List.Sorted.{IsStrictlySortedBy}
 use Rattle.std.specs.Map.{keys_of, values_of, lookup, set_value, remove_entry}
 use Rattle.std.specs.BTreeMap.{is_at, insert_entry}
 use Rattle.std.specs.BTreeSet.{BTreeSet, insert_key}
 use Rattle.std.specs.Cmp.{tied_itself, both_ways}
-use Rattle.std.specs.Ordering.{match_ordering, ordering_then, ordering_reverse}
+use Rattle.std.specs.Ordering.{ordering_then}
 use Rattle.std.proofs.Math.Bool.{or-false}
-use Rattle.std.proofs.lemmas.Bool.{or_cases, or_left, or_right, and_parts, and_from}
 use Rattle.std.proofs.lemmas.List.{append-nil, map-append}
 use Rattle.std.proofs.lemmas.List.Elements.{All-head, All-tail, filter-append}
 use Rattle.std.proofs.lemmas.List.Folds.{list_any-append}
@@ -23,9 +22,8 @@ use Rattle.pres_fan.specs.declared.listeners.Listener.{Listener}
 use Rattle.pres_fan.specs.Listeners.{session_cmp, listener_cmp, same_listener, listener_of, paths_of, with_listener, without, without_session}
 use Rattle.pres_fan.specs.Sets.{Sets, keys_in, listeners_in, AreInOrder}
 use Rattle.pres_fan.proofs.Orders.{session_total, session_same, same_by_cmp, listener_total, listener_apart, listener_same, listener_itself}
-use Rattle.pres_fan.proofs.Lists.{all_then}
-use Rattle.pres_fan.proofs.Searches.{put_keeps, put_has}
-use Rattle.pres_fan.proofs.Members.{same_members, in_filter, of_filter, all_put, none_ordered}
+use Rattle.pres_fan.proofs.Lists.{all_then, any_with, put_rises, any_filtered}
+use Rattle.pres_fan.proofs.Members.{same_members, none_ordered}
 
 -- ---- what is found for a session
 
@@ -141,48 +139,21 @@ in_order (e ∷ es) o =
 
 -- ---- a listener more, and listeners less
 
-put_only : (k : Listener) (q : Listener → Bool) (ls : List Listener) → list_any q (insert_key listener_cmp ls k) ≡ true → (q k || list_any q ls) ≡ true
-put_only k q [] h = h
-put_only k q (l ∷ ls) h = by (listener_cmp k l) h (put_only k q ls) where
-  later : (q l ≡ true) ⊎ (list_any q (insert_key listener_cmp ls k) ≡ true) → (list_any q (insert_key listener_cmp ls k) ≡ true → (q k || list_any q ls) ≡ true) → (q k || (q l || list_any q ls)) ≡ true
-  later (inl e) f = or_right (q k) _ (or_left (q l) _ e)
-  later (inr e) f = last (or_cases (q k) (list_any q ls) (f e)) where
-    last : (q k ≡ true) ⊎ (list_any q ls ≡ true) → (q k || (q l || list_any q ls)) ≡ true
-    last (inl t) = or_left (q k) _ t
-    last (inr t) = or_right (q k) _ (or_right (q l) _ t)
-
-  by : (o : Ordering) → list_any q (match_ordering o (k ∷ l ∷ ls) (l ∷ ls) (l ∷ insert_key listener_cmp ls k)) ≡ true → (list_any q (insert_key listener_cmp ls k) ≡ true → (q k || list_any q ls) ≡ true) → (q k || (q l || list_any q ls)) ≡ true
-  by Less e f = e
-  by Equal e f = or_right (q k) _ e
-  by Greater e f = later (or_cases (q l) (list_any q (insert_key listener_cmp ls k)) e) f
-
 same_flip : (k l : Listener) → same_listener l k ≡ same_listener k l
 same_flip k l = both_ways _ _ (one l k) (one k l) where
   one : (k l : Listener) → same_listener k l ≡ true → same_listener l k ≡ true
   one k l e = ap (λ m. same_listener m k) (sym (listener_same k l e)) ∙ listener_itself k
 
-any_put : (k l : Listener) (ls : List Listener) → list_any (same_listener l) (insert_key listener_cmp ls k) ≡ (same_listener k l || list_any (same_listener l) ls)
+pub any_put : (k l : Listener) (ls : List Listener) → list_any (same_listener l) (insert_key listener_cmp ls k) ≡ (same_listener k l || list_any (same_listener l) ls)
 any_put k l ls =
-    both_ways _ _ (put_only k (same_listener l) ls) (λ h. by (or_cases (same_listener l k) (list_any (same_listener l) ls) h))
+    any_with listener_cmp k (same_listener l) (λ m t e. ap (same_listener l) (sym (listener_apart k m t)) ∙ e) ls
     ∙ ap (λ b. b || list_any (same_listener l) ls) (same_flip k l)
-  where
-    by : (same_listener l k ≡ true) ⊎ (list_any (same_listener l) ls ≡ true) → list_any (same_listener l) (insert_key listener_cmp ls k) ≡ true
-    by (inl e) = put_has listener_cmp k (same_listener l) e (λ m t. ap (same_listener l) (sym (listener_apart k m t)) ∙ e) ls
-    by (inr e) = put_keeps listener_cmp k (same_listener l) ls e
 
-any_filter : (p : Listener → Bool) (l : Listener) (ls : List Listener) → list_any (same_listener l) (filter p ls) ≡ (p l && list_any (same_listener l) ls)
-any_filter p l ls =
-    both_ways _ _ (λ h. let is = of_filter p l ls h in and_from _ _ is.0 is.1)
-    (λ h. let is = and_parts (p l) (list_any (same_listener l) ls) h in in_filter p l ls is.0 is.1)
+pub any_filter : (p : Listener → Bool) (l : Listener) (ls : List Listener) → list_any (same_listener l) (filter p ls) ≡ (p l && list_any (same_listener l) ls)
+any_filter p l ls = any_filtered (same_listener l) p (p l) (λ m e. ap p (sym (listener_same l m e))) ls
 
 pub put_ordered : (k : Listener) (ls : List Listener) → IsStrictlySortedBy listener_cmp ls → IsStrictlySortedBy listener_cmp (insert_key listener_cmp ls k)
-unfolding IsStrictlySortedBy
-put_ordered k [] o = (tt, tt)
-put_ordered k (l ∷ ls) o = by (listener_cmp k l) refl (put_ordered k ls (sorted_tail listener_cmp l ls o)) where
-  by : (c : Ordering) → listener_cmp k l ≡ c → IsStrictlySortedBy listener_cmp (insert_key listener_cmp ls k) → IsStrictlySortedBy listener_cmp (match_ordering c (k ∷ l ∷ ls) (l ∷ ls) (l ∷ insert_key listener_cmp ls k))
-  by Less c h = ((c, all_then (λ m. listener_cmp l m ≡ Less) (λ m. listener_cmp k m ≡ Less) (λ m e. listener_total.trans k l m c e) ls (sorted_head listener_cmp l ls o)), o)
-  by Equal c h = o
-  by Greater c h = (all_put listener_cmp (λ m. listener_cmp l m ≡ Less) k (listener_total.antisymm l k ∙ ap ordering_reverse c) ls (sorted_head listener_cmp l ls o), h)
+put_ordered k ls o = put_rises listener_cmp listener_total k ls o
 
 -- ---- a change of what one session is found with
 

@@ -1,6 +1,5 @@
 pub mod Faults
 pub mod Laws
+pub mod Levels
 pub mod Listeners
-pub mod Places
-pub mod Probes
 pub mod Sets

@@ -1,168 +1,167 @@
-//! The places that are listened to, in path order: so whom a write touches is found without those
-//! that listen elsewhere.
+//! Whom writes touch, found in the tree of paths.
 
-ghost use Rattle.std.specs.Prelude.{◌≡◌, Bool, true, Some, IfOk, OnOk};
+ghost use Rattle.std.specs.Prelude.{◌≡◌, ◌<◌, ◌++◌, ◌∷◌, [], Bool, true, length, take, IfOk, OnOk};
 ghost use Rattle.std.specs.List.{list_any, AllByRecursion};
 ghost use Rattle.std.specs.List.Sorted.{IsStrictlySortedBy};
-ghost use Rattle.pres_tree.specs.Paths.{meet};
-ghost use Rattle.pres_fan.specs.Listeners.{listener_cmp, same_listener, is_touched};
-ghost use Rattle.pres_fan.specs.Places.{reaches, is_this, is_place_of};
+ghost use Rattle.pres_tree.specs.Paths.{Path, IsPath, max_depth, meet};
+ghost use Rattle.pres_ids.specs.Ids.{same_session};
+ghost use Rattle.pres_ids.specs.declared.id.SessionId.{SessionId};
+ghost use Rattle.pres_fan.specs.Listeners.{listener_cmp, listener_of, same_listener, is_touched};
+ghost use Rattle.pres_fan.specs.Levels.{heard};
 ghost use Rattle.pres_fan.specs.declared.listeners.Listener.{Listener};
 
+use crate::level::Level;
 use crate::listeners::Listener;
-use pres_ids::SessionId;
-use pres_tree::Path;
+use crate::sessions::Sessions;
+use pres_tree::{Key, Path};
 use pres_write::Basic;
 use std::alloc::{AllocError, Global};
-use std::collections::BTreeSet;
 
-/// A place, and a session that listens to it. Ordered by path, then by session; without a session
-/// it comes before all of its path.
-#[derive(Drop, PartialEq, Eq, PartialOrd, Ord)]
-pub(crate) struct Place {
-    pub(crate) path: Path,
-    pub(crate) session: Option<SessionId>,
-}
-
-// How far a search goes on from a path.
-#[derive(Clone, Copy)]
-pub(crate) enum Reach {
-    // To the path itself.
-    At,
-    // To the path and all below it.
-    Below,
-}
-
-impl Place {
-    // The place that the session listens to.
-    pub(crate) fn of(alloc: Global, path: &Path, session: &SessionId) -> Result<Place, AllocError>
-        ensures path { IfOk result (λ made. made.path ≡ path.now) }
-        ensures session { IfOk result (λ made. made.session ≡ Some session.now) }
-    {
-        let path = path.copy(alloc)?;
-        let session = Some(session.copy(alloc)?);
-        Ok(Place { path, session })
-    }
-
-    // Whether it is one of the session's.
-    pub(crate) fn is_of(&self, session: &SessionId) -> bool
-        ensures { result ≡ is_this session.now self.now.session }
-    {
-        match &self.session {
-            Some(other) => session == other,
-            None => false,
-        }
-    }
-}
-
-// Whether a search from the path goes to the other one.
-fn reaches(reach: Reach, path: &Path, other: &Path) -> bool
-    ensures { result ≡ reaches reach path.now other.now }
-{
-    match reach {
-        Reach::At => path == other,
-        Reach::Below => path.is_prefix_of(other),
-    }
-}
-
-// Adds the listener that stands there, if one does.
-fn add_one(found: &mut Vec<Listener>, alloc: Global, place: &Place) -> Result<(), AllocError>
+// Adds the sessions as listeners at the path.
+fn add_here(
+    found: &mut Vec<Listener>,
+    alloc: Global,
+    sessions: &Sessions,
+    path: &Path,
+) -> Result<(), AllocError>
     ensures kept { OnOk result ((l : Listener) → list_any (same_listener l) found.old.items ≡ true
         → list_any (same_listener l) found.new.items ≡ true) }
-    ensures found { OnOk result ((l : Listener) → is_place_of l place.now ≡ true
-        → list_any (same_listener l) found.new.items ≡ true) }
-    ensures only { OnOk result ((p : Listener → Bool)
-        → AllByRecursion (λ l. p l ≡ true) found.old.items
-        → ((l : Listener) → is_place_of l place.now ≡ true → p l ≡ true)
-        → AllByRecursion (λ l. p l ≡ true) found.new.items) }
+    ensures here { OnOk result ((s : SessionId) → list_any (same_session s) sessions.now ≡ true
+        → list_any (same_listener (listener_of s path.now)) found.new.items ≡ true) }
+    ensures only { OnOk result ((t : Listener → Bool)
+        → AllByRecursion (λ l. t l ≡ true) found.old.items
+        → ((s : SessionId) → list_any (same_session s) sessions.now ≡ true
+        → t (listener_of s path.now) ≡ true)
+        → AllByRecursion (λ l. t l ≡ true) found.new.items) }
 {
-    if let Some(session) = &place.session {
+    for session in sessions.as_slice() {
         let session = session.copy(alloc)?;
-        let path = place.path.copy(alloc)?;
+        let path = path.copy(alloc)?;
         found.push(Listener { session, path })?;
     }
     Ok(())
 }
 
-// Adds the listeners as far as the search goes from the path.
-fn add_near(
-    found: &mut Vec<Listener>,
-    alloc: Global,
-    places: &BTreeSet<Place>,
-    path: Path,
-    reach: Reach,
-) -> Result<(), AllocError>
-    ensures kept { OnOk result ((l : Listener) → list_any (same_listener l) found.old.items ≡ true
-        → list_any (same_listener l) found.new.items ≡ true) }
-    ensures near { OnOk result ((l : Listener) → reaches reach path l.path ≡ true
-        → list_any (is_place_of l) places.now.keys ≡ true
-        → list_any (same_listener l) found.new.items ≡ true) }
-    ensures only { OnOk result ((p : Listener → Bool)
-        → AllByRecursion (λ l. p l ≡ true) found.old.items
-        → ((l : Listener) → reaches reach path l.path ≡ true
-        → list_any (is_place_of l) places.now.keys ≡ true → p l ≡ true)
-        → AllByRecursion (λ l. p l ≡ true) found.new.items) }
+// The path with one key more. No level stands deeper than a path is long, so memory is the one
+// refusal where a level stands there.
+fn goes_on(alloc: Global, path: &Path, key: &Key) -> Result<Path, AllocError>
+    ensures path { IfOk result (λ made. made ≡ path.now ++ key.now ∷ []) }
+    ensures room { OnOk result (length path.now < max_depth) }
 {
-    let start = Place {
-        path,
-        session: None,
+    let Ok(last) = Path::parse(alloc, key.text()) else {
+        return Err(AllocError);
     };
-    for place in places.range(&start..) {
-        if !reaches(reach, &start.path, &place.path) {
-            return Ok(());
-        }
-        add_one(found, alloc, place)?;
+    match path.join_owned(alloc, last) {
+        Ok(made) => Ok(made),
+        Err(_) => Err(AllocError),
     }
-    Ok(())
 }
 
-// Adds the listeners at the path, above it and below it.
-fn add_met(
+// Adds the listeners at the level, whose path this is, and below it.
+fn add_below(
     found: &mut Vec<Listener>,
     alloc: Global,
-    places: &BTreeSet<Place>,
+    level: &Level,
     path: &Path,
 ) -> Result<(), AllocError>
     ensures kept { OnOk result ((l : Listener) → list_any (same_listener l) found.old.items ≡ true
         → list_any (same_listener l) found.new.items ≡ true) }
-    ensures met { OnOk result ((l : Listener) → meet path.now l.path ≡ true
-        → list_any (is_place_of l) places.now.keys ≡ true
-        → list_any (same_listener l) found.new.items ≡ true) }
-    ensures only { OnOk result ((p : Listener → Bool)
-        → AllByRecursion (λ l. p l ≡ true) found.old.items
-        → ((l : Listener) → meet path.now l.path ≡ true
-        → list_any (is_place_of l) places.now.keys ≡ true → p l ≡ true)
-        → AllByRecursion (λ l. p l ≡ true) found.new.items) }
+    ensures below { OnOk result ((p : Path) (s : SessionId) → heard p s level.now ≡ true
+        → list_any (same_listener (listener_of s (path.now ++ p))) found.new.items ≡ true) }
+    ensures only { OnOk result ((t : Listener → Bool)
+        → AllByRecursion (λ l. t l ≡ true) found.old.items
+        → ((p : Path) (s : SessionId) → heard p s level.now ≡ true
+        → t (listener_of s (path.now ++ p)) ≡ true)
+        → AllByRecursion (λ l. t l ≡ true) found.new.items) }
 {
-    add_near(found, alloc, places, path.copy(alloc)?, Reach::Below)?;
-    for len in 0..path.len() {
-        let above = path.prefix(alloc, len)?;
-        add_near(found, alloc, places, above, Reach::At)?;
+    add_here(found, alloc, &level.sessions, path)?;
+    let Some(below) = &level.below else {
+        return Ok(());
+    };
+    for (key, child) in below.iter() {
+        let path = goes_on(alloc, path, key)?;
+        add_below(found, alloc, child, &path)?;
     }
     Ok(())
 }
 
-// The listeners whose places the writes touch, each once and in order.
+// Adds the listeners at the level, which stands at so many first keys of the path.
+fn add_above(
+    found: &mut Vec<Listener>,
+    alloc: Global,
+    sessions: &Sessions,
+    path: &Path,
+    depth: usize,
+) -> Result<(), AllocError>
+    ensures kept { OnOk result ((l : Listener) → list_any (same_listener l) found.old.items ≡ true
+        → list_any (same_listener l) found.new.items ≡ true) }
+    ensures here { OnOk result ((s : SessionId) → list_any (same_session s) sessions.now ≡ true
+        → list_any (same_listener (listener_of s (take depth path.now))) found.new.items ≡ true) }
+    ensures only { OnOk result ((t : Listener → Bool)
+        → AllByRecursion (λ l. t l ≡ true) found.old.items
+        → ((s : SessionId) → list_any (same_session s) sessions.now ≡ true
+        → t (listener_of s (take depth path.now)) ≡ true)
+        → AllByRecursion (λ l. t l ≡ true) found.new.items) }
+{
+    if sessions.is_empty() {
+        return Ok(());
+    }
+    add_here(found, alloc, sessions, &path.prefix(alloc, depth)?)
+}
+
+// Adds the listeners at the path, above it and below it, of those at the level and below it. The
+// level stands at so many first keys of the path, and these keys are left of it.
+fn add_met(
+    found: &mut Vec<Listener>,
+    alloc: Global,
+    level: &Level,
+    path: &Path,
+    depth: usize,
+    keys: &[Key],
+) -> Result<(), AllocError>
+    requires place { path.now ≡ take depth path.now ++ keys.now }
+    requires path { IsPath path.now }
+    ensures kept { OnOk result ((l : Listener) → list_any (same_listener l) found.old.items ≡ true
+        → list_any (same_listener l) found.new.items ≡ true) }
+    ensures met { OnOk result ((p : Path) (s : SessionId) → meet keys.now p ≡ true
+        → heard p s level.now ≡ true
+        → list_any (same_listener (listener_of s (take depth path.now ++ p))) found.new.items
+        ≡ true) }
+    ensures only { OnOk result ((t : Listener → Bool)
+        → AllByRecursion (λ l. t l ≡ true) found.old.items
+        → ((p : Path) (s : SessionId) → meet keys.now p ≡ true → heard p s level.now ≡ true
+        → t (listener_of s (take depth path.now ++ p)) ≡ true)
+        → AllByRecursion (λ l. t l ≡ true) found.new.items) }
+{
+    let Some((key, rest)) = keys.split_first() else {
+        return add_below(found, alloc, level, path);
+    };
+    add_above(found, alloc, &level.sessions, path, depth)?;
+    match level.child(key) {
+        Some(child) => add_met(found, alloc, child, path, depth + 1, rest),
+        None => Ok(()),
+    }
+}
+
+// The listeners whose paths the writes touch, each once and in order.
 pub(crate) fn met(
     alloc: Global,
-    places: &BTreeSet<Place>,
+    root: &Level,
     writes: &[Basic],
 ) -> Result<Vec<Listener>, AllocError>
     ensures ordered { IfOk result (λ found. IsStrictlySortedBy listener_cmp found.items) }
     ensures all { IfOk result (λ found. (l : Listener) → is_touched writes.now l.path ≡ true
-        → list_any (is_place_of l) places.now.keys ≡ true
+        → heard l.path l.session root.now ≡ true
         → list_any (same_listener l) found.items ≡ true) }
     ensures only { IfOk result (λ found. (l : Listener)
         → list_any (same_listener l) found.items ≡ true
         → (is_touched writes.now l.path ≡ true)
-        × (list_any (is_place_of l) places.now.keys ≡ true)) }
+        × (heard l.path l.session root.now ≡ true)) }
 {
     let mut found = Vec::new(alloc);
-    if places.is_empty() {
-        return Ok(found);
-    }
     for write in writes {
-        add_met(&mut found, alloc, places, write.path())?;
+        let path = write.path();
+        add_met(&mut found, alloc, root, path, 0, path.keys())?;
     }
     found.sort_unstable();
     found.dedup();

@@ -4,9 +4,10 @@
 mod fault;
 mod index;
 pub mod laws;
+mod level;
 mod listeners;
 mod paths;
-mod probes;
+mod sessions;
 
 pub use fault::FanFault;
 pub use listeners::{Listener, Listeners, MOST_PATHS, Touched};

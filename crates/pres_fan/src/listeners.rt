@@ -1,16 +1,20 @@
 //! Listeners, and whom writes touch.
 
-ghost use Rattle.std.specs.Prelude.{List, ◌≡◌, ◌↔◌, ◌<◌, ◌++◌, ◌∷◌, [], length, nat_le, IfOk, IfErr, IsErrOf, OnOk, OnErr};
+ghost use Rattle.std.specs.Prelude.{List, ◌≡◌, ◌↔◌, ◌<◌, ◌++◌, ◌∷◌, ◌&&◌, not, [], length, nat_le, IfOk, IfErr, IsErrOf, OnOk, OnErr};
 ghost use Rattle.std.specs.List.{list_any};
 ghost use Rattle.std.specs.List.Sorted.{IsStrictlySortedBy};
+ghost use Rattle.pres_tree.specs.Paths.{Path, same_path};
+ghost use Rattle.pres_ids.specs.Ids.{same_session};
+ghost use Rattle.pres_ids.specs.declared.id.SessionId.{SessionId};
+ghost use Rattle.pres_fan.specs.Levels.{heard, IsTidy};
 ghost use Rattle.pres_fan.specs.Listeners.{most_paths, IsListeners, paths_of, listener_of, same_listener, with_listener, without, without_session, touched, by_session, listener_cmp};
 ghost use Rattle.pres_fan.specs.declared.fault.FanFault.TheVariants.{Full, Memory};
 ghost use Rattle.pres_fan.specs.declared.listeners.Listener.{Listener};
 
 use crate::fault::FanFault;
-use crate::index::{Place, met};
+use crate::index::met;
+use crate::level::Level;
 use crate::paths::SessionPaths;
-use crate::probes::Probes;
 use pres_ids::SessionId;
 use pres_tree::Path;
 use pres_write::{Basic, Items};
@@ -91,25 +95,21 @@ impl Touched {
 #[derive(Drop)]
 pub struct Listeners {
     paths: SessionPaths,
-    // Where they listen, by which those that a write touches are found.
-    places: BTreeSet<Place>,
-    // In which a session's places are looked up.
-    probes: Probes,
+    // Who listens at each path, by which those that a write touches are found.
+    root: Level,
 }
 
 impl Model for Listeners {
     ghost use Rattle.std.specs.Prelude.{List};
     ghost use Rattle.pres_fan.specs.Listeners.{IsListeners};
-    ghost use Rattle.pres_fan.specs.Places.{ArePlacesOf};
-    ghost use Rattle.pres_fan.specs.Probes.{HaveProbes};
+    ghost use Rattle.pres_fan.specs.Levels.{AreHeard};
     ghost use Rattle.pres_fan.specs.declared.listeners.Listener.{Listener};
 
     ghost Value = { List Listener };
 
     ghost view = { λ l. l.paths };
 
-    ghost invariant = { λ l. IsListeners l.paths × ArePlacesOf l.paths l.places.keys
-        × HaveProbes l.paths l.probes.places.entries };
+    ghost invariant = { λ l. IsListeners l.paths × AreHeard l.paths l.root };
 }
 
 impl Listeners {
@@ -119,8 +119,7 @@ impl Listeners {
     {
         Listeners {
             paths: SessionPaths::new(alloc),
-            places: BTreeSet::new(alloc),
-            probes: Probes::new(alloc),
+            root: Level::new(alloc),
         }
     }
 
@@ -155,12 +154,12 @@ impl Listeners {
         if !self.may_listen(session, &path) {
             return Err(FanFault::Full);
         }
-        self.probes.give(alloc, session)?;
-        let place = Place::of(alloc, &path, session)?;
-        self.paths.add(alloc, session, path)?;
-        if let Err(refused) = self.places.insert(place) {
-            let place = refused.value;
-            drop(self.paths.remove(session, &place.path));
+        if self.paths.has(session, &path) {
+            return Ok(());
+        }
+        self.paths.add(alloc, session, path.copy(alloc)?)?;
+        if let Err(_) = self.root.add(alloc, path.keys(), session) {
+            drop(self.paths.remove(session, &path));
             return Err(FanFault::Memory);
         }
         Ok(())
@@ -170,9 +169,8 @@ impl Listeners {
     pub fn off(&mut self, session: &SessionId, path: &Path)
         ensures { self.new ≡ without session.now path.now self.old }
     {
-        if let Some(path) = self.paths.remove(session, path) {
-            self.probes.remove_place(&mut self.places, session, path);
-        }
+        drop(self.paths.remove(session, path));
+        self.root.remove(path.keys(), session);
     }
 
     /// The session listens to nothing more. It takes no memory, and nothing is refused.
@@ -180,9 +178,8 @@ impl Listeners {
         ensures { self.new ≡ without_session session.now self.old }
     {
         if let Some(paths) = self.paths.remove_session(session) {
-            self.probes.remove_places(&mut self.places, session, paths);
+            remove_all(&mut self.root, session, paths);
         }
-        self.probes.drop_session(session);
     }
 
     /// The sessions that listen to a place that the writes touch, each once, with those places, in
@@ -193,10 +190,22 @@ impl Listeners {
         ensures listeners { IsListeners self.now }
     {
         let mut rows = Vec::new(alloc);
-        for listener in met(alloc, &self.places, writes)? {
+        for listener in met(alloc, &self.root, writes)? {
             add(&mut rows, alloc, listener)?;
         }
         Ok(rows)
+    }
+}
+
+// The session listens at the paths no more.
+fn remove_all(root: &mut Level, session: &SessionId, paths: BTreeSet<Path>)
+    ensures left { (p : Path) (s : SessionId) → heard p s root.new
+        ≡ (not (same_session session.now s && list_any (same_path p) paths.keys)
+        && heard p s root.old) }
+    ensures tidy { IsTidy root.old → IsTidy root.new }
+{
+    for path in paths {
+        root.remove(path.keys(), session);
     }
 }
 

@@ -9,6 +9,7 @@ use Rattle.rtrb.proofs.producer.Producer.TheSendSync.{the_send as producer_is}
 use Rattle.rtrb.proofs.consumer.Consumer.TheSendSync.{the_send as consumer_is}
 use Rattle.std.below.std_heap.proofs.GlobalAllocator.TheSendSync.{the_frees}
 use Rattle.pres_tree.proofs.nested.Nested.TheLaws.TheKnot.{crosses as knot}
+use Rattle.pres_fan.proofs.level.Level.TheLaws.TheKnot.{crosses as level_knot}
 use Rattle.pres_tree.proofs.key.Key.TheSendSync.{the_send as key_is}
 use Rattle.pres_tree.proofs.path.Path.TheSendSync.{the_send as path_is}
 use Rattle.pres_tree.proofs.scalar.Scalar.TheSendSync.{the_send as scalar_is}
@@ -35,8 +36,9 @@ use Rattle.pres_session.specs.contracts.live.Live as live
 use Rattle.pres_plan.specs.contracts.plan.Plan as plan
 use Rattle.pres_retry.specs.contracts.table.RetryTable as retry
 use Rattle.pres_retry.specs.contracts.table.Row as row
-use Rattle.pres_fan.specs.contracts.index.Place as listening
-use Rattle.pres_fan.specs.contracts.probes.Probes as probes
+use Rattle.pres_fan.specs.contracts.paths.SessionPaths as session_paths
+use Rattle.pres_fan.specs.contracts.sessions.Sessions as listening
+use Rattle.pres_fan.specs.contracts.level.Level as level
 use Rattle.pres_fan.specs.contracts.listeners.Listeners as listeners
 use Rattle.pres_log.specs.contracts.entry.Entry as entry
 use Rattle.pres_log.specs.contracts.entry.Batch as batch
@@ -91,7 +93,7 @@ pub gone_send : IsSend gone.the_row
 gone_send = search (crosses, sendable) depth 60 fits 20000
 
 pub plan_send : IsSend plan.the_row
-plan_send = search (placement_send, path_is, number_is, crosses, sendable) depth 60 fits 20000
+plan_send = search (placement_send, path_is, number_is, maps, crosses, sendable) depth 60 fits 20000
 
 pub live_send : IsSend (live.the_row plan.the_row)
 live_send = search (plan_send, count_is, moment_is, crosses, sendable) depth 60 fits 20000
@@ -102,14 +104,17 @@ row_send = search (number_is, kept_send, declared_send, crosses, sendable) depth
 pub retry_send : IsSend retry.the_row
 retry_send = search (client_is, row_send, maps, crosses, sendable) depth 60 fits 20000
 
-pub listening_send : IsSend listening.the_row
-listening_send = search (path_is, session_is, crosses, sendable) depth 60 fits 20000
+pub session_paths_send : IsSend session_paths.the_row
+session_paths_send = search (path_is, session_is, maps, maps_over, crosses, sendable) depth 60 fits 20000
 
-pub probes_send : IsSend probes.the_row
-probes_send = search (session_is, listening_send, maps, maps_over, crosses, sendable) depth 60 fits 20000
+pub listening_send : IsSend listening.the_row
+listening_send = search (session_is, crosses, sendable) depth 60 fits 20000
+
+pub level_send : IsSend level.the_row
+level_send = search (key_is, listening_send, maps, crosses, level_knot, sendable) depth 60 fits 20000
 
 pub listeners_send : IsSend listeners.the_row
-listeners_send = search (path_is, session_is, listening_send, probes_send, maps, maps_over, crosses, sendable) depth 60 fits 20000
+listeners_send = search (session_paths_send, level_send, declared_send, as_row_send, crosses, sendable) depth 60 fits 20000
 
 pub values_send : IsSend values.the_row
 values_send = search (path_is, tree_send, crosses, sendable) depth 60 fits 20000

@@ -58,14 +58,14 @@ any_filtered {A} f m (x ∷ xs) = by_head (m x) (any_filtered f m xs) where
     from (inr h) = or_right (f x) _ (g h)
   by_head false g e = g e
 
-passes : {A : Type 0} (p : A → Bool) (xs : List A) → AllByRecursion (λ x. p x ≡ true) (filter p xs)
+pub passes : {A : Type 0} (p : A → Bool) (xs : List A) → AllByRecursion (λ x. p x ≡ true) (filter p xs)
 passes p [] = tt
 passes p (x ∷ xs) = by_head (p x) refl (passes p xs) where
   by_head : (b : Bool) → p x ≡ b → AllByRecursion (λ y. p y ≡ true) (filter p xs) → AllByRecursion (λ y. p y ≡ true) (cond b (x ∷ filter p xs) (filter p xs))
   by_head true e h = (e, h)
   by_head false e h = h
 
-any_either : {A : Type 0} (P : A → Type 0) (f g : A → Bool) (b : Bool) (xs : List A) → AllByRecursion P xs → ((x : A) → P x → f x ≡ true → (g x || b) ≡ true) → list_any f xs ≡ true → (list_any g xs || b) ≡ true
+pub any_either : {A : Type 0} (P : A → Type 0) (f g : A → Bool) (b : Bool) (xs : List A) → AllByRecursion P xs → ((x : A) → P x → f x ≡ true → (g x || b) ≡ true) → list_any f xs ≡ true → (list_any g xs || b) ≡ true
 any_either P f g b [] a h e = absurd (true≢false (sym e))
 any_either {A} P f g b (x ∷ xs) a h e = from (or_cases (f x) _ e) (any_either P f g b xs a.1 h) where
   here : (c d : Bool) → (c || b) ≡ true → ((c || d) || b) ≡ true
@@ -83,7 +83,7 @@ any_either {A} P f g b (x ∷ xs) a h e = from (or_cases (f x) _ e) (any_either 
 -- ---- rows near a cancelled place
 
 -- a put above a place that stands above p is above p
-lift : (x p : Path) (b : PlanRow) → is_prefix x p ≡ true → puts_above x b ≡ true → puts_above p b ≡ true
+pub lift : (x p : Path) (b : PlanRow) → is_prefix x p ≡ true → puts_above x b ≡ true → puts_above p b ≡ true
 lift x p b up e =
     let parts = and_parts (is_put b.action) _ e in
     let above = and_parts (is_prefix (path_of b.action) x) _ parts.1 in

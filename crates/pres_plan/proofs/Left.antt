@@ -1,5 +1,5 @@
 -- What further actions leave of the rows of a plan.
-use Rattle.std.proofs.Common.{refl, sym, ◌∙◌, ap, ◌≡◌, ℕ, List, [], ◌∷◌, ◌++◌, map, Bool, true, false, not, cond, ◌||◌, true≢false, filter, append_assoc, Some, None, is_some}
+use Rattle.std.proofs.Common.{refl, sym, ◌∙◌, ap, subst, ◌≡◌, ℕ, List, [], ◌∷◌, ◌++◌, map, Bool, true, false, not, cond, ◌||◌, true≢false, filter, append_assoc, Some, None, is_some}
 use Rattle.std.specs.List.{list_any}
 use Rattle.std.proofs.lemmas.Bool.{and_parts, or_parts, or_left, not-true, false_from_ne_true}
 use Rattle.std.proofs.lemmas.List.Folds.{list_any-append}
@@ -147,6 +147,10 @@ lasting-append (x ∷ xs) ys =
       by_head true b e = refl
       by_head false true e = sym (ap (λ t. cond (not t) (x ∷ left) left ++ lasting ys) e)
       by_head false false e = sym (ap (λ t. cond (not t) (x ∷ left) left ++ lasting ys) e)
+
+-- no row of a plan is covered by a later one
+pub plan_lasts : (xs : List PlanRow) → plan_of xs ≡ xs → Lasts xs
+plan_lasts xs whole = subst Lasts whole (filter-Lasts (matters (lasting xs)) (lasting xs) (lasting-Lasts xs))
 
 abbrev pub planned : List PlanRow → List PlanRow
 planned left = filter (matters left) left

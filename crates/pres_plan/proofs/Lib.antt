@@ -1,7 +1,13 @@
+pub mod Arrivals
 pub mod Cancels
+pub mod Covered
 pub mod Fitting
 pub mod Grows
 pub mod Kept
 pub mod Left
+pub mod Numbers
 pub mod Orders
+pub mod Ranges
+pub mod Spots
 pub mod Steps
+pub mod Tops

@@ -43,6 +43,10 @@ length-puts : (q : ℕ) (ps : List (Path × Rows Slot)) → length (puts q ps) �
 length-puts q [] = refl
 length-puts q (p ∷ ps) = ap suc (length-puts q ps)
 
+pub puts_paths : (q : ℕ) (ps : List (Path × Rows Slot)) → map (λ row. path_of row.action) (puts q ps) ≡ map (λ p. p.0) ps
+puts_paths q [] = refl
+puts_paths q (p ∷ ps) = ap (λ l. p.0 ∷ l) (puts_paths q ps)
+
 any-puts : (f : PlanRow → Bool) (q : ℕ) (ps : List (Path × Rows Slot)) → list_any f (puts q ps) ≡ list_any (λ p. f (record { q = q; action = Put p })) ps
 any-puts f q [] = refl
 any-puts f q (p ∷ ps) = ap (λ b. f (record { q = q; action = Put p }) || b) (any-puts f q ps)
@@ -123,6 +127,12 @@ clear_done old new q p plan none new_is =
           ∙ sym (plan-cancel old q p plan.whole),
       omega (arith, ap length new_is, length-kept (λ row. not (is_prefix p (path_of row.action))) old),
     )
+
+-- such a cancel leaves few rows
+pub clear_few : (old : List PlanRow) (q : ℕ) (p : Path) → IsPlan old → false ≡ list_any (puts_above p) old → length (plan_of (old ++ cancels q p)) ≤ 256
+clear_few old q p plan none =
+    let step = clear_done old (filter (λ row. not (is_prefix p (path_of row.action))) old) q p plan none refl in
+    subst (λ (l : List PlanRow). length l ≤ 256) step.0 step.1
 
 -- ---- refusals
 

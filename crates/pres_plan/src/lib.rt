@@ -6,6 +6,7 @@ pub mod laws;
 mod plan;
 mod row;
 mod rows;
+mod standing;
 
 pub use fault::PlanFault;
 pub use plan::{MOST_ROWS, Plan};

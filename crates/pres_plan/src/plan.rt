@@ -1,15 +1,16 @@
 //! Plans: the rows that a session leaves.
 
-ghost use Rattle.std.specs.Prelude.{◌≡◌, ◌↔◌, ◌<◌, ◌≤◌, ◌++◌, ◌∷◌, ℕ, [], All, false, length, map, nat_le, not, filter, is_ok, if◌then◌else◌, IfOk, IfErr, IsErrOf, OnOk, OnErr};
+ghost use Rattle.std.specs.Prelude.{◌≡◌, ◌↔◌, ◌<◌, ◌≤◌, ◌++◌, ◌∷◌, ℕ, [], All, false, length, map, nat_le, if◌then◌else◌, IfOk, IfErr, IsErrOf, OnOk, OnErr};
 ghost use Rattle.std.specs.List.{list_any};
 ghost use Rattle.std.specs.List.Sorted.{IsStrictlySortedBy};
-ghost use Rattle.pres_tree.specs.Paths.{is_prefix, overlap};
-ghost use Rattle.pres_plan.specs.Plans.{most_rows, row_cmp, ComesLast, path_of, covers, is_left, puts_above, plan_of, puts, cancels, due, due_rows};
+ghost use Rattle.pres_tree.specs.Paths.{overlap};
+ghost use Rattle.pres_plan.specs.Plans.{most_rows, row_cmp, ComesLast, puts_above, plan_of, puts, cancels, due, due_rows};
 ghost use Rattle.pres_plan.specs.declared.fault.PlanFault.TheVariants.{Full, Memory};
 
 use crate::fault::PlanFault;
 use crate::row::{Action, DueRow, PlanRow};
 use crate::rows::Rows;
+use crate::standing::Standing;
 use pres_ids::Number;
 use pres_session::Pays;
 use pres_tree::{Path, Tree};
@@ -22,22 +23,24 @@ use std::slice::from_ref;
 pub const MOST_ROWS: usize = 256;
 
 /// What a session leaves: the rows that its puts, updates and cancels come to, at most `MOST_ROWS`.
-/// Contracts see the list of the rows, in the order of the messages that asked for them.
+/// Contracts see the list of the rows, in the order of the messages that asked for them. They are
+/// found by their paths, so a put or a cancel looks at no row but those that it meets.
 #[derive(Drop)]
 pub struct Plan {
-    rows: Vec<PlanRow>,
+    standing: Standing,
 }
 
 impl Model for Plan {
     ghost use Rattle.std.specs.Prelude.{List};
+    ghost use Rattle.std.specs.Map.{values_of};
     ghost use Rattle.pres_plan.specs.declared.row.PlanRow.{PlanRow};
-    ghost use Rattle.pres_plan.specs.Plans.{IsPlan};
+    ghost use Rattle.pres_plan.specs.Standing.{IsStanding};
 
     ghost Value = { List PlanRow };
 
-    ghost view = { λ p. p.rows.items };
+    ghost view = { λ p. values_of p.standing.rows.entries };
 
-    ghost invariant = { λ p. IsPlan p.rows.items };
+    ghost invariant = { λ p. IsStanding p.standing.rows.entries p.standing.places };
 }
 
 impl Pays for Plan {
@@ -52,7 +55,7 @@ impl Plan {
         ensures { result ≡ [] }
     {
         Plan {
-            rows: Vec::new(alloc),
+            standing: Standing::new(alloc),
         }
     }
 
@@ -64,7 +67,7 @@ impl Plan {
         ensures few { length self.now ≤ most_rows }
         ensures in_order { IsStrictlySortedBy row_cmp self.now }
     {
-        Rows::of(self.rows.as_slice())
+        Rows::of(&self.standing.rows)
     }
 
     /// Whether an update of these places leaves at most `MOST_ROWS` rows.
@@ -82,7 +85,9 @@ impl Plan {
         ensures { (q : ℕ) →
             result ≡ nat_le (length (plan_of (self.now ++ puts q placements.now))) most_rows }
     {
-        let left = count_left(&self.rows, placements);
+        let rows = self.standing.rows.len();
+        let covered = self.standing.count_covered(placements);
+        let left = rows - covered;
         placements.len() <= MOST_ROWS - left
     }
 
@@ -91,7 +96,9 @@ impl Plan {
         ensures { (q : ℕ) →
             result ≡ nat_le (length (plan_of (self.now ++ cancels q path.now))) most_rows }
     {
-        let left = count_outside(&self.rows, path);
+        let rows = self.standing.rows.len();
+        let below = self.standing.count_below(path);
+        let left = rows - below;
         left < MOST_ROWS || !self.has_put_above(path)
     }
 
@@ -99,7 +106,7 @@ impl Plan {
     fn has_put_above(&self, path: &Path) -> bool
         ensures { result ≡ list_any (puts_above path.now) self.now }
     {
-        self.rows.iter().any(|row| is_put_above(row, path))
+        self.standing.top_above(path).is_some()
     }
 
     /// Leaves a draft, in the place of all that was left at the path and below it. Full where the
@@ -116,7 +123,7 @@ impl Plan {
         }
         let action = Action::Put(placement);
         let rows = Items::one(alloc, PlanRow { q, action })?.into_vec();
-        replace(&mut self.rows, rows)?;
+        self.standing.replace(alloc, rows)?;
         Ok(())
     }
 
@@ -133,7 +140,7 @@ impl Plan {
             return Err(PlanFault::Full);
         }
         let rows = put_rows(alloc, q, placements.into_items())?;
-        replace(&mut self.rows, rows)?;
+        self.standing.replace(alloc, rows)?;
         Ok(())
     }
 
@@ -147,7 +154,7 @@ impl Plan {
         ensures unchanged { OnErr result (self.new ≡ self.old) }
     {
         if !self.has_put_above(path) {
-            take_back(&mut self.rows, path);
+            self.standing.take_back(alloc, path)?;
             return Ok(());
         }
         if !self.may_cancel(path) {
@@ -155,7 +162,7 @@ impl Plan {
         }
         let action = Action::Keep(path.copy(alloc)?);
         let rows = Items::one(alloc, PlanRow { q, action })?.into_vec();
-        replace(&mut self.rows, rows)?;
+        self.standing.replace(alloc, rows)?;
         Ok(())
     }
 
@@ -166,7 +173,7 @@ impl Plan {
         ensures err { IfErr result (λ e. e ≡ Memory) }
     {
         let mut made = Vec::new(alloc);
-        for row in &self.rows {
+        for row in self.standing.rows.values() {
             made.push(row.due(alloc, tree, moment)?)?;
         }
         Ok(made)
@@ -183,61 +190,11 @@ impl Plan {
         ensures err { IfErr result (λ e. e ≡ Memory) }
     {
         let mut made = Vec::new(alloc);
-        for row in &self.rows {
+        for row in self.standing.rows.values() {
             made.push(row.action.write(alloc, tree, moment)?)?;
         }
         Ok(Items::of(made))
     }
-}
-
-// Whether one of the placements is at the row's place or above it.
-fn is_replaced(row: &PlanRow, placements: &[Placement]) -> bool
-    ensures { result ≡ list_any (λ p. is_prefix p.0 (path_of row.now.action)) placements.now }
-{
-    placements.iter().any(|placement| placement.path().is_prefix_of(row.action.path()))
-}
-
-// How many of the rows stay where the placements are put.
-fn count_left(rows: &[PlanRow], placements: &[Placement]) -> usize
-    ensures { result ≡ length (filter
-        (λ row. not (list_any (λ p. is_prefix p.0 (path_of row.action)) placements.now)) rows.now) }
-{
-    rows.iter()
-        .filter(|row| !is_replaced(row, placements))
-        .count()
-}
-
-// How many of the rows are not at the path or below it.
-fn count_outside(rows: &[PlanRow], path: &Path) -> usize
-    ensures { result ≡ length (filter
-        (λ row. not (is_prefix path.now (path_of row.action))) rows.now) }
-{
-    rows.iter()
-        .filter(|row| !path.is_prefix_of(row.action.path()))
-        .count()
-}
-
-// Takes the rows away that are at the path or below it.
-fn take_back(rows: &mut Vec<PlanRow>, path: &Path)
-    ensures { rows.new.items ≡ filter
-        (λ row. not (is_prefix path.now (path_of row.action))) rows.old.items }
-{
-    rows.retain(|row| !path.is_prefix_of(row.action.path()));
-}
-
-// Whether one of the rows is at the place of the row or above it.
-fn is_covered(row: &PlanRow, by: &[PlanRow]) -> bool
-    ensures { result ≡ list_any (λ later. covers later row.now) by.now }
-{
-    by.iter().any(|later| later.action.path().is_prefix_of(row.action.path()))
-}
-
-// Whether the row puts a draft above the path.
-fn is_put_above(row: &PlanRow, path: &Path) -> bool
-    ensures { result ≡ puts_above path.now row.now }
-{
-    let place = row.action.path();
-    row.action.is_put() && place.is_prefix_of(path) && !path.is_prefix_of(place)
 }
 
 // A row for each put.
@@ -254,18 +211,4 @@ fn put_rows(
         made.push(PlanRow { q, action })?;
     }
     Ok(made)
-}
-
-// Puts the rows last, in place of those that they cover. At a refusal no row has changed.
-fn replace(rows: &mut Vec<PlanRow>, mut new: Vec<PlanRow>) -> Result<(), AllocError>
-    ensures ok { OnOk result
-        (rows.new.items ≡ filter (is_left new.items) rows.old.items ++ new.items) }
-    ensures err { OnErr result (rows.new.items ≡ rows.old.items) }
-{
-    rows.reserve(new.len())?;
-    rows.retain(|row| !is_covered(row, new.as_slice()));
-    match rows.append(&mut new) {
-        Ok(()) => Ok(()),
-        Err(_) => unreachable!(),
-    }
 }

@@ -1,6 +1,7 @@
 //! Walks through the rows of a plan.
 
 ghost use Rattle.std.specs.Prelude.{◌≡◌, length};
+ghost use Rattle.std.specs.Map.{values_of};
 ghost use Rattle.std.specs.Iterator.{at_most};
 ghost use Rattle.std.specs.Map.Iter.{TakesFirst};
 ghost use Rattle.pres_plan.specs.Plans.{lent_row};
@@ -9,6 +10,8 @@ use crate::row::PlanRow;
 use pres_ids::Number;
 use pres_tree::Path;
 use pres_write::Draft;
+use std::collections::BTreeMap;
+use std::collections::btree_map::Values;
 use std::marker::Model;
 
 /// The rows of a plan that are left to go over, in order: of each the number of the message that
@@ -16,7 +19,7 @@ use std::marker::Model;
 /// list of the rows.
 #[derive(Drop)]
 pub struct Rows<'a> {
-    rest: &'a [PlanRow],
+    rest: Values<'a, u64, PlanRow>,
 }
 
 impl<'a> Model for Rows<'a> {
@@ -25,15 +28,17 @@ impl<'a> Model for Rows<'a> {
 
     ghost Value = { List PlanRow };
 
-    ghost view = { λ it. it.rest.now };
+    ghost view = { λ it. it.rest };
 }
 
 impl<'a> Rows<'a> {
-    // Those of the list.
-    pub(crate) fn of(rows: &'a [PlanRow]) -> Rows<'a>
-        ensures { result ≡ rows.now }
+    // Those of the map, in the order of their numbers.
+    pub(crate) fn of(rows: &'a BTreeMap<u64, PlanRow>) -> Rows<'a>
+        ensures { result ≡ values_of rows.now.entries }
     {
-        Rows { rest: rows }
+        Rows {
+            rest: rows.values(),
+        }
     }
 }
 
@@ -45,8 +50,7 @@ impl<'a> Iterator for Rows<'a> {
     ghost remaining = { λ s. at_most (length s) };
 
     fn next(&mut self) -> Option<(Number, &'a Path, Option<&'a Draft>)> {
-        let (row, rest) = self.rest.split_first()?;
-        self.rest = rest;
+        let row = self.rest.next()?;
         Some(row.parts())
     }
 }

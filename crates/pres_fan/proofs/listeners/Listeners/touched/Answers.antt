@@ -33,5 +33,5 @@ returns-clause-rows c =
     made_all whole c.loop-listener.rows.items (subst (Made whole c.loop-listener.rows.items) none c.loop-listener.invariant.0)
     ∙ ap by_session
     (c.into_iter-listener-iterator.ensures.into_iter_gives.0
-    ∙ found_touched c.args.writes.now c.self.inside.paths c.in_ok-listener-items.listener-items.items c.self.inside.places.keys c.self.invariant.0 c.self.invariant.1 found.ordered found.all found.only)
+    ∙ found_touched c.args.writes.now c.self.inside.paths c.in_ok-listener-items.listener-items.items c.self.inside.root c.self.invariant.0 c.self.invariant.1 found.ordered found.all found.only)
     ∙ ap (touched c.args.writes.now) c.self.view_is

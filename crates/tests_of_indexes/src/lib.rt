@@ -1,0 +1,15 @@
+//! Tests of what is found by an index, beside first bodies that walk lists, over the public calls of
+//! the crates that keep one. They need no server, and stand in a crate of their own, since a crate
+//! with tests is proved twice.
+#![tactic(auto)]
+
+#[cfg(test)]
+mod list_plan;
+#[cfg(test)]
+mod listener_lists;
+#[cfg(test)]
+mod listeners;
+#[cfg(test)]
+mod plan_lists;
+#[cfg(test)]
+mod plans;

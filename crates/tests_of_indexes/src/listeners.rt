@@ -1,0 +1,243 @@
+//! Tests that a tree of listeners answers as a list that is walked: over each of the stored lists of
+//! calls both tell the same refusals and the same touched listeners, in the same order.
+
+use crate::listener_lists::LISTS;
+use pres_fan::{FanFault, Listener, Listeners, MOST_PATHS, Touched};
+use pres_ids::{ClientId, Number, SessionId, Stamp};
+use pres_tree::Path;
+use pres_write::Basic;
+use std::alloc::Global;
+use std::process::Abort;
+
+// Listeners as one list in order, which each call walks.
+#[derive(Drop)]
+struct ListListeners {
+    list: Vec<Listener>,
+}
+
+impl ListListeners {
+    fn new(alloc: Global) -> ListListeners {
+        ListListeners {
+            list: Vec::new(alloc),
+        }
+    }
+
+    // How many paths the session listens to.
+    fn count(&self, session: &SessionId) -> usize {
+        self.list
+            .iter()
+            .filter(|listener| listener.session == *session)
+            .count()
+    }
+
+    fn on(&mut self, rt: &impl Abort, listener: Listener) -> Result<(), FanFault> {
+        if self.list.contains(&listener) {
+            return Ok(());
+        }
+        if self.count(&listener.session) >= MOST_PATHS {
+            return Err(FanFault::Full);
+        }
+        self.list.push(listener).expect(rt, "memory");
+        self.list.sort_unstable();
+        Ok(())
+    }
+
+    fn off(&mut self, listener: &Listener) {
+        self.list.retain(|other| other != listener);
+    }
+
+    fn drop_session(&mut self, session: &SessionId) {
+        self.list.retain(|listener| listener.session != *session);
+    }
+
+    // The listeners whose paths the writes touch, as a text: each session, and its paths.
+    fn touched(&self, rt: &impl Abort, alloc: Global, writes: &[Basic]) -> String {
+        let mut said = String::new(alloc);
+        let mut last: Option<&SessionId> = None;
+        for listener in &self.list {
+            if is_touched(writes, &listener.path) {
+                if last != Some(&listener.session) {
+                    say_session(rt, alloc, &mut said, &listener.session);
+                }
+                say_path(rt, alloc, &mut said, &listener.path);
+                last = Some(&listener.session);
+            }
+        }
+        said
+    }
+}
+
+// Whether one of the writes is at the path, above it or below it.
+fn is_touched(writes: &[Basic], path: &Path) -> bool {
+    writes.iter().any(|write| write.path().is_prefix_of(path) || path.is_prefix_of(write.path()))
+}
+
+fn say_session(rt: &impl Abort, alloc: Global, said: &mut String, session: &SessionId) {
+    let part = format!(in alloc; "|{session}").expect(rt, "memory");
+    said.push_str(part.as_str()).expect(rt, "memory");
+}
+
+fn say_path(rt: &impl Abort, alloc: Global, said: &mut String, path: &Path) {
+    let part = format!(in alloc; " {path}").expect(rt, "memory");
+    said.push_str(part.as_str()).expect(rt, "memory");
+}
+
+// The rows of touched sessions, as the same text.
+fn rows_said(rt: &impl Abort, alloc: Global, rows: &[Touched]) -> String {
+    let mut said = String::new(alloc);
+    for row in rows {
+        say_session(rt, alloc, &mut said, row.session());
+        for path in row.paths() {
+            say_path(rt, alloc, &mut said, path);
+        }
+    }
+    said
+}
+
+// The tree and the list, and what each of them has told.
+#[derive(Drop)]
+struct Both {
+    tree: Listeners,
+    list: ListListeners,
+    said: String,
+    wanted: String,
+}
+
+impl Both {
+    fn new(alloc: Global) -> Both {
+        Both {
+            tree: Listeners::new(alloc),
+            list: ListListeners::new(alloc),
+            said: String::new(alloc),
+            wanted: String::new(alloc),
+        }
+    }
+
+    fn on(&mut self, rt: &impl Abort, alloc: Global, text: &str) {
+        let Listener { session, path } = listener(rt, alloc, text);
+        say_refusal(
+            rt,
+            alloc,
+            &mut self.said,
+            self.tree.on(alloc, &session, path),
+        );
+        let refusal = self.list.on(rt, listener(rt, alloc, text));
+        say_refusal(rt, alloc, &mut self.wanted, refusal);
+    }
+
+    // As many calls, with the numbers from 0 on behind the path.
+    fn on_each(&mut self, rt: &impl Abort, alloc: Global, calls: u64, text: &str) {
+        for number in 0..calls {
+            let text = format!(in alloc; "{text}{number}").expect(rt, "memory");
+            self.on(rt, alloc, text.as_str());
+        }
+    }
+
+    fn off(&mut self, rt: &impl Abort, alloc: Global, text: &str) {
+        let gone = listener(rt, alloc, text);
+        self.tree.off(&gone.session, &gone.path);
+        self.list.off(&gone);
+    }
+
+    fn drop_session(&mut self, rt: &impl Abort, alloc: Global, text: &str) {
+        let session = session_of(rt, alloc, text);
+        self.tree.drop_session(&session);
+        self.list.drop_session(&session);
+    }
+
+    fn write(&mut self, rt: &impl Abort, alloc: Global, paths: &str) {
+        let writes = writes_at(rt, alloc, paths);
+        let rows = self
+            .tree
+            .touched(alloc, writes.as_slice())
+            .expect(rt, "memory");
+        say(rt, &mut self.said, rows_said(rt, alloc, rows.as_slice()));
+        let wanted = self.list.touched(rt, alloc, writes.as_slice());
+        say(rt, &mut self.wanted, wanted);
+    }
+
+    fn call(&mut self, rt: &impl Abort, alloc: Global, call: &str) {
+        match call.split_once(' ').expect(rt, "a call") {
+            ("on", text) => self.on(rt, alloc, text),
+            ("off", text) => self.off(rt, alloc, text),
+            ("drop", text) => self.drop_session(rt, alloc, text),
+            ("w", paths) => self.write(rt, alloc, paths),
+            (calls, text) => {
+                let text = text.strip_prefix("on ").expect(rt, "a call");
+                self.on_each(rt, alloc, calls.parse().expect(rt, "a number"), text);
+            }
+        }
+    }
+}
+
+// What a call told, on a line of its own.
+fn say(rt: &impl Abort, said: &mut String, text: String) {
+    said.push_str(text.as_str()).expect(rt, "memory");
+    said.push('\n').expect(rt, "memory");
+}
+
+// Why a listener was refused, if it was.
+fn say_refusal(rt: &impl Abort, alloc: Global, said: &mut String, answer: Result<(), FanFault>) {
+    let refusal: Option<FanFault> = answer.err();
+    say(
+        rt,
+        said,
+        format!(in alloc; "{refusal:?}").expect(rt, "memory"),
+    );
+}
+
+fn number(rt: &impl Abort, text: &str) -> Number {
+    Number::new(text.parse().expect(rt, "a number")).expect(rt, "a number")
+}
+
+// The session of a text as `alice/1.2`.
+fn session_of(rt: &impl Abort, alloc: Global, text: &str) -> SessionId {
+    let (client, stamp) = text.split_once('/').expect(rt, "a stamp");
+    let (incarnation, attempt) = stamp.split_once('.').expect(rt, "an attempt");
+    let stamp = Stamp {
+        incarnation: number(rt, incarnation),
+        attempt: number(rt, attempt),
+    };
+    SessionId::of(
+        ClientId::parse(alloc, client).expect(rt, "a client's name"),
+        stamp,
+    )
+}
+
+// The listener of a session and a path behind it.
+fn listener(rt: &impl Abort, alloc: Global, text: &str) -> Listener {
+    let (session, path) = text.split_once(' ').expect(rt, "a path");
+    Listener {
+        session: session_of(rt, alloc, session),
+        path: Path::parse(alloc, path).expect(rt, "a path"),
+    }
+}
+
+// Writes that remove at these paths.
+fn writes_at(rt: &impl Abort, alloc: Global, paths: &str) -> Vec<Basic> {
+    let mut writes = Vec::new(alloc);
+    for path in paths.split(' ') {
+        let path = Path::parse(alloc, path).expect(rt, "a path");
+        let write = Basic::new(path, None).expect(rt, "a write");
+        writes.push(write).expect(rt, "memory");
+    }
+    writes
+}
+
+// What the tree and the list told, once all calls of a line were made.
+fn told(rt: &impl Abort, alloc: Global, calls: &str) -> (String, String) {
+    let mut both = Both::new(alloc);
+    for call in calls.split("; ") {
+        both.call(rt, alloc, call);
+    }
+    let Both { said, wanted, .. } = both;
+    (said, wanted)
+}
+
+#[test]
+fn a_tree_answers_as_a_list_that_is_walked(rt: HostRuntime) {
+    for calls in LISTS.lines() {
+        let (said, wanted) = told(&rt, rt.alloc(), calls);
+        assert_eq!(rt; said.as_str(), wanted.as_str(), "at {calls}");
+    }
+}
