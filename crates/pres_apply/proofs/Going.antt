@@ -5,9 +5,9 @@ use Rattle.pres_log.specs.Plains.{last_number}
 use Rattle.pres_apply.specs.declared.faults.RunFault.{RunFault}
 use Rattle.pres_apply.specs.declared.faults.RunFault.TheVariants.{Spent, Read, Endless}
 use Rattle.pres_apply.specs.Faults.{EndsAt}
-use Rattle.pres_apply.specs.Replies.{State}
+use Rattle.pres_apply.specs.Replies.{ApplyState}
 use Rattle.pres_apply.specs.Replies.{start, reply, next, tree_line}
-use Rattle.pres_apply.specs.Lines.{lines_of, replies, end_state, output_of, room, Holds, IsFeedless, AnswersSome, Takes, Going, Reached, ReachedPast, Stopped}
+use Rattle.pres_apply.specs.Lines.{lines_of, replies, end_state, output_of, room, KeepsLine, IsFeedless, AnswersSome, TakesLines, Going, Reached, ReachedPast, Stopped}
 use Rattle.pres_apply.proofs.Split.{takes_more, takes_none, replies_all, replies_more, end_all, lines_none, lines_more}
 
 consumes_none : (o : Option (List ℕ)) → Consumes o o []
@@ -35,15 +35,15 @@ all_read : (input : List ℕ) (rest : Option (List ℕ)) (seen : List ℕ) → C
 all_read input None seen h k = absurd h
 all_read input (Some xs) seen h k = h ∙ ap (λ z. seen ++ z) k ∙ append-nil seen
 
-pub going_starts : (input before : Option (List ℕ)) (m : State) (bytes : List ℕ) (cut : Bool) → m ≡ start → Holds [] bytes cut → Going input input before before m bytes cut 0
+pub going_starts : (input before : Option (List ℕ)) (m : ApplyState) (bytes : List ℕ) (cut : Bool) → m ≡ start → KeepsLine [] bytes cut → Going input input before before m bytes cut 0
 going_starts input before m bytes cut e h =
-    record { seen = []; said = []; read = consumes_none input; long = omega arith; written = appends_none before; takes = subst (λ x. Takes start x [] bytes cut []) (sym e) (takes_none start bytes cut h) }
+    record { seen = []; said = []; read = consumes_none input; long = omega arith; written = appends_none before; takes = subst (λ x. TakesLines start x [] bytes cut []) (sym e) (takes_none start bytes cut h) }
 
-pub going_more : (input rest rest' before after after' : Option (List ℕ)) (m m' : State) (bytes bytes' : List ℕ) (cut cut' : Bool) (piece out : List ℕ) (least : ℕ)
+pub going_more : (input rest rest' before after after' : Option (List ℕ)) (m m' : ApplyState) (bytes bytes' : List ℕ) (cut cut' : Bool) (piece out : List ℕ) (least : ℕ)
     → Going input rest before after m bytes cut least
     → Consumes rest rest' piece
     → 0 < length piece
-    → ((line : List ℕ) → IsFeedless line → Holds line bytes cut → (said : List ℕ) × (out ≡ said) × Takes m m' (line ++ piece) bytes' cut' said)
+    → ((line : List ℕ) → IsFeedless line → KeepsLine line bytes cut → (said : List ℕ) × (out ≡ said) × TakesLines m m' (line ++ piece) bytes' cut' said)
     → Appends after after' out
     → Going input rest' before after' m' bytes' cut' (least + 1)
 going_more input rest rest' before after after' m m' bytes bytes' cut cut' piece out least w h some step k =
@@ -58,14 +58,14 @@ going_more input rest rest' before after after' m m' bytes bytes' cut cut' piece
       takes = takes_more start m m' w.seen piece bytes bytes' cut cut' w.said r.0 t r.2;
     }
 
-out_all : (m : State) (seen bytes : List ℕ) (cut : Bool) (said : List ℕ) (t : Takes start m seen bytes cut said) → said ++ (reply m t.last ++ tree_line (next m t.last)) ≡ output_of seen
+out_all : (m : ApplyState) (seen bytes : List ℕ) (cut : Bool) (said : List ℕ) (t : TakesLines start m seen bytes cut said) → said ++ (reply m t.last ++ tree_line (next m t.last)) ≡ output_of seen
 out_all m seen bytes cut said t =
     sym (append_assoc said (reply m t.last) (tree_line (next m t.last))) ∙ ap (λ x. x ++ tree_line (next m t.last)) (replies_all start m seen bytes cut said t)
     ∙ ap (λ x. replies start (lines_of seen) ++ tree_line x) (end_all start m seen bytes cut said t)
 
-ends_known : (input : List ℕ) (rest before after after' : Option (List ℕ)) (m : State) (bytes : List ℕ) (cut : Bool) (out : List ℕ) (least : ℕ)
+ends_known : (input : List ℕ) (rest before after after' : Option (List ℕ)) (m : ApplyState) (bytes : List ℕ) (cut : Bool) (out : List ℕ) (least : ℕ)
     → Going (Some input) rest before after m bytes cut least → IsAtEnd rest
-    → ((line : List ℕ) → Holds line bytes cut → out ≡ reply m line ++ tree_line (next m line))
+    → ((line : List ℕ) → KeepsLine line bytes cut → out ≡ reply m line ++ tree_line (next m line))
     → Appends after after' out
     → Appends before after' (output_of input)
 ends_known input rest before after after' m bytes cut out least w e step k =
@@ -75,18 +75,18 @@ ends_known input rest before after after' m bytes cut out least w e step k =
     ap (λ x. w.said ++ x) (step t.last t.holds) ∙ out_all m w.seen bytes cut w.said t ∙ ap output_of (sym (all_read input rest w.seen w.read e)) in
     subst (λ x. Appends before after' x) said whole
 
-pub going_ends : (input rest rest' before after after' : Option (List ℕ)) (m : State) (bytes : List ℕ) (cut : Bool) (out : List ℕ) (least : ℕ)
+pub going_ends : (input rest rest' before after after' : Option (List ℕ)) (m : ApplyState) (bytes : List ℕ) (cut : Bool) (out : List ℕ) (least : ℕ)
     → Going input rest before after m bytes cut least → Consumes rest rest' [] → IsAtEnd rest'
-    → ((line : List ℕ) → Holds line bytes cut → out ≡ reply m line ++ tree_line (next m line))
+    → ((line : List ℕ) → KeepsLine line bytes cut → out ≡ reply m line ++ tree_line (next m line))
     → Appends after after' out
     → IfSome input (λ bs. Appends before after' (output_of bs))
 going_ends None rest rest' before after after' m bytes cut out least w h e step k = tt
 going_ends (Some input) rest rest' before after after' m bytes cut out least w h e step k =
     ends_known input rest' before after after' m bytes cut out least (record { seen = w.seen; said = w.said; long = w.long; read = subst (λ x. Consumes (Some input) rest' x) (append-nil w.seen) (consumes_more (Some input) rest rest' w.seen [] w.read h); written = w.written; takes = w.takes }) e step k
 
-pub status_ends : (input rest rest' before after : Option (List ℕ)) (m m' : State) (bytes : List ℕ) (cut : Bool) (least : ℕ)
+pub status_ends : (input rest rest' before after : Option (List ℕ)) (m m' : ApplyState) (bytes : List ℕ) (cut : Bool) (least : ℕ)
     → Going input rest before after m bytes cut least → Consumes rest rest' [] → IsAtEnd rest'
-    → ((line : List ℕ) → Holds line bytes cut → m' ≡ next m line)
+    → ((line : List ℕ) → KeepsLine line bytes cut → m' ≡ next m line)
     → IfSome input (λ bs. m'.refused ≡ (end_state bs).refused)
 status_ends None rest rest' before after m m' bytes cut least w h e step = tt
 status_ends (Some input) rest rest' before after m m' bytes cut least w h e step =
@@ -97,13 +97,13 @@ status_ends (Some input) rest rest' before after m m' bytes cut least w h e step
 -- ---- runs that end early
 
 -- the lines that have ended so far
-pub reached : (input rest before after : Option (List ℕ)) (s : State) (bytes : List ℕ) (cut : Bool) (least : ℕ) → Going input rest before after s bytes cut least → Reached input rest before after
+pub reached : (input rest before after : Option (List ℕ)) (s : ApplyState) (bytes : List ℕ) (cut : Bool) (least : ℕ) → Going input rest before after s bytes cut least → Reached input rest before after
 reached input rest before after s bytes cut least w =
     let t = w.takes in
     record { seen = w.seen; done = t.done; last = t.last; read = w.read; lines = t.whole_is; written = subst (λ x. Appends before after x) t.text w.written }
 
 -- and how many bytes they took at least
-pub reached_past : (input rest before after : Option (List ℕ)) (s : State) (bytes : List ℕ) (cut : Bool) (least : ℕ) → Going input rest before after s bytes cut least → ReachedPast least input rest before after
+pub reached_past : (input rest before after : Option (List ℕ)) (s : ApplyState) (bytes : List ℕ) (cut : Bool) (least : ℕ) → Going input rest before after s bytes cut least → ReachedPast least input rest before after
 reached_past input rest before after s bytes cut least w =
     let t = w.takes in
     record {
@@ -118,24 +118,24 @@ consumes_kept (Some zs) (Some bs) None xs h k = k
 consumes_kept (Some zs) (Some bs) (Some cs) xs h k = h ∙ ap (λ z. xs ++ z) (sym k)
 
 -- the same after a read that failed
-pub reached_kept : (input rest rest' before after : Option (List ℕ)) (s : State) (bytes : List ℕ) (cut : Bool) (least : ℕ) → Going input rest before after s bytes cut least → Keeps rest rest' → Reached input rest' before after
+pub reached_kept : (input rest rest' before after : Option (List ℕ)) (s : ApplyState) (bytes : List ℕ) (cut : Bool) (least : ℕ) → Going input rest before after s bytes cut least → Keeps rest rest' → Reached input rest' before after
 reached_kept input rest rest' before after s bytes cut least w k =
     let r = reached input rest before after s bytes cut least w in
     record { seen = r.seen; done = r.done; last = r.last; read = consumes_kept input rest rest' r.seen r.read k; lines = r.lines; written = r.written }
 
 -- memory was refused at the end of the input, where nothing more was read
-pub stopped_ends : (input rest rest' before after : Option (List ℕ)) (s : State) (bytes : List ℕ) (cut : Bool) (least : ℕ)
+pub stopped_ends : (input rest rest' before after : Option (List ℕ)) (s : ApplyState) (bytes : List ℕ) (cut : Bool) (least : ℕ)
     → Going input rest before after s bytes cut least → Consumes rest rest' [] → Stopped input rest' before after
 stopped_ends input rest rest' before after s bytes cut least w h =
     let r = reached input rest before after s bytes cut least w in
     record { seen = r.seen; left_over = []; done = r.done; last = r.last; read = consumes_more input rest rest' r.seen [] r.read h; short = omega arith; lines = r.lines; written = r.written }
 
 -- memory was refused in a piece, which was answered as far as it was taken
-pub stopped_midway : (input rest rest' before after after' : Option (List ℕ)) (m : State) (bytes : List ℕ) (cut : Bool) (piece out : List ℕ) (least : ℕ)
+pub stopped_midway : (input rest rest' before after after' : Option (List ℕ)) (m : ApplyState) (bytes : List ℕ) (cut : Bool) (piece out : List ℕ) (least : ℕ)
     → Going input rest before after m bytes cut least
     → Consumes rest rest' piece
     → length piece ≤ room
-    → ((line : List ℕ) → IsFeedless line → Holds line bytes cut → (said : List ℕ) × (out ≡ said) × AnswersSome m line piece said)
+    → ((line : List ℕ) → IsFeedless line → KeepsLine line bytes cut → (said : List ℕ) × (out ≡ said) × AnswersSome m line piece said)
     → Appends after after' out
     → Stopped input rest' before after'
 stopped_midway input rest rest' before after after' m bytes cut piece out least w h short step k =

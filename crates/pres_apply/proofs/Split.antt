@@ -2,9 +2,9 @@
 use Rattle.std.proofs.Common.{◌≡◌, ◌==◌, ◌+◌, ◌<◌, ℕ, zero, suc, Bool, true, false, List, [], ◌∷◌, ◌++◌, length, take, drop, slice_index, refl, sym, ap, ◌∙◌, append_assoc, append-nil, ◌||◌, arith, eqb-true, add-one}
 use Rattle.std.proofs.lemmas.Bool.{false_from_ne_true}
 use Rattle.std.proofs.Math.Seq.{split_at}
-use Rattle.pres_apply.specs.Replies.{State}
+use Rattle.pres_apply.specs.Replies.{ApplyState}
 use Rattle.pres_apply.specs.Replies.{reply, next}
-use Rattle.pres_apply.specs.Lines.{lines_of, replies, end_of, IsFeedless, Holds, Takes, Midway, AnswersSome}
+use Rattle.pres_apply.specs.Lines.{lines_of, replies, end_of, IsFeedless, KeepsLine, TakesLines, Midway, AnswersSome}
 use Rattle.std.specs.List.{onto_first}
 use Rattle.std.proofs.lemmas.List.Folds.{list_any-append}
 
@@ -87,12 +87,12 @@ pub lines_more : (bs : List ℕ) (done : List (List ℕ)) (last more : List ℕ)
 unfolding More
 lines_more bs done last more e = more_all bs done last more e
 
-pub replies_more : (m : State) (ls ks : List (List ℕ)) → replies m (ls ++ ks) ≡ replies m ls ++ replies (end_of m ls) ks
+pub replies_more : (m : ApplyState) (ls ks : List (List ℕ)) → replies m (ls ++ ks) ≡ replies m ls ++ replies (end_of m ls) ks
 unfolding replies end_of
 replies_more m [] ks = refl
 replies_more m (l ∷ ls) ks = rw (replies_more (next m l) ls ks, append_assoc)
 
-pub end_more : (m : State) (ls ks : List (List ℕ)) → end_of m (ls ++ ks) ≡ end_of (end_of m ls) ks
+pub end_more : (m : ApplyState) (ls ks : List (List ℕ)) → end_of m (ls ++ ks) ≡ end_of (end_of m ls) ks
 unfolding end_of
 end_more m [] ks = refl
 end_more m (l ∷ ls) ks = end_more (next m l) ls ks
@@ -143,11 +143,11 @@ lines_last (b ∷ bs) h =
 
 -- ---- steps
 
-replies_end : (old mid : State) (done : List (List ℕ)) (line : List ℕ) → mid ≡ end_of old done → replies old done ++ reply mid line ≡ replies old (done ++ line ∷ [])
+replies_end : (old mid : ApplyState) (done : List (List ℕ)) (line : List ℕ) → mid ≡ end_of old done → replies old done ++ reply mid line ≡ replies old (done ++ line ∷ [])
 unfolding replies
 replies_end old mid done line e = ap (λ x. replies old done ++ reply x line) e ∙ ap (λ x. replies old done ++ x) (sym (append-nil _)) ∙ sym (replies_more old done (line ∷ []))
 
-pub midway_starts : (m : State) (line piece bytes : List ℕ) (cut : Bool) (out : List ℕ) → IsFeedless line → Holds line bytes cut → Midway m m line piece piece bytes cut out out
+pub midway_starts : (m : ApplyState) (line piece bytes : List ℕ) (cut : Bool) (out : List ℕ) → IsFeedless line → KeepsLine line bytes cut → Midway m m line piece piece bytes cut out out
 unfolding end_of replies
 midway_starts m line piece bytes cut out f h = record {
   front = [];
@@ -162,9 +162,9 @@ midway_starts m line piece bytes cut out f h = record {
 }
 
 -- a line ends
-pub midway_goes : (old mid new : State) (begun piece rest head tail bytes bytes' : List ℕ) (cut cut' : Bool) (before out out' : List ℕ)
-    → Midway old mid begun piece rest bytes cut before out → rest ≡ head ++ 10 ∷ tail → IsFeedless head → Holds [] bytes' cut'
-    → ((line : List ℕ) → Holds line bytes cut → (new ≡ next mid (line ++ head)) × (out' ≡ out ++ reply mid (line ++ head)))
+pub midway_goes : (old mid new : ApplyState) (begun piece rest head tail bytes bytes' : List ℕ) (cut cut' : Bool) (before out out' : List ℕ)
+    → Midway old mid begun piece rest bytes cut before out → rest ≡ head ++ 10 ∷ tail → IsFeedless head → KeepsLine [] bytes' cut'
+    → ((line : List ℕ) → KeepsLine line bytes cut → (new ≡ next mid (line ++ head)) × (out' ≡ out ++ reply mid (line ++ head)))
     → Midway old new begun piece tail bytes' cut' before out'
 unfolding end_of replies
 midway_goes old mid new begun piece rest head tail bytes bytes' cut cut' before out out' m split f h step =
@@ -188,17 +188,17 @@ midway_goes old mid new begun piece rest head tail bytes bytes' cut cut' before 
     }
 
 -- what has been answered so far
-pub midway_stops : (old mid : State) (begun piece rest bytes : List ℕ) (cut : Bool) (before out : List ℕ)
+pub midway_stops : (old mid : ApplyState) (begun piece rest bytes : List ℕ) (cut : Bool) (before out : List ℕ)
     → Midway old mid begun piece rest bytes cut before out
     → (said : List ℕ) × (out ≡ before ++ said) × AnswersSome old begun piece said
 midway_stops old mid begun piece rest bytes cut before out m =
     (replies old m.done, m.text, record { front = m.front; back = rest; done = m.done; last = m.last; split = m.split; lines = m.lines; text = refl })
 
 -- no line feed is left
-pub midway_ends : (old new : State) (begun piece rest bytes bytes' : List ℕ) (cut cut' : Bool) (before out : List ℕ)
+pub midway_ends : (old new : ApplyState) (begun piece rest bytes bytes' : List ℕ) (cut cut' : Bool) (before out : List ℕ)
     → Midway old new begun piece rest bytes cut before out → IsFeedless rest
-    → ((line : List ℕ) → Holds line bytes cut → Holds (line ++ rest) bytes' cut')
-    → (said : List ℕ) × (out ≡ before ++ said) × Takes old new (begun ++ piece) bytes' cut' said
+    → ((line : List ℕ) → KeepsLine line bytes cut → KeepsLine (line ++ rest) bytes' cut')
+    → (said : List ℕ) × (out ≡ before ++ said) × TakesLines old new (begun ++ piece) bytes' cut' said
 midway_ends old new begun piece rest bytes bytes' cut cut' before out m f push =
     let one = feedless_append m.last rest m.feedless f in
     let is : lines_of (begun ++ piece) ≡ m.done ++ (m.last ++ rest) ∷ [] =
@@ -207,9 +207,9 @@ midway_ends old new begun piece rest bytes bytes' cut cut' before out m f push =
     (replies old m.done, m.text, record { done = m.done; last = m.last ++ rest; whole_is = is; feedless = one; holds = push m.last m.holds; state = m.state; text = refl })
 
 -- a text and a further piece of it
-pub takes_more : (old mid new : State) (seen piece bytes bytes' : List ℕ) (cut cut' : Bool) (said more : List ℕ)
-    → (m : Takes old mid seen bytes cut said) → Takes mid new (m.last ++ piece) bytes' cut' more
-    → Takes old new (seen ++ piece) bytes' cut' (said ++ more)
+pub takes_more : (old mid new : ApplyState) (seen piece bytes bytes' : List ℕ) (cut cut' : Bool) (said more : List ℕ)
+    → (m : TakesLines old mid seen bytes cut said) → TakesLines mid new (m.last ++ piece) bytes' cut' more
+    → TakesLines old new (seen ++ piece) bytes' cut' (said ++ more)
 takes_more old mid new seen piece bytes bytes' cut cut' said more m t =
     record {
       done = m.done ++ t.done;
@@ -221,16 +221,16 @@ takes_more old mid new seen piece bytes bytes' cut cut' said more m t =
       text = ap (λ x. x ++ more) m.text ∙ ap (λ x. replies old m.done ++ x) (t.text ∙ ap (λ x. replies x t.done) m.state) ∙ sym (replies_more old m.done t.done);
     }
 
-pub takes_none : (m : State) (bytes : List ℕ) (cut : Bool) → Holds [] bytes cut → Takes m m [] bytes cut []
+pub takes_none : (m : ApplyState) (bytes : List ℕ) (cut : Bool) → KeepsLine [] bytes cut → TakesLines m m [] bytes cut []
 unfolding end_of replies
 takes_none m bytes cut h = record { done = []; last = []; whole_is = lines_none; feedless = feedless_none; holds = h; state = refl; text = refl }
 
 -- the text ends
-pub replies_all : (old new : State) (seen bytes : List ℕ) (cut : Bool) (said : List ℕ) (t : Takes old new seen bytes cut said) → said ++ reply new t.last ≡ replies old (lines_of seen)
+pub replies_all : (old new : ApplyState) (seen bytes : List ℕ) (cut : Bool) (said : List ℕ) (t : TakesLines old new seen bytes cut said) → said ++ reply new t.last ≡ replies old (lines_of seen)
 replies_all old new seen bytes cut said t =
     ap (λ x. x ++ reply new t.last) t.text ∙ replies_end old new t.done t.last t.state ∙ ap (λ ls. replies old ls) (sym t.whole_is)
 
-pub end_all : (old new : State) (seen bytes : List ℕ) (cut : Bool) (said : List ℕ) (t : Takes old new seen bytes cut said) → next new t.last ≡ end_of old (lines_of seen)
+pub end_all : (old new : ApplyState) (seen bytes : List ℕ) (cut : Bool) (said : List ℕ) (t : TakesLines old new seen bytes cut said) → next new t.last ≡ end_of old (lines_of seen)
 unfolding end_of
 end_all old new seen bytes cut said t =
     ap (λ x. next x t.last) t.state ∙ sym (end_more old t.done (t.last ∷ [])) ∙ ap (λ ls. end_of old ls) (sym t.whole_is)

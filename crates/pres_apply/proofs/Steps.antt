@@ -5,15 +5,15 @@ use Rattle.pres_log.specs.Plains.{PlainState, state_after}
 use Rattle.pres_apply.specs.declared.faults.RunFault.{RunFault}
 use Rattle.pres_apply.specs.declared.faults.RunFault.TheVariants.{Memory, Spent, Read, Write, Endless}
 use Rattle.pres_apply.specs.Faults.{EndsAt}
-use Rattle.pres_apply.specs.Replies.{State, carry_out}
+use Rattle.pres_apply.specs.Replies.{ApplyState, carry_out}
 
-abbrev state : PlainState → Bool → State
+abbrev state : PlainState → Bool → ApplyState
 state log refused = record { log = log; refused = refused }
 
-pub carried : (log after : PlainState) (refused : Bool) (s : State) (op : Op) (now : ℕ)
+pub carried : (log after : PlainState) (refused : Bool) (s : ApplyState) (op : Op) (now : ℕ)
     → state log refused ≡ s → after ≡ state_after log op now
     → state after refused ≡ (carry_out s op now).1
-carried log after refused s op now v e = ap (λ l. state l refused) e ∙ ap (λ (x : State). (carry_out x op now).1) v
+carried log after refused s op now v e = ap (λ l. state l refused) e ∙ ap (λ (x : ApplyState). (carry_out x op now).1) v
 
 pub joined : (out a b c x y z : List ℕ) → a ≡ out ++ x → b ≡ a ++ y → c ≡ b ++ z → c ≡ out ++ (x ++ (y ++ z))
 joined out a b c x y z h k l =

@@ -3,22 +3,22 @@ use Rattle.std.specs.Prelude.{◌≡◌, ◌==◌, ◌≤◌, ℕ, Bool, false, 
 use Rattle.std.specs.Io.KnownBytes.{Appends, Consumes}
 use Rattle.std.specs.List.{list_any, slice_split}
 use Rattle.pres_wire.specs.UpForms.{longest_text}
-use Rattle.pres_apply.specs.Replies.{State, start, reply, next, tree_line}
+use Rattle.pres_apply.specs.Replies.{ApplyState, start, reply, next, tree_line}
 
 -- the pieces between line feeds, also the one after the last
 unfoldable pub lines_of : List ℕ → List (List ℕ)
 lines_of text = slice_split (λ b. b == 10) text
 
-unfoldable pub replies : State → List (List ℕ) → List ℕ
+unfoldable pub replies : ApplyState → List (List ℕ) → List ℕ
 replies s [] = []
 replies s (l ∷ ls) = reply s l ++ replies (next s l) ls
 
-unfoldable pub end_of : State → List (List ℕ) → State
+unfoldable pub end_of : ApplyState → List (List ℕ) → ApplyState
 end_of s [] = s
 end_of s (l ∷ ls) = end_of (next s l) ls
 
 -- the state after a whole input
-abbrev pub end_state : List ℕ → State
+abbrev pub end_state : List ℕ → ApplyState
 end_state input = end_of start (lines_of input)
 
 -- what is written for a whole input: the replies to its lines, and the tree
@@ -62,25 +62,25 @@ pub record Stopped (input rest before after : Option (List ℕ)) : Type 0 where
 -- ---- inside a run
 
 -- what is kept of a line that has come so far: all of it, or that it is too long
-abbrev pub Holds : List ℕ → List ℕ → Bool → Type 0
-Holds line bytes cut = (cut ≡ nat_lt longest_text (length line)) × (cut ≡ false → bytes ≡ line)
+abbrev pub KeepsLine : List ℕ → List ℕ → Bool → Type 0
+KeepsLine line bytes cut = (cut ≡ nat_lt longest_text (length line)) × (cut ≡ false → bytes ≡ line)
 
 -- the bytes have no line feed
 unfoldable pub IsFeedless : List ℕ → Type 0
 IsFeedless bytes = list_any (λ b. b == 10) bytes ≡ false
 
 -- The text is these lines and a last one, which is kept, and the lines have been taken.
-pub record Takes (old new : State) (whole bytes : List ℕ) (cut : Bool) (said : List ℕ) : Type 0 where
+pub record TakesLines (old new : ApplyState) (whole bytes : List ℕ) (cut : Bool) (said : List ℕ) : Type 0 where
   pub done : List (List ℕ)
   pub last : List ℕ
   pub whole_is : lines_of whole ≡ done ++ last ∷ []
   pub feedless : IsFeedless last
-  pub holds : Holds last bytes cut
+  pub holds : KeepsLine last bytes cut
   pub state : new ≡ end_of old done
   pub text : said ≡ replies old done
 
 -- The replies are those to the lines that end in the line so far and a first part of the piece.
-pub record AnswersSome (old : State) (line piece said : List ℕ) : Type 0 where
+pub record AnswersSome (old : ApplyState) (line piece said : List ℕ) : Type 0 where
   pub front : List ℕ
   pub back : List ℕ
   pub done : List (List ℕ)
@@ -90,22 +90,22 @@ pub record AnswersSome (old : State) (line piece said : List ℕ) : Type 0 where
   pub text : said ≡ replies old done
 
 -- The lines that end in the line so far and the piece but for its rest have been taken.
-pub record Midway (old new : State) (line piece rest bytes : List ℕ) (cut : Bool) (before out : List ℕ) : Type 0 where
+pub record Midway (old new : ApplyState) (line piece rest bytes : List ℕ) (cut : Bool) (before out : List ℕ) : Type 0 where
   pub front : List ℕ
   pub done : List (List ℕ)
   pub last : List ℕ
   pub split : piece ≡ front ++ rest
   pub lines : lines_of (line ++ front) ≡ done ++ last ∷ []
   pub feedless : IsFeedless last
-  pub holds : Holds last bytes cut
+  pub holds : KeepsLine last bytes cut
   pub state : new ≡ end_of old done
   pub text : out ≡ before ++ replies old done
 
 -- What was read, so many bytes at least, and written so far, and the state then.
-pub record Going (input rest before after : Option (List ℕ)) (s : State) (bytes : List ℕ) (cut : Bool) (least : ℕ) : Type 0 where
+pub record Going (input rest before after : Option (List ℕ)) (s : ApplyState) (bytes : List ℕ) (cut : Bool) (least : ℕ) : Type 0 where
   pub seen : List ℕ
   pub said : List ℕ
   pub read : Consumes input rest seen
   pub long : least ≤ length seen
   pub written : Appends before after said
-  pub takes : Takes start s seen bytes cut said
+  pub takes : TakesLines start s seen bytes cut said

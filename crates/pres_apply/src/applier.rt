@@ -8,9 +8,10 @@ ghost use Rattle.pres_apply.specs.Faults.{EndsAt};
 
 use crate::faults::{LineFault, RunFault};
 use itoa::Buffer;
+use pres_limits::MAX_SAFE_INTEGER;
 use pres_log::{Fault, Plain};
 use pres_tree::{Tree, TreeFault, TreeJson};
-use pres_write::{Kept, MAX_SAFE_INTEGER, Moment, Op, OpJson, WriteFault};
+use pres_write::{Kept, Moment, Op, OpJson, WriteFault};
 use serde_json::Value;
 use std::alloc::{AllocError, Global};
 use std::marker::Model;
@@ -24,9 +25,9 @@ pub(crate) struct Applier {
 }
 
 impl Model for Applier {
-    ghost use Rattle.pres_apply.specs.Replies.{State};
+    ghost use Rattle.pres_apply.specs.Replies.{ApplyState};
 
-    ghost Value = { State };
+    ghost Value = { ApplyState };
 
     ghost view = { λ a. record { log = a.plain; refused = a.refused } };
 }

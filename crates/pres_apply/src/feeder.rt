@@ -3,11 +3,11 @@
 ghost use Rattle.std.specs.Prelude.{◌≡◌, ◌++◌, ◌∷◌, [], List, ℕ, OnOk, OnErr, IfErr, MatchOption, length, ◌+◌, ◌≤◌};
 ghost use Rattle.pres_apply.specs.Replies.{start, reply, next, tree_line};
 ghost use Rattle.pres_apply.specs.Faults.{EndsAt};
-ghost use Rattle.pres_apply.specs.Lines.{AnswersSome, Holds, IsFeedless, Takes};
+ghost use Rattle.pres_apply.specs.Lines.{AnswersSome, KeepsLine, IsFeedless, TakesLines};
 
 use crate::applier::Applier;
 use crate::faults::{LineFault, RunFault};
-use crate::pending::Pending;
+use crate::pending::PendingLine;
 use memchr::memchr;
 use std::alloc::Global;
 
@@ -15,18 +15,18 @@ use std::alloc::Global;
 #[derive(Drop)]
 pub(crate) struct Feeder {
     applier: Applier,
-    pending: Pending,
+    pending: PendingLine,
 }
 
 impl Feeder {
     /// Before the first piece.
     pub(crate) fn new(alloc: Global) -> Feeder
         ensures applier { result.applier ≡ start }
-        ensures pending { Holds [] result.pending.bytes.items result.pending.cut }
+        ensures pending { KeepsLine [] result.pending.bytes.items result.pending.cut }
     {
         Feeder {
             applier: Applier::new(alloc),
-            pending: Pending::new(alloc),
+            pending: PendingLine::new(alloc),
         }
     }
 
@@ -41,13 +41,13 @@ impl Feeder {
     #[tactic(auto, unfolding(crate::specs::Replies::reply, crate::specs::Replies::next))]
     fn end_line(&mut self, out: &mut Vec<u8>) -> Result<(), RunFault>
         ensures text { OnOk result ((line : List ℕ)
-            → Holds line self.old.pending.bytes.items self.old.pending.cut
+            → KeepsLine line self.old.pending.bytes.items self.old.pending.cut
             → out.new.items ≡ out.old.items ++ reply self.old.applier line) }
         ensures state { OnOk result ((line : List ℕ)
-            → Holds line self.old.pending.bytes.items self.old.pending.cut
+            → KeepsLine line self.old.pending.bytes.items self.old.pending.cut
             → self.new.applier ≡ next self.old.applier line) }
         ensures begins { OnOk result
-            (Holds [] self.new.pending.bytes.items self.new.pending.cut) }
+            (KeepsLine [] self.new.pending.bytes.items self.new.pending.cut) }
         ensures count { OnOk result
             (self.new.applier.log.number ≤ self.old.applier.log.number + 1) }
         ensures err { IfErr result (EndsAt self.old.applier.log.number) }
@@ -66,16 +66,16 @@ impl Feeder {
     /// answered, the replies to those before it stand.
     pub(crate) fn feed(&mut self, piece: &[u8], out: &mut Vec<u8>) -> Result<(), RunFault>
         ensures taken { OnOk result ((line : List ℕ) → IsFeedless line
-            → Holds line self.old.pending.bytes.items self.old.pending.cut
+            → KeepsLine line self.old.pending.bytes.items self.old.pending.cut
             → (said : List ℕ) × (out.new.items ≡ out.old.items ++ said)
-            × Takes self.old.applier self.new.applier (line ++ piece.now)
+            × TakesLines self.old.applier self.new.applier (line ++ piece.now)
             self.new.pending.bytes.items self.new.pending.cut said) }
         ensures count { OnOk result
             (self.new.applier.log.number ≤ self.old.applier.log.number + length piece.now) }
         ensures err { IfErr result
             (EndsAt (self.old.applier.log.number + length piece.now)) }
         ensures stopped { OnErr result ((line : List ℕ) → IsFeedless line
-            → Holds line self.old.pending.bytes.items self.old.pending.cut
+            → KeepsLine line self.old.pending.bytes.items self.old.pending.cut
             → (said : List ℕ) × (out.new.items ≡ out.old.items ++ said)
             × AnswersSome self.old.applier line piece.now said) }
     {
@@ -92,11 +92,11 @@ impl Feeder {
     /// The input ends.
     pub(crate) fn finish(&mut self, out: &mut Vec<u8>) -> Result<(), RunFault>
         ensures text { OnOk result ((line : List ℕ)
-            → Holds line self.old.pending.bytes.items self.old.pending.cut
+            → KeepsLine line self.old.pending.bytes.items self.old.pending.cut
             → out.new.items ≡ out.old.items ++ reply self.old.applier line
             ++ tree_line (next self.old.applier line)) }
         ensures state { OnOk result ((line : List ℕ)
-            → Holds line self.old.pending.bytes.items self.old.pending.cut
+            → KeepsLine line self.old.pending.bytes.items self.old.pending.cut
             → self.new.applier ≡ next self.old.applier line) }
         ensures err { IfErr result (EndsAt self.old.applier.log.number) }
     {

@@ -2,7 +2,7 @@
 
 ghost use Rattle.std.specs.Prelude.{◌≡◌, ◌≤◌, ◌++◌, List, ℕ, [], OnOk, vec_len, false};
 ghost use Rattle.pres_wire.specs.UpForms.{longest_text};
-ghost use Rattle.pres_apply.specs.Lines.{Holds};
+ghost use Rattle.pres_apply.specs.Lines.{KeepsLine};
 
 use pres_wire::MAX_TEXT_BYTES;
 use std::alloc::{AllocError, Global};
@@ -10,18 +10,18 @@ use std::alloc::{AllocError, Global};
 /// The line that has come so far, or that it is too long, as no message may be. Of one that is too
 /// long nothing is kept.
 #[derive(Drop)]
-pub(crate) struct Pending {
+pub(crate) struct PendingLine {
     bytes: Vec<u8>,
     cut: bool,
     ghost short: { vec_len bytes ≤ longest_text },
 }
 
-impl Pending {
+impl PendingLine {
     /// A line of which nothing has come.
-    pub(crate) fn new(alloc: Global) -> Pending
-        ensures { Holds [] result.bytes.items result.cut }
+    pub(crate) fn new(alloc: Global) -> PendingLine
+        ensures { KeepsLine [] result.bytes.items result.cut }
     {
-        Pending {
+        PendingLine {
             bytes: Vec::new(alloc),
             cut: false,
         }
@@ -29,8 +29,8 @@ impl Pending {
 
     /// More of the line.
     pub(crate) fn push(&mut self, piece: &[u8]) -> Result<(), AllocError>
-        ensures { OnOk result ((line : List ℕ) → Holds line self.old.bytes.items self.old.cut
-            → Holds (line ++ piece.now) self.new.bytes.items self.new.cut) }
+        ensures { OnOk result ((line : List ℕ) → KeepsLine line self.old.bytes.items self.old.cut
+            → KeepsLine (line ++ piece.now) self.new.bytes.items self.new.cut) }
     {
         if self.cut {
             return Ok(());
@@ -60,7 +60,7 @@ impl Pending {
 
     /// Begins the next line.
     pub(crate) fn clear(&mut self)
-        ensures { Holds [] self.new.bytes.items self.new.cut }
+        ensures { KeepsLine [] self.new.bytes.items self.new.cut }
     {
         self.bytes.clear();
         self.cut = false;

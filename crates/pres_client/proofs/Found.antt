@@ -13,10 +13,10 @@ use Rattle.pres_tree.proofs.PathOrder.{path_same, path_itself, same_by_cmp}
 use Rattle.pres_wire.specs.declared.values.PathValue.{PathValue}
 use Rattle.pres_wire.specs.Values.{rise, Rising}
 use Rattle.pres_wire.specs.Views.{value_in}
-use Rattle.pres_mail.specs.declared.watch.Watch.{Watch}
-use Rattle.pres_mail.specs.declared.watch.Shown.TheVariants as shown
-use Rattle.pres_mail.specs.Watches.{Watches, watch_of, with_watch, without_watch, kept, frozen, tell, is_shown_live, is_live}
-use Rattle.pres_client.specs.Receiving.{tell_live}
+use Rattle.pres_client_state.specs.declared.watch.Watch.{Watch}
+use Rattle.pres_client_state.specs.declared.watch.Shown.TheVariants as shown
+use Rattle.pres_client_state.specs.Watches.{Watches, watch_of, with_watch, without_watch, kept, frozen, tell, is_shown_live, is_live}
+use Rattle.pres_client.specs.ReceivedMessages.{tell_live}
 
 -- ---- the list of watches
 

@@ -2,9 +2,9 @@
 use Rattle.std.proofs.Common.{ℕ, ◌+◌, ◌≤◌, ◌<◌, ◌≡◌, Bool, true, false, List, [], ◌∷◌, ◌++◌, length, filter, Option, refl, ap, ◌∙◌, arith, nat_le, unwrap_or, length-append, if◌then◌else◌}
 use Rattle.std.proofs.lemmas.Bool.Decides.{nat_tests}
 use Rattle.pres_ids.specs.Numbers.{greatest_number}
-use Rattle.pres_mail.specs.declared.queued.Queued.{Queued}
-use Rattle.pres_mail.specs.declared.queued.Queued.TheVariants.{Write, Try, Left, Cancel, On, Off}
-use Rattle.pres_mail.specs.Queues.{count_writes, next_write, is_write}
+use Rattle.pres_client_state.specs.declared.queued.Queued.{Queued}
+use Rattle.pres_client_state.specs.declared.queued.Queued.TheVariants.{Write, Try, Left, Cancel, On, Off}
+use Rattle.pres_client_state.specs.Queues.{count_writes, next_write, is_write}
 use Rattle.pres_client.specs.Clients.{InRange}
 
 -- the number of the next write, by whether the message is one

@@ -10,12 +10,12 @@ use Rattle.pres_write.specs.declared.op.Op.{Op}
 use Rattle.pres_write.specs.declared.op.Op.TheVariants as op
 use Rattle.pres_ids.specs.declared.id.SessionId.{SessionId}
 use Rattle.pres_wire.specs.declared.up.Up.TheVariants as up
-use Rattle.pres_mail.specs.declared.queued.Queued.{Queued}
-use Rattle.pres_mail.specs.declared.queued.Queued.TheVariants as queued
-use Rattle.pres_mail.specs.declared.watch.Watch.{Watch}
-use Rattle.pres_mail.specs.Queues.{is_write, message, next_write, messages, count_writes}
-use Rattle.pres_mail.specs.Watches.{on_of}
-use Rattle.pres_client.specs.Sends.{Made, numbered, on_messages, op_messages}
+use Rattle.pres_client_state.specs.declared.queued.Queued.{Queued}
+use Rattle.pres_client_state.specs.declared.queued.Queued.TheVariants as queued
+use Rattle.pres_client_state.specs.declared.watch.Watch.{Watch}
+use Rattle.pres_client_state.specs.Queues.{is_write, message, next_write, messages, count_writes}
+use Rattle.pres_client_state.specs.Watches.{on_of}
+use Rattle.pres_client.specs.Sends.{SendList, numbered, on_messages, op_messages}
 
 -- ---- the writes of a queue
 
@@ -88,12 +88,12 @@ all_kept (m ∷ ms) = by (is_write m) refl (all_kept ms) where
 
 -- ---- what was made, and what waits
 
-pub record Open (s : SessionId) (base answered heard : ℕ) (queue : List Queued) (t : Made) : Type 0 where
+pub record Open (s : SessionId) (base answered heard : ℕ) (queue : List Queued) (t : SendList) : Type 0 where
   pub rest : drop heard t.messages ≡ messages s (heard + 1) (base + answered + 1) queue
   pub count : length t.messages ≡ heard + length queue
 
 -- a client with this data, whose session is open where `on`, and was open before only where `was`, has made this
-pub record Fits (was : Bool) (s : SessionId) (base made answered heard : ℕ) (on : Bool) (queue : List Queued) (t : Made) : Type 0 where
+pub record Fits (was : Bool) (s : SessionId) (base made answered heard : ℕ) (on : Bool) (queue : List Queued) (t : SendList) : Type 0 where
   pub still : on ≡ true → was ≡ true
   pub writes : length t.writes ≡ made
   pub counted : made ≡ answered + count_writes queue
@@ -102,7 +102,7 @@ pub record Fits (was : Bool) (s : SessionId) (base made answered heard : ℕ) (o
   pub offline : on ≡ false → list_all is_write queue ≡ true
 
 -- one message more
-pub pushes : {was on : Bool} {s : SessionId} {base made answered heard : ℕ} {queue : List Queued} {t : Made} (m : Queued) (u : Made) → u.writes ≡ t.writes ++ ops_of (m ∷ [])
+pub pushes : {was on : Bool} {s : SessionId} {base made answered heard : ℕ} {queue : List Queued} {t : SendList} (m : Queued) (u : SendList) → u.writes ≡ t.writes ++ ops_of (m ∷ [])
     → (on ≡ true → u.messages ≡ t.messages ++ message s (length t.messages + 1) (base + length t.writes + 1) m ∷ []) → (on ≡ false → is_write m ≡ true) → length (ops_of (m ∷ [])) ≡ next_write 0 m
     → Fits was s base made answered heard on queue t → Fits was s base (next_write made m) answered heard on (queue ++ m ∷ []) u
 pushes {was} {on} {s} {base} {made} {answered} {heard} {queue} {t} m u ws ms off one h = record {
@@ -136,7 +136,7 @@ pushes {was} {on} {s} {base} {made} {answered} {heard} {queue} {t} m u ws ms off
   longer = omega (arith, length-append queue (m ∷ []))
 
 -- the session is left
-pub closes : {was on : Bool} {s : SessionId} {base made answered heard : ℕ} {queue : List Queued} {t : Made} {r : SessionId} {k : ℕ} (u : Made) → u.writes ≡ t.writes
+pub closes : {was on : Bool} {s : SessionId} {base made answered heard : ℕ} {queue : List Queued} {t : SendList} {r : SessionId} {k : ℕ} (u : SendList) → u.writes ≡ t.writes
     → Fits was s base made answered heard on queue t → Fits was r base made answered k false (filter is_write queue) u
 closes {was} {on} {s} {base} {made} {answered} {heard} {queue} {t} u ws h = record {
   still = λ e. absurd (true≢false (sym e));
@@ -148,12 +148,12 @@ closes {was} {on} {s} {base} {made} {answered} {heard} {queue} {t} u ws h = reco
 }
 
 -- none was open, and none is
-pub waits : {was on : Bool} {s : SessionId} {base made answered heard : ℕ} {queue : List Queued} {t : Made} {r : SessionId} {b : ℕ} → on ≡ false
+pub waits : {was on : Bool} {s : SessionId} {base made answered heard : ℕ} {queue : List Queued} {t : SendList} {r : SessionId} {b : ℕ} → on ≡ false
     → Fits was s base made answered heard on queue t → Fits was r b made answered heard false queue t
 waits e h = record { still = λ k. absurd (true≢false (sym k)); writes = h.writes; counted = h.counted; left = h.left; online = λ k. absurd (true≢false (sym k)); offline = λ _. h.offline e }
 
 -- the oldest message has its answer
-pub hears : {was on : Bool} {s : SessionId} {base made answered heard : ℕ} {t : Made} (m : Queued) (rest : List Queued)
+pub hears : {was on : Bool} {s : SessionId} {base made answered heard : ℕ} {t : SendList} (m : Queued) (rest : List Queued)
     → Fits was s base made answered heard on (m ∷ rest) t → Fits was s base made (next_write answered m) (heard + 1) on rest t
 hears {was} {on} {s} {base} {made} {answered} {heard} {t} m rest h = record {
   still = h.still;
@@ -209,7 +209,7 @@ ops_ons : (ws : List (Path × Watch)) (ms : List Queued) → ops_of (map on_of w
 ops_ons [] ms = refl
 ops_ons (w ∷ ws) ms = ops_ons ws ms
 
-pub opens : {was : Bool} {s : SessionId} {base made answered heard : ℕ} {queue : List Queued} {t : Made} (r : SessionId) (b : ℕ) (ws : List (Path × Watch)) → Fits was s base made answered heard false queue t
+pub opens : {was : Bool} {s : SessionId} {base made answered heard : ℕ} {queue : List Queued} {t : SendList} (r : SessionId) (b : ℕ) (ws : List (Path × Watch)) → Fits was s base made answered heard false queue t
     → Fits true r b made answered 0 true (map on_of ws ++ queue) (record t { messages = numbered 1 (on_messages r (map (λ e. e.0) ws) ++ op_messages r (b + answered + 1) (drop answered t.writes)) })
 opens {was} {s} {base} {made} {answered} {heard} {queue} {t} r b ws h =
     let list : numbered 1 (on_messages r (map (λ e. e.0) ws) ++ op_messages r (b + answered + 1) (drop answered t.writes)) ≡ messages r 1 (b + answered + 1) (map on_of ws ++ queue) =

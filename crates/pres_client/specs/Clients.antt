@@ -7,15 +7,15 @@ use Rattle.pres_ids.specs.declared.id.SessionId.{SessionId}
 use Rattle.pres_wire.specs.declared.up.Up.{Up}
 use Rattle.pres_ids.specs.Ids.{ClientId}
 use Rattle.pres_ids.specs.Numbers.{greatest_number}
-use Rattle.pres_mail.specs.Queues.{messages, count_writes}
-use Rattle.pres_mail.specs.Watches.{Watches, watch_of, watched_at}
-use Rattle.pres_mail.specs.Asks.{Asks}
+use Rattle.pres_client_state.specs.Queues.{messages, count_writes}
+use Rattle.pres_client_state.specs.Watches.{Watches, watch_of, watched_at}
+use Rattle.pres_client_state.specs.Asks.{Asks}
 use Rattle.pres_client.specs.declared.client.Phase.{Phase}
 use Rattle.pres_client.specs.declared.client.Phase.TheVariants as phase
-use Rattle.pres_mail.specs.declared.queued.Queued.{Queued}
-use Rattle.pres_mail.specs.declared.notice.Notice.{Notice}
+use Rattle.pres_client_state.specs.declared.queued.Queued.{Queued}
+use Rattle.pres_client_state.specs.declared.notice.Notice.{Notice}
 
-pub record State : Type 0 where
+pub record ClientState : Type 0 where
   -- the session of the last Hello, and before the first one that of the first
   pub session : SessionId
   -- how many sessions were asked for
@@ -42,7 +42,7 @@ pub record State : Type 0 where
   pub notices : List Notice
 
 -- a new incarnation of the client
-abbrev pub start : ClientId → ℕ → State
+abbrev pub start : ClientId → ℕ → ClientState
 start client incarnation =
     record {
       session = record { client = client; incarnation = incarnation; attempt = 1 };
@@ -74,16 +74,16 @@ is_opening phase.Online = false
 is_opening phase.Off = false
 
 -- the session of the last Hello, while it is open or being opened
-abbrev pub session_of : State → Option SessionId
+abbrev pub session_of : ClientState → Option SessionId
 session_of c = if is_online c.phase then Some c.session else (if is_opening c.phase then Some c.session else None)
 
-abbrev pub base_of : State → ℕ
+abbrev pub base_of : ClientState → ℕ
 base_of c = unwrap_or c.base 0
 
 -- ---- messages that wait for their answers
 
 -- the messages of the session without an answer, with their numbers
-abbrev pub outstanding : State → List Up
+abbrev pub outstanding : ClientState → List Up
 outstanding c = messages c.session (c.heard + 1) (base_of c + c.answered + 1) c.queue
 
 -- the numbers of every client can be told: none passes 2^53 - 1
@@ -94,19 +94,19 @@ pub record InRange (base : Option ℕ) (made sent answered heard : ℕ) (queue :
   pub reach : heard + length queue ≤ greatest_number
 
 -- no number is left for one more request, write, message
-abbrev pub no_request : State → Bool
+abbrev pub no_request : ClientState → Bool
 no_request c = nat_le greatest_number c.requests
 
-abbrev pub no_write : State → Bool
+abbrev pub no_write : ClientState → Bool
 no_write c = nat_le greatest_number (base_of c + c.made)
 
-abbrev pub no_message : State → Bool
+abbrev pub no_message : ClientState → Bool
 no_message c = nat_le greatest_number (c.heard + length c.queue)
 
 -- ---- paths that are listened to
 
 -- the view of the path
-abbrev pub view : Path → State → Option (ℕ × Rows Scalar)
+abbrev pub view : Path → ClientState → Option (ℕ × Rows Scalar)
 view p c = watched_at c.seen (watch_of p c.watches)
 
 -- ---- transactions
@@ -118,9 +118,9 @@ most_tries = 25
 -- ---- how much there is
 
 -- how many messages the next call makes at the most
-abbrev pub most_sends : State → ℕ
+abbrev pub most_sends : ClientState → ℕ
 most_sends c = if is_online c.phase then max 1 (length c.queue) else (if is_opening c.phase then max 1 (length c.watches + length c.queue) else 1)
 
 -- how many messages of the session wait for an answer, its Hello among them
-abbrev pub unanswered : State → ℕ
+abbrev pub unanswered : ClientState → ℕ
 unanswered c = if is_online c.phase then length c.queue else (if is_opening c.phase then 1 else 0)

@@ -1,8 +1,8 @@
 pub mod Faults
 pub mod Clients
 pub mod Calls
-pub mod Receiving
-pub mod Shown
+pub mod ReceivedMessages
+pub mod Notices
 pub mod Steps
-pub mod Trails
+pub mod Views
 pub mod Sends

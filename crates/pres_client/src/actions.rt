@@ -1,8 +1,8 @@
 //! The client: what it leaves for its disconnection, and the paths that it listens to.
 
 ghost use Rattle.std.specs.Prelude.{◌≡◌, ◌+◌, IfOk, IfErr, OnOk, OnErr, None, false};
-ghost use Rattle.pres_mail.specs.Watches.{with_watch, fresh};
-ghost use Rattle.pres_mail.specs.Queues.{is_write};
+ghost use Rattle.pres_client_state.specs.Watches.{with_watch, fresh};
+ghost use Rattle.pres_client_state.specs.Queues.{is_write};
 ghost use Rattle.pres_client.specs.Clients.{no_request, no_message};
 ghost use Rattle.pres_client.specs.Calls.{action_refusal, after_action, enqueue, with_request, after_listen, watched, Answers, Does, Refuses, IsFew};
 ghost use Rattle.pres_client.specs.declared.fault.ClientFault.TheVariants.{Memory};
@@ -11,7 +11,7 @@ use crate::call::Call;
 use crate::client::Client;
 use crate::fault::ClientFault;
 use crate::writes::{cleared, placed, updated};
-use pres_mail::Queued;
+use pres_client_state::Queued;
 use pres_tree::Path;
 use pres_wire::Count;
 use pres_write::{Draft, Unconditional};

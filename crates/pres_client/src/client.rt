@@ -1,14 +1,14 @@
 //! The client: its calls.
 
 ghost use Rattle.std.specs.Prelude.{◌≡◌, ◌+◌, ◌||◌, [], length, true, false, IfOk, OnOk, OnErr, MatchOption, Some, None, if◌then◌else◌, option_copied};
-ghost use Rattle.pres_mail.specs.Queues.{is_write};
+ghost use Rattle.pres_client_state.specs.Queues.{is_write};
 ghost use Rattle.pres_client.specs.Clients.{is_online, is_opening, start, session_of, base_of, no_request, no_write, no_message, view, most_sends, unanswered};
 ghost use Rattle.pres_client.specs.Calls.{enqueue, make_write, sent_now};
 
-use pres_mail::{Asks, Mail, Notice, Queued, Watches, number};
+use pres_client_state::{Asks, ClientQueues, Notice, Queued, Watches, number};
+use pres_limits::MAX_SAFE_INTEGER;
 use pres_tree::{Path, Tree};
 use pres_wire::{ClientId, Count, Number, SessionId, Up};
-use pres_write::MAX_SAFE_INTEGER;
 use std::alloc::{AllocError, Global};
 use std::marker::Model;
 
@@ -56,7 +56,7 @@ pub struct Client {
     pub(crate) requests: Count,
     pub(crate) watches: Watches,
     pub(crate) asks: Asks,
-    pub(crate) mail: Mail,
+    pub(crate) mail: ClientQueues,
 }
 
 // By hand, so that letting go of a client is one step of a proof, in the crates above too.
@@ -83,9 +83,9 @@ impl Drop for Client {
 }
 
 impl Model for Client {
-    ghost use Rattle.pres_client.specs.Clients.{State, InRange};
+    ghost use Rattle.pres_client.specs.Clients.{ClientState, InRange};
 
-    ghost Value = { State };
+    ghost Value = { ClientState };
 
     ghost view = { λ c. record {
       session = c.session;
@@ -134,7 +134,7 @@ impl Client {
             requests: Count::zero(),
             watches: Watches::new(alloc),
             asks: Asks::new(alloc),
-            mail: Mail::new(alloc),
+            mail: ClientQueues::new(alloc),
         }
     }
 

@@ -1,7 +1,7 @@
 //! Laws of clients, over every list of what may happen to one.
 
-ghost use Rattle.pres_client.specs.Shown.{CallsNote, MessagesNote};
-ghost use Rattle.pres_client.specs.Trails.{ViewsHold};
+ghost use Rattle.pres_client.specs.Notices.{CallsNote, MessagesNote};
+ghost use Rattle.pres_client.specs.Views.{ViewsHold};
 ghost use Rattle.pres_client.specs.Sends.{SendsHold, StepSends};
 
 /// After any steps the view of a path is what the messages that count for it tell: the number of

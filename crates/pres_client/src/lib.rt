@@ -13,5 +13,5 @@ mod writes;
 pub use call::{Answer, Call};
 pub use client::{Client, Phase};
 pub use fault::ClientFault;
-pub use pres_mail::{Ask, Notice, Queued, Shown, Watch};
+pub use pres_client_state::{Ask, Notice, Queued, Shown, Watch};
 pub use receive::MOST_TRIES;

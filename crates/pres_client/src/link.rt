@@ -8,9 +8,9 @@ ghost use Rattle.pres_client.specs.declared.fault.ClientFault.TheVariants.{Memor
 use crate::call::Call;
 use crate::client::{Client, Phase};
 use crate::fault::ClientFault;
-use pres_mail::sole;
+use pres_client_state::sole;
+use pres_limits::MAX_SAFE_INTEGER;
 use pres_wire::{Code, Count, Number, SessionId, Up};
-use pres_write::MAX_SAFE_INTEGER;
 use std::alloc::AllocError;
 
 impl Client {

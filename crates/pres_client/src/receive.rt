@@ -3,18 +3,19 @@
 ghost use Rattle.std.specs.Prelude.{◌≡◌, ◌<◌, ℕ, true, false, drop, fold, IfOk, IfErr, OnOk, OnErr, MatchOption, Some, None};
 ghost use Rattle.std.specs.List.{filter_map};
 ghost use Rattle.pres_ids.specs.Numbers.{greatest_number};
-ghost use Rattle.pres_mail.specs.Watches.{watch_of};
+ghost use Rattle.pres_client_state.specs.Watches.{watch_of};
 ghost use Rattle.pres_client.specs.Clients.{is_opening};
 ghost use Rattle.pres_client.specs.Calls.{note, end_session, IsFew};
-ghost use Rattle.pres_client.specs.Receiving.{is_next, bring, unfit, fits, fits_write, head_is_write, first_action, first_listen, answered, write_answered, ask_again, armed, judge_reply, judge_action, judge_denied, judge_snap, judge_off_done, told, tell_live, news_of, after_push, own_fault, after_fault, is_fit, after_welcome, accepts, after_receive};
+ghost use Rattle.pres_client.specs.ReceivedMessages.{is_next, bring, unfit, fits, fits_write, head_is_write, first_action, first_listen, answered, write_answered, ask_again, armed, judge_reply, judge_action, judge_denied, judge_snap, judge_off_done, after_value, tell_live, news_of, after_push, own_fault, after_fault, is_fit, after_welcome, accepts, after_receive};
 ghost use Rattle.pres_client.specs.declared.fault.ClientFault.TheVariants.{Memory};
 
 use crate::client::{Client, Phase};
 use crate::fault::ClientFault;
-use pres_mail::{Ask, Notice, Queued, Watches, alone};
+use pres_client_state::{Ask, Notice, Queued, Watches, alone};
+use pres_limits::MAX_SAFE_INTEGER;
 use pres_tree::{Path, Tree};
 use pres_wire::{Code, Count, Down, Limit, Number, PathValue, SessionId, Values};
-use pres_write::{Kept, MAX_SAFE_INTEGER};
+use pres_write::Kept;
 use std::alloc::{AllocError, Global};
 
 /// The tries of a transaction before it is given up.
@@ -373,7 +374,7 @@ impl Client {
     fn show(&mut self, z: Number, path: Path, value: Tree) -> Result<(), AllocError>
         requires taken { self.old.taken < greatest_number }
         requires no_write { head_is_write self.old.queue ≡ Some false }
-        ensures ok { OnOk result (self.new ≡ told
+        ensures ok { OnOk result (self.new ≡ after_value
             (answered (bring self.old z) (drop 1 self.old.queue)) path z value
             (watch_of path self.old.watches)) }
         ensures err { OnErr result (self.new ≡ self.old) }

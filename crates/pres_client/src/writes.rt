@@ -1,9 +1,9 @@
 //! The client: its writes and transactions.
 
 ghost use Rattle.std.specs.Prelude.{◌≡◌, ◌≢◌, ◌+◌, ℕ, [], IfOk, IfErr, OnOk, OnErr, MatchResult, Some, None, false, unwrap_or, option_map};
-ghost use Rattle.pres_mail.specs.Asks.{ask_of, with_ask};
+ghost use Rattle.pres_client_state.specs.Asks.{ask_of, with_ask};
 ghost use Rattle.pres_client.specs.Clients.{no_request, no_write, no_message};
-ghost use Rattle.pres_mail.specs.Asks.{is_too_deep};
+ghost use Rattle.pres_client_state.specs.Asks.{is_too_deep};
 ghost use Rattle.pres_client.specs.Calls.{known, note, set_fault, after_write, sent_now, try_of, Answers, Does, Refuses, IsFew};
 ghost use Rattle.pres_write.specs.Updates.{update_of, update_fault};
 ghost use Rattle.pres_client.specs.declared.fault.ClientFault.TheVariants.{Memory, Write};
@@ -11,7 +11,7 @@ ghost use Rattle.pres_client.specs.declared.fault.ClientFault.TheVariants.{Memor
 use crate::call::{Answer, Call};
 use crate::client::Client;
 use crate::fault::ClientFault;
-use pres_mail::{Ask, Notice, Queued, alone, sole};
+use pres_client_state::{Ask, Notice, Queued, alone, sole};
 use pres_tree::{MAX_DEPTH, Path, Tree, TreeFault};
 use pres_wire::{Count, Up};
 use pres_write::{Draft, Op, Placement, Transaction, Update, WriteFault};

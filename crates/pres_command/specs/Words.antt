@@ -8,9 +8,9 @@ use Rattle.clap.specs.declared.error.kind.ErrorKind.{ErrorKind}
 use Rattle.clap.specs.declared.error.kind.ErrorKind.TheVariants as kind
 use Rattle.clap.specs.declared.builder.command.Command.TheViews.{out-Command}
 use Rattle.clap.specs.declared.builder.value_parser.ValueParser.TheVariants as parser
-use Rattle.pres_command.specs.declared.words.Calling.{Calling}
+use Rattle.pres_command.specs.declared.words.ClientWords.{ClientWords}
 use Rattle.pres_command.specs.declared.words.Request.{Request}
-use Rattle.pres_service.specs.declared.serve.Serving.{Serving}
+use Rattle.pres_service.specs.declared.serve.ServeOptions.{ServeOptions}
 use Rattle.pres_command.specs.declared.words.Request.TheVariants.{Apply, Sim, Serve, Client}
 
 -- ---- the program and its subcommands
@@ -77,13 +77,13 @@ IsReadAs bits (Some text) number =
     SomeIff number (IsNumeral 10 (without_leading_plus text) × (digits_value 10 (without_leading_plus text) < 2 ^ bits)) (digits_value 10 (without_leading_plus text))
 
 -- a server is given this address, this file, and how many connections it serves
-abbrev pub IsServed : Serving → List Row → Type 0
+abbrev pub IsServed : ServeOptions → List Row → Type 0
 IsServed serving rows = (first_of (codes "ADDRESS") rows ≡ Some serving.address.now)
     × (first_of (codes "FILE") rows ≡ Some serving.file.now)
     × IsReadAs 32 (one_of (codes "connections") rows) serving.connections
 
 -- a client is given this address, this id and this incarnation
-abbrev pub IsCalled : Calling → List Row → Type 0
+abbrev pub IsCalled : ClientWords → List Row → Type 0
 IsCalled calling rows = (first_of (codes "ADDRESS") rows ≡ Some calling.address.now)
     × (first_of (codes "ID") rows ≡ Some calling.id.now)
     × IsReadAs 64 (one_of (codes "INCARNATION") rows) (Some calling.incarnation)

@@ -6,17 +6,17 @@ ghost use Rattle.clap.specs.Words.{Row, kind_of};
 ghost use Rattle.pres_apply.specs.Lines.{Finished, Stopped};
 ghost use Rattle.pres_service.specs.Outputs.{listening_line, number_line};
 ghost use Rattle.pres_sim.specs.Scripts.{IsScript};
-ghost use Rattle.pres_service.specs.Visits.{HasVisited};
+ghost use Rattle.pres_service.specs.ClientRuns.{HasRunClient};
 ghost use Rattle.pres_command.specs.Runs.{Asks, HasCalled, HasServed};
 ghost use Rattle.pres_command.specs.Statuses.{IsStatus};
 ghost use Rattle.pres_command.specs.Words.{AreTaken, AsksApply, AsksAnother, IsMistake};
 
-use crate::words::{Calling, Request, read_words};
+use crate::words::{ClientWords, Request, read_words};
 use clap::Error;
 use clap::error::ErrorKind;
 use pres_apply::{RunFault, apply_run};
 use pres_ids::{ClientId, IdFault};
-use pres_service::{ServiceFault, Serving, Visit, client_run, serve_run};
+use pres_service::{ClientOptions, ServeOptions, ServiceFault, client_run, serve_run};
 use pres_sim::sim_run;
 use std::alloc::Global;
 use std::io;
@@ -117,7 +117,7 @@ fn sim_status<R: Read, W: Write, F: Write>(
 {
     match sim_run(alloc, input, output) {
         Ok(()) => DONE,
-        Err(fault) => tell_fault(&fault, faults),
+        Err(fault) => tell_fault(&ServiceFault::from(fault), faults),
     }
 }
 
@@ -136,7 +136,7 @@ fn serve_status<
     host: &HostRuntime,
     rt: &H,
     alloc: Global,
-    serving: Serving<'_>,
+    serving: ServeOptions<'_>,
     output: &mut W,
     faults: &mut F,
 ) -> u8
@@ -165,10 +165,17 @@ fn client_status<
     R: Read,
     W: Write,
     F: Write,
->(rt: &H, alloc: Global, calling: Calling<'_>, input: &mut R, output: &mut W, faults: &mut F) -> u8
+>(
+    rt: &H,
+    alloc: Global,
+    calling: ClientWords<'_>,
+    input: &mut R,
+    output: &mut W,
+    faults: &mut F,
+) -> u8
     ensures status { IsStatus result }
     ensures words { result ≡ 2 → (input.new ≡ input.old) × (output.new ≡ output.old) }
-    ensures done { result ≡ 0 → HasVisited calling.entry.id.now calling.entry.incarnation
+    ensures done { result ≡ 0 → HasRunClient calling.entry.id.now calling.entry.incarnation
         (R.remaining input.old) (W.contents output.old) (W.contents output.new) }
 {
     let id = match ClientId::parse(alloc, calling.id) {
@@ -182,7 +189,7 @@ fn client_status<
             return BAD_WORDS;
         }
     };
-    let visit = Visit {
+    let visit = ClientOptions {
         address: calling.address,
         id,
         incarnation: calling.incarnation,

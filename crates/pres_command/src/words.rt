@@ -10,7 +10,7 @@ use clap::builder::ValueParser;
 use clap::error::ErrorKind;
 use clap::{Arg, ArgMatches, Command, Error};
 use pres_ids::Number;
-use pres_service::Serving;
+use pres_service::ServeOptions;
 use std::alloc::{AllocError, Global};
 
 // The most connections that a server may be asked to end after.
@@ -27,14 +27,14 @@ pub enum Request<'a> {
     /// Does what the input's lines say, as a script of a world, and prints what that makes.
     Sim,
     /// Serves connections over TCP.
-    Serve(Serving<'a>),
+    Serve(ServeOptions<'a>),
     /// Does what the input's lines say as a client of a server.
-    Client(Calling<'a>),
+    Client(ClientWords<'a>),
 }
 
 /// Where a client goes, and as whom.
 #[derive(Clone, Copy)]
-pub struct Calling<'a> {
+pub struct ClientWords<'a> {
     pub address: &'a str,
     pub id: &'a str,
     pub incarnation: Number,
@@ -197,10 +197,10 @@ fn request_of<'a>(name: &str, given: &ArgMatches<'a>) -> Option<Request<'a>>
 }
 
 // What a server is given.
-fn server_of<'a>(given: &ArgMatches<'a>) -> Option<Serving<'a>>
+fn server_of<'a>(given: &ArgMatches<'a>) -> Option<ServeOptions<'a>>
     ensures { IfSome result (λ serving. IsServed serving (rows_of (found_of given.now))) }
 {
-    Some(Serving {
+    Some(ServeOptions {
         address: given.get_str("ADDRESS")?,
         file: given.get_str("FILE")?,
         connections: given.get_one("connections"),
@@ -208,10 +208,10 @@ fn server_of<'a>(given: &ArgMatches<'a>) -> Option<Serving<'a>>
 }
 
 // What a client is given.
-fn client_of<'a>(given: &ArgMatches<'a>) -> Option<Calling<'a>>
+fn client_of<'a>(given: &ArgMatches<'a>) -> Option<ClientWords<'a>>
     ensures { IfSome result (λ calling. IsCalled calling (rows_of (found_of given.now))) }
 {
-    Some(Calling {
+    Some(ClientWords {
         address: given.get_str("ADDRESS")?,
         id: given.get_str("ID")?,
         incarnation: Number::new(given.get_one("INCARNATION")?)?,

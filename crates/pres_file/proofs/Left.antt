@@ -9,13 +9,13 @@ use Rattle.sqlite.specs.Held.{Held}
 use Rattle.sqlite.specs.Files.{over_files, file_state}
 use Rattle.sqlite.proofs.Theorems.{opens_again}
 use Rattle.sqlite_trees.specs.Tree.{Trees}
-use Rattle.pres_table.specs.Kept.{Kept}
-use Rattle.pres_table.specs.Saved.{shown_row, shown_rows}
-use Rattle.pres_saved.specs.Saved.{readable_rows}
-use Rattle.pres_saved.specs.Keeps.{MayFind}
-use Rattle.pres_file.specs.Found.{FindsWhatWasLeft}
+use Rattle.pres_batch_rows.specs.TableStates.{TableState}
+use Rattle.pres_batch_rows.specs.RowContents.{shown_row, shown_rows}
+use Rattle.pres_saved.specs.SavedLogs.{readable_rows}
+use Rattle.pres_saved.specs.SqlKeepers.{MayFind}
+use Rattle.pres_file.specs.FileOpening.{FindsWhatWasLeft}
 
-pub finds_what_was_left : {D E : Type 0} (g : disk.Ghosts D) (h : disk.Ghosts E) (kept : Kept (FileStore D g)) (left : Image) (opened : Held (FileStore E h)) → FindsWhatWasLeft g h kept left opened
+pub finds_what_was_left : {D E : Type 0} (g : disk.Ghosts D) (h : disk.Ghosts E) (kept : TableState (FileStore D g)) (left : Image) (opened : Held (FileStore E h)) → FindsWhatWasLeft g h kept left opened
 finds_what_was_left g h kept left opened outcomes clean may finds =
     let it = kept.connection.store in
     ∥∥₁_map (opens_again it outcomes.numbered outcomes.sound left may) (λ db.

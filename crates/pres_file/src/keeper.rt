@@ -6,24 +6,25 @@ ghost use Rattle.sqlite.specs.State.{HasCleanDisk};
 ghost use Rattle.sqlite.specs.View.{doubt};
 ghost use Rattle.sqlite.specs.Files.{over_files};
 ghost use Rattle.sqlite_wal.specs.Files.{image_at};
-ghost use Rattle.pres_table.specs.Kept.{IsOurs, IsLeft};
-ghost use Rattle.pres_table.specs.Made.{FailsToMake, making_fault};
-ghost use Rattle.pres_table.specs.Opened.{HasFormat, LacksFormat};
-ghost use Rattle.pres_table.specs.Schemas.{no_schema};
-ghost use Rattle.pres_table.specs.Saved.{shown_rows};
-ghost use Rattle.pres_saved.specs.Saved.{saved_log, readable_rows};
-ghost use Rattle.pres_saved.specs.Keeps.{IsReady, KeepsLog, readable_in};
-ghost use Rattle.pres_file.specs.Found.{HoldsOurs, KeepsWhatIsThere, KeepsWhatWasFound};
+ghost use Rattle.pres_batch_rows.specs.TableStates.{IsOurs, IsLeft};
+ghost use Rattle.pres_batch_rows.specs.TableCreation.{FailsToMake, making_fault};
+ghost use Rattle.pres_batch_rows.specs.TableOpening.{HasFormat, LacksFormat};
+ghost use Rattle.pres_batch_rows.specs.Schemas.{no_schema};
+ghost use Rattle.pres_batch_rows.specs.RowContents.{shown_rows};
+ghost use Rattle.pres_saved.specs.SavedLogs.{saved_log, readable_rows};
+ghost use Rattle.pres_saved.specs.SqlKeepers.{IsReady, KeepsLog, readable_in};
+ghost use Rattle.pres_file.specs.FileOpening.{HoldsOurs, KeepsWhatIsThere, KeepsWhatWasFound};
 
 use crate::open::connect;
-use pres_saved::{SavedFault, SqlKeeper};
+use pres_faults::SavedFault;
+use pres_saved::SqlKeeper;
 use sqlite::{Alter, Connection, FileFrom, FileStore, Start};
 use sqlite_schema::schema::Schema;
 use std::alloc::Global;
 
 /// A keeper over a database, and whether its tables are new.
 #[derive(Drop)]
-pub struct Opened<S: Alter> {
+pub struct OpenedFile<S: Alter> {
     pub keeper: SqlKeeper<S>,
     pub is_new: bool,
 }
@@ -34,7 +35,7 @@ pub struct Opened<S: Alter> {
 pub fn keeper_over<S: Alter + Drop>(
     alloc: Global,
     connection: Connection<S>,
-) -> Result<Opened<S>, (SavedFault, Connection<S>)>
+) -> Result<OpenedFile<S>, (SavedFault, Connection<S>)>
     requires { connection.in_transaction ≡ false }
     ensures new { IfOk result (λ it. IsTrue it.is_new ↔ (connection.schema ≡ no_schema)) }
     ensures made { IfOk result (λ it. IsTrue it.is_new → IsReady S.Store it.keeper) }
@@ -89,7 +90,7 @@ fn is_blank(schema: &Schema) -> bool
 fn made<S: Alter + Drop>(
     alloc: Global,
     connection: Connection<S>,
-) -> Result<Opened<S>, (SavedFault, Connection<S>)>
+) -> Result<OpenedFile<S>, (SavedFault, Connection<S>)>
     requires mode { connection.in_transaction ≡ false }
     requires blank { connection.schema ≡ no_schema }
     ensures new { IfOk result (λ it. it.is_new ≡ true) }
@@ -107,7 +108,7 @@ fn made<S: Alter + Drop>(
     ensures mode { IfErr result (λ e. e.1.in_transaction ≡ false) }
 {
     match SqlKeeper::create(alloc, connection) {
-        Ok(keeper) => Ok(Opened {
+        Ok(keeper) => Ok(OpenedFile {
             keeper,
             is_new: true,
         }),
@@ -119,7 +120,7 @@ fn made<S: Alter + Drop>(
 fn found<S: Alter + Drop>(
     alloc: Global,
     connection: Connection<S>,
-) -> Result<Opened<S>, (SavedFault, Connection<S>)>
+) -> Result<OpenedFile<S>, (SavedFault, Connection<S>)>
     requires mode { connection.in_transaction ≡ false }
     ensures new { IfOk result (λ it. it.is_new ≡ false) }
     ensures ready { IfOk result (λ it. IsOurs (state S.Store connection)
@@ -143,7 +144,7 @@ fn found<S: Alter + Drop>(
         → IsLeft (state S.Store connection) (state S.Store e.1)) }
 {
     match SqlKeeper::open(alloc, connection) {
-        Ok(keeper) => Ok(Opened {
+        Ok(keeper) => Ok(OpenedFile {
             keeper,
             is_new: false,
         }),
@@ -155,7 +156,7 @@ fn found<S: Alter + Drop>(
 pub fn keeper_for<S: Alter + Drop>(
     alloc: Global,
     connection: Connection<S>,
-) -> Result<Opened<S>, SavedFault>
+) -> Result<OpenedFile<S>, SavedFault>
     requires { connection.in_transaction ≡ false }
     ensures keeps { IfOk result (λ it. KeepsWhatIsThere S.Store connection it.is_new it.keeper) }
     ensures ready { IfOk result (λ it. HoldsOurs S.Store connection
@@ -178,7 +179,7 @@ pub fn keeper_from<S: Start>(
     host: &HostRuntime,
     path: &str,
     start: S,
-) -> Result<Opened<FileStore<FileFrom<S>>>, SavedFault>
+) -> Result<OpenedFile<FileStore<FileFrom<S>>>, SavedFault>
     ensures keeps { IfOk result (λ it. HasCleanDisk (state over_files it.keeper.connection)
         → KeepsWhatWasFound over_files (image_at S.Start) it.is_new it.keeper) }
 {

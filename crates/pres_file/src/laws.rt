@@ -1,6 +1,6 @@
 //! A law of what an opening finds.
 
-ghost use Rattle.pres_file.specs.Found.{FindsWhatWasLeft};
+ghost use Rattle.pres_file.specs.FileOpening.{FindsWhatWasLeft};
 
 use sqlite_disk::Disk;
 

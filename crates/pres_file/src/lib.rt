@@ -5,5 +5,5 @@ mod keeper;
 pub mod laws;
 mod open;
 
-pub use keeper::{Opened, keeper_for, keeper_from, keeper_over};
+pub use keeper::{OpenedFile, keeper_for, keeper_from, keeper_over};
 pub use open::connect;

@@ -9,9 +9,9 @@ ghost use Rattle.sqlite_trees.specs.Tree.{Trees};
 ghost use Rattle.sqlite_trees.specs.View.{doubt, IsClean};
 ghost use Rattle.sqlite_wal.specs.Files.{image_at};
 ghost use Rattle.sqlite_wal.specs.Reads.{AreClean};
-ghost use Rattle.pres_file.specs.Found.{Finds};
+ghost use Rattle.pres_file.specs.FileOpening.{Finds};
 
-use pres_saved::SavedFault;
+use pres_faults::SavedFault;
 use sqlite::{Alter, Connection, FileFrom, FileStore, Files, Options, Start};
 use sqlite_disk::Disk;
 use sqlite_pager::Pager;

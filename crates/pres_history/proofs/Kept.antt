@@ -22,10 +22,10 @@ use Rattle.pres_log.specs.declared.entry.Entry.TheVariants as entry
 use Rattle.pres_log.specs.Logs.{writes_of}
 use Rattle.pres_server.specs.Sessions.{session_of}
 use Rattle.pres_server.specs.LegalLog.{Supersedes}
-use Rattle.pres_server.specs.Parts.{LivePart, Part, comes_after, same_stamp, is_live, open_step, open_steps}
-use Rattle.pres_server.specs.Index.{listeners_after}
-use Rattle.pres_server.specs.Pushes.{Reached}
-use Rattle.pres_server.specs.Follows.{IsNextIn, IsNextBy, IsNewerBy, MayComeBy, MayComeTogetherBy}
+use Rattle.pres_server.specs.InternalParts.{LivePart, Part, comes_after, same_stamp, is_live, open_step, open_steps}
+use Rattle.pres_server.specs.InternalIndex.{listeners_after}
+use Rattle.pres_server.specs.InternalPushes.{TouchedSession}
+use Rattle.pres_server.specs.InternalFollows.{IsNextIn, IsNextBy, IsNewerBy, MayComeBy, MayComeTogetherBy}
 use Rattle.pres_server.proofs.Since.{client_same, client_itself, session_same}
 use Rattle.pres_server.proofs.Sorted.{sorted_put}
 use Rattle.pres_server.proofs.PlanSteps.{number_in, asked_by}
@@ -141,7 +141,7 @@ each_after sum m (entry.Ended s q why rows) k f c =
 
 -- ---- orders
 
-pushed_in_order : (ts : List Reached) (es : OpenSessions) → IsStrictlySortedBy client_cmp (keys_of es) → IsStrictlySortedBy client_cmp (keys_of (fold pushed es ts))
+pushed_in_order : (ts : List TouchedSession) (es : OpenSessions) → IsStrictlySortedBy client_cmp (keys_of es) → IsStrictlySortedBy client_cmp (keys_of (fold pushed es ts))
 pushed_in_order [] es h = h
 pushed_in_order (t ∷ ts) es h = pushed_in_order ts (pushed es t) (sorted_changed t.0.client sent_more es h)
 
@@ -299,7 +299,7 @@ kept_after sum m e k f = record {
 }
 
 -- how many sessions are open after it
-pushed_counted : (ts : List Reached) (es : OpenSessions) → length (fold pushed es ts) ≡ length es
+pushed_counted : (ts : List TouchedSession) (es : OpenSessions) → length (fold pushed es ts) ≡ length es
 pushed_counted [] es = refl
 pushed_counted (t ∷ ts) es = pushed_counted ts (pushed es t) ∙ length_changed t.0.client sent_more es
 

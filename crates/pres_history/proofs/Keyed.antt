@@ -14,7 +14,7 @@ use Rattle.std.proofs.lemmas.List.Kept.{IsStrictlySortedBy-filter}
 use Rattle.std.proofs.lemmas.Map.Keys.{sorted_head, sorted_tail}
 use Rattle.std_collections.specs.Layout.BTreeMap.{with_entries}
 use Rattle.pres_ids.specs.Ids.{ClientId, client_cmp, same_client}
-use Rattle.pres_server.specs.Places.{Session}
+use Rattle.pres_server.specs.InternalSessions.{Session}
 use Rattle.pres_server.proofs.Since.{client_same, client_sym}
 use Rattle.pres_server.proofs.AfterEntry.{clients_total, clients_apart, same_by_cmp}
 use Rattle.pres_server.proofs.Sorted.{sorted_put}

@@ -23,12 +23,12 @@ use Rattle.pres_server.specs.declared.index.Index.{Index}
 use Rattle.pres_server.specs.Sessions.{session_of, count}
 use Rattle.pres_server.specs.SessionPlans.{plan}
 use Rattle.pres_server.specs.Streams.{shown, answers_to, answers}
-use Rattle.pres_server.specs.Parts.{Part, LivePart, Sound, plan_after, live_in, message_next, answer_by}
-use Rattle.pres_server.specs.Places.{Session, live_after, last_stamp, live_part, sent_to}
-use Rattle.pres_server.specs.Places as places
-use Rattle.pres_server.specs.Pushes.{Reached, Standing, after_push, after_pushes, pushes}
-use Rattle.pres_server.specs.Index.{session_at, gone_at, part_at, sent_at, Carries, Steps, Indexed, GoneSteps, retry_after, listeners_after, answer_on}
-use Rattle.pres_server.specs.Invariants.{MayComeUncounted, MayTakeAll}
+use Rattle.pres_server.specs.InternalParts.{Part, LivePart, Sound, plan_after, live_in, message_next, answer_by}
+use Rattle.pres_server.specs.InternalSessions.{Session, live_after, last_stamp, live_part, sent_to}
+use Rattle.pres_server.specs.InternalSessions as places
+use Rattle.pres_server.specs.InternalPushes.{TouchedSession, Standing, after_push, after_pushes, pushes}
+use Rattle.pres_server.specs.InternalIndex.{session_at, gone_at, part_at, sent_at, Carries, Steps, Indexed, GoneSteps, retry_after, listeners_after, answer_on}
+use Rattle.pres_server.specs.InternalInvariants.{MayComeUncounted, MayTakeAll}
 use Rattle.pres_server.proofs.Heard.{find_behind}
 use Rattle.pres_server.proofs.Parts.{only_open}
 use Rattle.pres_server.proofs.Carried.{Between, between}
@@ -77,24 +77,24 @@ abbrev one_sent : Session → Session
 one_sent session = record { stamp = session.stamp; count = session.count; sent = session.sent + 1; heard = session.heard; plan = session.plan }
 
 -- the sessions after a Push to the one that is reached
-abbrev push_one : List (ClientId × Session) → Reached → List (ClientId × Session)
+abbrev push_one : List (ClientId × Session) → TouchedSession → List (ClientId × Session)
 push_one es t = changed t.0.client one_sent es
 
-abbrev push_all : List (ClientId × Session) → List Reached → List (ClientId × Session)
+abbrev push_all : List (ClientId × Session) → List TouchedSession → List (ClientId × Session)
 push_all es ts = fold push_one es ts
 
-one_pushed : (t : Reached) (es : List (ClientId × Session)) → (λ c. at_client c (push_one es t)) ≡ after_push (λ c. at_client c es) t
+one_pushed : (t : TouchedSession) (es : List (ClientId × Session)) → (λ c. at_client c (push_one es t)) ≡ after_push (λ c. at_client c es) t
 one_pushed t es = λ i c. changed_found t.0.client one_sent es c i
 
-all_pushed : (ts : List Reached) (es : List (ClientId × Session)) (c : ClientId) → at_client c (push_all es ts) ≡ after_pushes (λ k. at_client k es) ts c
+all_pushed : (ts : List TouchedSession) (es : List (ClientId × Session)) (c : ClientId) → at_client c (push_all es ts) ≡ after_pushes (λ k. at_client k es) ts c
 all_pushed [] es c = refl
 all_pushed (t ∷ ts) es c = all_pushed ts (push_one es t) c ∙ ap (λ (live : Standing). after_pushes live ts c) (one_pushed t es)
 
-each_pushed : (ts : List Reached) (es : List (ClientId × Session)) → each open_of (push_all es ts) ≡ fold pushed (each open_of es) ts
+each_pushed : (ts : List TouchedSession) (es : List (ClientId × Session)) → each open_of (push_all es ts) ≡ fold pushed (each open_of es) ts
 each_pushed [] es = refl
 each_pushed (t ∷ ts) es = each_pushed ts (push_one es t) ∙ ap (λ l. fold pushed l ts) (each_changed open_of t.0.client one_sent sent_more (λ _. refl) es)
 
-sorted_pushed : (ts : List Reached) (es : List (ClientId × Session)) → IsStrictlySortedBy client_cmp (keys_of es) → IsStrictlySortedBy client_cmp (keys_of (push_all es ts))
+sorted_pushed : (ts : List TouchedSession) (es : List (ClientId × Session)) → IsStrictlySortedBy client_cmp (keys_of es) → IsStrictlySortedBy client_cmp (keys_of (push_all es ts))
 sorted_pushed [] es h = h
 sorted_pushed (t ∷ ts) es h = sorted_pushed ts (push_one es t) (sorted_changed t.0.client one_sent es h)
 
@@ -120,7 +120,7 @@ mid_is e index sum same = record {
 }
 
 -- what they send
-pushes_same : (z : ℕ) (tree : Rows Scalar) (ts : List Reached) (es : List (ClientId × Session)) → pushes_by z tree (each open_of es) ts ≡ pushes z tree (λ c. at_client c es) ts
+pushes_same : (z : ℕ) (tree : Rows Scalar) (ts : List TouchedSession) (es : List (ClientId × Session)) → pushes_by z tree (each open_of es) ts ≡ pushes z tree (λ c. at_client c es) ts
 pushes_same z tree [] es = refl
 pushes_same z tree (t ∷ ts) es =
     let first : sent_by t.0.client (each open_of es) ≡ sent_to (at_client t.0.client es) =

@@ -18,9 +18,9 @@ use Rattle.pres_fan.proofs.Orders.{session_total, session_apart}
 use Rattle.pres_fan.proofs.Rows.{touched_sorted, find_touched}
 use Rattle.pres_log.specs.declared.entry.Entry.{Entry}
 use Rattle.pres_log.specs.Logs.{writes_of}
-use Rattle.pres_server.specs.Parts.{IsAsked, is_live, session_with}
-use Rattle.pres_server.specs.Places.{Session, sent_one}
-use Rattle.pres_server.specs.Pushes.{Reached, Standing, after_push, after_pushes}
+use Rattle.pres_server.specs.InternalParts.{IsAsked, is_live, session_with}
+use Rattle.pres_server.specs.InternalSessions.{Session, sent_one}
+use Rattle.pres_server.specs.InternalPushes.{TouchedSession, Standing, after_push, after_pushes}
 use Rattle.pres_server.proofs.Since.{client_same, client_itself}
 use Rattle.pres_server.proofs.AfterEntry.{same_by_cmp, by_client}
 use Rattle.pres_server.proofs.Reached.{InOrder, reached, stepped, step_by, after_reached, find_reached, reached_sorted, is_found, any_found}
@@ -87,13 +87,13 @@ one_more : (o : Option Session) → option_map sent_more (option_map open_of o) 
 one_more None = refl
 one_more (Some session) = refl
 
-push_stands : (t : Reached) (es : OpenSessions) (live : Standing) → Stands es live → Stands (pushed es t) (after_push live t)
+push_stands : (t : TouchedSession) (es : OpenSessions) (live : Standing) → Stands es live → Stands (pushed es t) (after_push live t)
 push_stands t es live f c = find_changed t.0.client sent_more es c ∙ by (same_client t.0.client c) where
   by : (b : Bool) → cond b (option_map sent_more (find client_cmp c es)) (find client_cmp c es) ≡ option_map open_of (cond b (sent_one (live c)) (live c))
   by true = ap (option_map sent_more) (f c) ∙ one_more (live c)
   by false = f c
 
-pub pushes_stand : (ts : List Reached) (es : OpenSessions) (live : Standing) → Stands es live → Stands (fold pushed es ts) (after_pushes live ts)
+pub pushes_stand : (ts : List TouchedSession) (es : OpenSessions) (live : Standing) → Stands es live → Stands (fold pushed es ts) (after_pushes live ts)
 pushes_stand [] es live f = f
 pushes_stand (t ∷ ts) es live f = pushes_stand ts (pushed es t) (after_push live t) (push_stands t es live f)
 

@@ -15,7 +15,7 @@ use Rattle.pres_wire.specs.declared.up.Up.TheVariants as up
 use Rattle.pres_wire.specs.declared.down.Limit.TheVariants as limit
 use Rattle.pres_wire.specs.Messages.{session_in}
 use Rattle.pres_retry.specs.declared.table.Row.{Row}
-use Rattle.pres_retry.specs.Verdicts.{fresh, gap, verdict, told_row}
+use Rattle.pres_retry.specs.Verdicts.{fresh, gap, verdict, row_status}
 use Rattle.pres_plan.specs.Plans.{most_rows, due}
 use Rattle.pres_fan.specs.Listeners.{most_paths}
 use Rattle.pres_log.specs.declared.entry.Entry.{Entry}
@@ -25,10 +25,10 @@ use Rattle.pres_server.specs.declared.input.Input.{Input}
 use Rattle.pres_server.specs.declared.input.Input.TheVariants as input
 use Rattle.pres_server.specs.Sessions.{session_of}
 use Rattle.pres_server.specs.LegalLog.{IsPlain, Supersedes}
-use Rattle.pres_server.specs.Heard.{Heard, late_client}
+use Rattle.pres_server.specs.ServerStates.{Heard, late_client}
 use Rattle.pres_server.specs.Turns.{Decision, refused, quiet, makes, op_by, within_rows, within_paths}
-use Rattle.pres_server.specs.Parts.{LivePart, comes_after, same_stamp, is_live, session_with, listed, said_by, plan_in, end_by, hello_by, message_by, ends_live, ends_of, ends_late_by, wanted_by, open_step, open_steps, limited_by}
-use Rattle.pres_server.specs.Follows.{IsNextIn, IsNextBy, IsEndNumberBy, MayComeBy, IsNewerBy, MayComeTogetherBy}
+use Rattle.pres_server.specs.InternalParts.{LivePart, comes_after, same_stamp, is_live, session_with, listed, said_by, plan_in, end_by, hello_by, message_by, ends_live, ends_of, ends_late_by, wanted_by, open_step, open_steps, limited_by}
+use Rattle.pres_server.specs.InternalFollows.{IsNextIn, IsNextBy, IsEndNumberBy, MayComeBy, IsNewerBy, MayComeTogetherBy}
 use Rattle.pres_server.proofs.Decide.{from_one, stamp_itself}
 use Rattle.pres_history.specs.Sums.{Sum, part_in, paths_in}
 use Rattle.pres_history.specs.SumTurns.{SumState, moment_by}
@@ -102,15 +102,15 @@ module _ (sum : Sum) (m : ℕ) where
     rows : List Row
     rows = (part_in sum s.client).rows
 
-    again : (n == 0) ≡ false → (o : Option Row) → slice_get rows (n - 1) ≡ o → Allowed sum m (op_by (told_row o) sum.tree m s q n op)
+    again : (n == 0) ≡ false → (o : Option Row) → slice_get rows (n - 1) ≡ o → Allowed sum m (op_by (row_status o) sum.tree m s q n op)
     again z None here = tt
     again z (Some row) here = (tt, (next, from_one n z, within_written n rows row z here))
 
-    new : (n == 0) ≡ false → (b : Bool) → (n == length rows + 1) ≡ b → Allowed sum m (op_by (cond b fresh (told_row (slice_get rows (n - 1)))) sum.tree m s q n op)
+    new : (n == 0) ≡ false → (b : Bool) → (n == length rows + 1) ≡ b → Allowed sum m (op_by (cond b fresh (row_status (slice_get rows (n - 1)))) sum.tree m s q n op)
     new z true e = (tt, (next, eqb-true n (length rows + 1) e, refl))
     new z false e = again z (slice_get rows (n - 1)) refl
 
-    zero : (b : Bool) → (n == 0) ≡ b → Allowed sum m (op_by (cond b gap (cond (n == length rows + 1) fresh (told_row (slice_get rows (n - 1))))) sum.tree m s q n op)
+    zero : (b : Bool) → (n == 0) ≡ b → Allowed sum m (op_by (cond b gap (cond (n == length rows + 1) fresh (row_status (slice_get rows (n - 1))))) sum.tree m s q n op)
     zero true z = tt
     zero false z = new z (n == length rows + 1) refl
 

@@ -19,13 +19,13 @@ use Rattle.pres_server.specs.declared.index.Index.{Index}
 use Rattle.pres_server.specs.declared.input.Input.{Input}
 use Rattle.pres_server.specs.Sessions.{open_sessions}
 use Rattle.pres_server.specs.LegalLog.{MayFollow, IsLegal, IsLegalAfter}
-use Rattle.pres_server.specs.Heard.{Heard, State}
+use Rattle.pres_server.specs.ServerStates.{Heard, ServerState}
 use Rattle.pres_server.specs.Turns.{Decision, makes, quiet, refused, moment_of, wanted, turn, batch_of, log_after}
-use Rattle.pres_server.specs.Parts.{Part, Sound, session_with, wanted_by, limited_by}
-use Rattle.pres_server.specs.Places.{Session, open_count}
-use Rattle.pres_server.specs.Index.{part_at, paths_at}
-use Rattle.pres_server.specs.Invariants.{Holds}
-use Rattle.pres_server.specs.Follows.{MayComeTogetherBy, LeavesRoomBy}
+use Rattle.pres_server.specs.InternalParts.{Part, Sound, session_with, wanted_by, limited_by}
+use Rattle.pres_server.specs.InternalSessions.{Session, open_count}
+use Rattle.pres_server.specs.InternalIndex.{part_at, paths_at}
+use Rattle.pres_server.specs.InternalInvariants.{ServerInvariant}
+use Rattle.pres_server.specs.InternalFollows.{MayComeTogetherBy, LeavesRoomBy}
 use Rattle.pres_server.proofs.Decide.{wanted_is, wanted_allowed, limited_is}
 use Rattle.pres_server.proofs.Follows.{joins_in, joins_out}
 use Rattle.pres_server.proofs.Heard.{behind}
@@ -48,7 +48,7 @@ sum_push sum (a ∷ log) b = sum_push (sum_with sum a) log b
 
 pub record Stands (log : Log) : Type 0 where
   pub index : Index
-  pub holds : Holds log (last_moment log) index
+  pub holds : ServerInvariant log (last_moment log) index
   pub is_sum : IsSumOf index (sum_of log)
   pub number : (sum_of log).number ≡ length (entries log)
   pub batches : (sum_of log).batches ≡ length log
@@ -89,7 +89,7 @@ further log b s f =
 step : (log : Log) (b : Batch) → Stands log → MayFollow log b → Stands (log ++ b ∷ [])
 step log b s f = record {
   index = t.index;
-  holds = subst (λ m. Holds (log ++ b ∷ []) m t.index) kept.last kept;
+  holds = subst (λ m. ServerInvariant (log ++ b ∷ []) m t.index) kept.last kept;
   is_sum = subst (IsSumOf t.index) (sym (sum_push nothing log b)) with_batch;
   number = ap (λ (x : Sum). x.number) (sum_push nothing log b) ∙ t.number ∙ (λ i. s.number i + length b.entries) ∙ sym (length-append (entries log) b.entries) ∙ ap length (sym (entries-push log b));
   batches = ap (λ (x : Sum). x.batches) (sum_push nothing log b) ∙ ap (λ n. n + 1) s.batches ∙ sym (length-append log (b ∷ []));
@@ -98,7 +98,7 @@ step log b s f = record {
   t : TakenAll (entries log) b.entries (sum_of log)
   t = further log b s f
 
-  kept : Holds (log ++ b ∷ []) b.moment t.index
+  kept : ServerInvariant (log ++ b ∷ []) b.moment t.index
   kept = kept_after log (last_moment log) s.index t.index b s.holds f t.indexed t.ordered
 
   with_batch : IsSumOf t.index (sum_with (sum_of log) b)
@@ -179,7 +179,7 @@ turns log legal s heard input now = sym (
       m : ℕ
       m = moment_of log now
 
-      state : State
+      state : ServerState
       state = record { log = log; heard = heard }
 
       sound : Sound es

@@ -10,7 +10,7 @@ use Rattle.pres_wire.specs.declared.down.Down.{Down}
 use Rattle.pres_fan.specs.Listeners.{IsListeners}
 use Rattle.pres_log.specs.declared.entry.Batch.{Batch}
 use Rattle.pres_log.specs.Logs.{Log}
-use Rattle.pres_server.specs.Parts.{IsAsked}
+use Rattle.pres_server.specs.InternalParts.{IsAsked}
 use Rattle.pres_history.specs.Sums.{Sum, OpenSession, nothing, live_of, is_open_in, paths_in, sum_with, sum_from}
 use Rattle.pres_history.specs.SumAnswers.{answers_by}
 use Rattle.pres_history.specs.SumTurns.{FollowAll}

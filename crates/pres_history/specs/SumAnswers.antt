@@ -9,16 +9,16 @@ use Rattle.pres_log.specs.declared.entry.Entry.{Entry}
 use Rattle.pres_log.specs.Logs.{writes_of}
 use Rattle.pres_server.specs.Sessions.{session_of}
 use Rattle.pres_server.specs.Streams.{shown}
-use Rattle.pres_server.specs.Parts.{message_next, answer_by}
-use Rattle.pres_server.specs.Pushes.{Reached}
+use Rattle.pres_server.specs.InternalParts.{message_next, answer_by}
+use Rattle.pres_server.specs.InternalPushes.{TouchedSession}
 use Rattle.pres_history.specs.Sums.{Sum, OpenSessions, part_in, sent_by, pushed, carried, sum_after}
 
 -- the Push of entry number z, with what stands at the paths
-abbrev pub push_by : ℕ → Rows Scalar → OpenSessions → Reached → List Down
+abbrev pub push_by : ℕ → Rows Scalar → OpenSessions → TouchedSession → List Down
 push_by z tree sessions reached = message_next (sent_by reached.0.client sessions) (λ r. Push reached.0 r z (map (shown tree) reached.1))
 
 -- the Pushes to each of them, in order
-abbrev pub pushes_by : ℕ → Rows Scalar → OpenSessions → List Reached → List Down
+abbrev pub pushes_by : ℕ → Rows Scalar → OpenSessions → List TouchedSession → List Down
 pushes_by z tree sessions [] = []
 pushes_by z tree sessions (reached ∷ more) = push_by z tree sessions reached ++ pushes_by z tree (pushed sessions reached) more
 

@@ -10,9 +10,9 @@ use Rattle.pres_server.specs.Sessions.{is_open, open_sessions}
 use Rattle.pres_server.specs.Listening.{listened}
 use Rattle.pres_server.specs.Streams.{answers}
 use Rattle.pres_server.specs.LegalLog.{MayFollow, IsLegal}
-use Rattle.pres_server.specs.Heard.{Heard}
+use Rattle.pres_server.specs.ServerStates.{Heard}
 use Rattle.pres_server.specs.Turns.{Decision, turn, log_after}
-use Rattle.pres_server.specs.Parts.{part_of, sent_of, session_with}
+use Rattle.pres_server.specs.InternalParts.{part_of, sent_of, session_with}
 use Rattle.pres_history.specs.Sums.{Sum, nothing, part_in, paths_in, sent_by, sum_from, sum_of}
 use Rattle.pres_history.specs.SumAnswers.{answers_by}
 use Rattle.pres_history.specs.SumTurns.{FollowsSum, FollowAll, turn_by, sum_after_turn}

@@ -5,10 +5,10 @@ use Rattle.pres_log.specs.declared.entry.Batch.{Batch}
 use Rattle.pres_log.specs.declared.entry.Entry.{Entry}
 use Rattle.pres_log.specs.Logs.{Log}
 use Rattle.pres_server.specs.declared.input.Input.{Input}
-use Rattle.pres_server.specs.Heard.{Heard}
+use Rattle.pres_server.specs.ServerStates.{Heard}
 use Rattle.pres_server.specs.Turns.{Decision, makes}
-use Rattle.pres_server.specs.Parts.{wanted_by, limited_by}
-use Rattle.pres_server.specs.Follows.{MayComeTogetherBy, LeavesRoomBy}
+use Rattle.pres_server.specs.InternalParts.{wanted_by, limited_by}
+use Rattle.pres_server.specs.InternalFollows.{MayComeTogetherBy, LeavesRoomBy}
 use Rattle.pres_history.specs.Sums.{Sum, part_in, paths_in, sum_with}
 
 -- the batch may follow

@@ -18,9 +18,9 @@ use Rattle.pres_log.specs.declared.entry.Entry.{Entry}
 use Rattle.pres_log.specs.declared.entry.Entry.TheVariants as entry
 use Rattle.pres_log.specs.Logs.{Log, writes_of}
 use Rattle.pres_server.specs.Sessions.{session_of}
-use Rattle.pres_server.specs.Parts.{LivePart, Part, plan_after, is_live}
-use Rattle.pres_server.specs.Index.{retry_after, listeners_after}
-use Rattle.pres_server.specs.Pushes.{Reached}
+use Rattle.pres_server.specs.InternalParts.{LivePart, Part, plan_after, is_live}
+use Rattle.pres_server.specs.InternalIndex.{retry_after, listeners_after}
+use Rattle.pres_server.specs.InternalPushes.{TouchedSession}
 
 -- an open session: its stamp, how many of its messages were accepted, how many were sent to it, and what it leaves for
 -- its end
@@ -93,7 +93,7 @@ abbrev pub sent_more : OpenSession → OpenSession
 sent_more session = record session { sent = session.sent + 1 }
 
 -- after a Push to the session that is reached
-abbrev pub pushed : OpenSessions → Reached → OpenSessions
+abbrev pub pushed : OpenSessions → TouchedSession → OpenSessions
 pushed sessions reached = changed reached.0.client sent_more sessions
 
 -- once the writes of the entry are carried out, and each session that they touch is sent a Push

@@ -13,7 +13,7 @@ use Rattle.pres_fan.proofs.level.Level.TheLaws.TheKnot.{crosses as level_knot}
 use Rattle.pres_tree.proofs.key.Key.TheSendSync.{the_send as key_is}
 use Rattle.pres_tree.proofs.path.Path.TheSendSync.{the_send as path_is}
 use Rattle.pres_tree.proofs.scalar.Scalar.TheSendSync.{the_send as scalar_is}
-use Rattle.pres_write.proofs.draft.Slot.TheSendSync.{the_send as slot_is}
+use Rattle.pres_write.proofs.draft.DraftLeaf.TheSendSync.{the_send as slot_is}
 use Rattle.pres_write.proofs.items.Items.TheSendSync.{the_send as items_is}
 use Rattle.pres_write.proofs.moment.Moment.TheSendSync.{the_send as moment_is}
 use Rattle.pres_ids.proofs.id.ClientId.TheSendSync.{the_send as client_is}
@@ -24,7 +24,7 @@ use Rattle.pres_ids.proofs.number.Count.TheSendSync.{the_send as count_is}
 use Rattle.pres_wire.proofs.down.Limit.TheSendSync.{the_send as limit_is}
 use Rattle.pres_tree.specs.contracts.scalar.Scalar as scalar
 use Rattle.pres_tree.specs.contracts.nested.Nested as nested
-use Rattle.pres_write.specs.contracts.draft.Slot as slot
+use Rattle.pres_write.specs.contracts.draft.DraftLeaf as slot
 use Rattle.pres_write.specs.contracts.basic.Basic as basic
 use Rattle.pres_write.specs.contracts.op.Op as op
 use Rattle.pres_write.specs.contracts.outcome.Outcome as outcome
@@ -43,27 +43,27 @@ use Rattle.pres_fan.specs.contracts.listeners.Listeners as listeners
 use Rattle.pres_log.specs.contracts.entry.Entry as entry
 use Rattle.pres_log.specs.contracts.entry.Batch as batch
 use Rattle.pres_log.specs.contracts.log.Log as log
-use Rattle.pres_server.specs.contracts.places.Places as places
+use Rattle.pres_server.specs.contracts.client_sessions.ClientSessions as places
 use Rattle.pres_server.specs.contracts.index.Index as index
 use Rattle.pres_server.specs.contracts.server.Server as server
 use Rattle.pres_wire.specs.contracts.values.Values as values
 use Rattle.pres_wire.specs.contracts.down.Down as down
 use Rattle.pres_ring.specs.contracts.feed.Feed as feed
 use Rattle.pres_ring.specs.contracts.outbox.Outbox as outbox
-use Rattle.pres_lines.specs.contracts.lines.Lines as lines
+use Rattle.pres_ring.specs.contracts.lines.Lines as lines
 use Rattle.pres_keeper.specs.contracts.memory.MemKeeper as keeper
-use Rattle.pres_lines.specs.contracts.place.Place as place
+use Rattle.pres_ring.specs.contracts.session_feed.SessionFeed as place
 use denote.RattleType.{RattleType}
 use Rattle.std.specs.declared.sync.ledger.Ledger as ledger
 use Rattle.pres_keeper.specs.declared.keeper.Keeper as keeping
-use Rattle.pres_engine.specs.contracts.engine.Engine as engine
-use Rattle.pres_exchange.specs.contracts.exchange.Exchange as exchange
-use Rattle.pres_exchange.specs.contracts.bells.Bells as bells
-use Rattle.pres_exchange.specs.contracts.bells.Hung as hung
-use Rattle.pres_exchange.specs.contracts.bells.Due as due
+use Rattle.pres_keeper.specs.contracts.engine.Engine as engine
+use Rattle.pres_dispatch.specs.contracts.dispatcher.Dispatcher as exchange
+use Rattle.pres_dispatch.specs.contracts.bells.Bells as bells
+use Rattle.pres_dispatch.specs.contracts.bells.SessionBell as hung
+use Rattle.pres_dispatch.specs.contracts.bells.DueBell as due
 use Rattle.pres_hub.specs.contracts.center.Core as core
 use Rattle.pres_hub.specs.contracts.locked.Hub as hub
-use Rattle.pres_seats.proofs.tally.Tally.TheSendSync.{the_send as tally_is}
+use Rattle.pres_accounting.proofs.tally.Tally.TheSendSync.{the_send as tally_is}
 
 pub tree_send : IsSend (nested.the_row scalar.the_row)
 tree_send = search (key_is, scalar_is, maps, crosses, knot, sendable) depth 60 fits 20000

@@ -1,5 +1,5 @@
 pub mod Counted
-pub mod Heard
+pub mod SayAnswered
 pub mod Fewer
 pub mod Ends
 pub mod Crossing

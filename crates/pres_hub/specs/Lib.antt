@@ -1,2 +1,2 @@
 pub mod Cores
-pub mod Said
+pub mod CoreCalls

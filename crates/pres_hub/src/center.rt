@@ -9,22 +9,23 @@ ghost use Rattle.pres_wire.specs.Messages.{session_in};
 ghost use Rattle.pres_server.specs.Turns.{turn, quiet};
 ghost use Rattle.pres_server.specs.Replays.{made_from};
 ghost use Rattle.pres_server.specs.declared.input.Input.TheVariants.{Up as Message, Tick as Late};
-ghost use Rattle.pres_engine.specs.Engines.{Runs};
-ghost use Rattle.pres_ring.specs.Accepted.{is_hello, messages_in};
-ghost use Rattle.pres_exchange.specs.Exchanges.{StayMarked, IsAnswered, AreRestarted, IsNotStarted};
-ghost use Rattle.pres_seats.specs.Faults.{of_engine};
-ghost use Rattle.pres_lines.specs.Lines.{line_at, struck, ChangesAt};
-ghost use Rattle.pres_hub.specs.Cores.{Stands, end_by};
-ghost use Rattle.pres_hub.specs.Said.{IsCarriedOut, IsOpened, IsKeptBack, IsAbreast, accepted_of, IsOwnMessage, IsHeard, IsRefused, IsNotHeard, IsNotOpened, IsRefusedEnd, IsMarked, NoneMarked, AreMarkedEnded, AreLateEnded, IsTicked, StopsAtMark, IsNotTicked};
-ghost use Rattle.pres_seats.specs.declared.fault.HubFault.TheVariants.{Down as Gone, Memory};
+ghost use Rattle.pres_keeper.specs.Engines.{Runs};
+ghost use Rattle.pres_ring.specs.AcceptedMessages.{is_hello, messages_in};
+ghost use Rattle.pres_dispatch.specs.Dispatches.{StayMarked, IsAnswered, AreRestarted, IsNotStarted};
+ghost use Rattle.pres_faults.specs.HubFaults.{of_engine};
+ghost use Rattle.pres_ring.specs.Lines.{line_at, struck, ChangesAt};
+ghost use Rattle.pres_hub.specs.Cores.{CoreInvariant, end_by};
+ghost use Rattle.pres_hub.specs.CoreCalls.{IsCarriedOut, IsJoinAnswered, IsHeldBack, HasSameCount, accepted_of, IsOwnMessage, IsSayAnswered, IsEventRefused, IsSayRefused, IsJoinRefused, IsEndRefused, IsMarked, NoneMarked, AreMarkedEnded, AreLateEnded, IsTickDone, StopsAtMark, IsTickStopped};
+ghost use Rattle.pres_faults.specs.declared.hub_fault.HubFault.TheVariants.{Down as Gone, Memory};
 
 #[cfg(test)]
 mod tests;
 
-use pres_exchange::{
-    Bell, Count, Exchange, Fault, Input, Keeper, Moment, Outbox, Server, SessionId, Up, Why,
+use pres_accounting::{Parting, Report, Seat, Tally};
+use pres_dispatch::{
+    Bell, Count, Dispatcher, Fault, Input, Keeper, Moment, Outbox, Server, SessionId, Up, Why,
 };
-use pres_seats::{HubFault, Parting, Report, Seat, Tally};
+use pres_faults::HubFault;
 use std::alloc::Global;
 use std::marker::Model;
 use std::sync::ledger::{Blank, Ledger};
@@ -40,16 +41,16 @@ pub struct Said {
 /// number that the start left.
 pub struct Core<L: Ledger, K: Keeper + Drop, B> {
     alloc: Global,
-    exchange: Exchange<K, B>,
+    exchange: Dispatcher<K, B>,
     tally: Tally<L>,
     start: u64,
 }
 
 impl<L: Ledger, K: Keeper + Drop, B> Model for Core<L, K, B> {
-    ghost use Rattle.pres_exchange.specs.Exchanges.{NoneSlow};
-    ghost use Rattle.pres_hub.specs.Cores.{Held, AreAccepted};
+    ghost use Rattle.pres_dispatch.specs.Dispatches.{NoneSlow};
+    ghost use Rattle.pres_hub.specs.Cores.{CoreState, AreAccepted};
 
-    ghost Value = { Held K };
+    ghost Value = { CoreState K };
 
     ghost view = { λ c. record {
       run = c.exchange.run;
@@ -88,14 +89,14 @@ fn is_apart(server: &Server, session: &SessionId, mine: Count) -> bool
 
 // Takes the message to the server, and counts it where it was accepted.
 fn take_message<L: Ledger, K: Keeper + Drop, B: Bell + Clone + Drop>(
-    exchange: &mut Exchange<K, B>,
+    exchange: &mut Dispatcher<K, B>,
     tally: &mut Tally<L>,
     seat: &mut Seat<L>,
     up: Up,
     now: Moment,
 ) -> Result<(), HubFault>
     requires hello { is_hello up ≡ false }
-    requires abreast { IsAbreast up seat.old.q exchange.old.run.server }
+    requires abreast { HasSameCount up seat.old.q exchange.old.run.server }
     requires few { Runs (λ s. tally.old.accepted < 2 ^ 53) exchange.old.run.server }
     ensures answered { IfOk result (λ _. IsAnswered exchange.old.run.server (Message up) now
         exchange.new.run.server exchange.old.lines exchange.new.lines) }
@@ -107,7 +108,7 @@ fn take_message<L: Ledger, K: Keeper + Drop, B: Bell + Clone + Drop>(
       accepted = tally.old.accepted + accepted_of exchange.old.run.server up now;
     }) }
     ensures rises { exchange.old.run.number ≤ exchange.new.run.number }
-    ensures refused { IfErr result (IsRefused (Message up) now
+    ensures refused { IfErr result (IsEventRefused (Message up) now
         exchange.old.run.server exchange.new.run.server) }
     ensures kept { OnErr result ((tally.new ≡ tally.old) × (seat.new ≡ seat.old)) }
     ensures stays { OnErr result (exchange.new.run.number ≡ exchange.old.run.number) }
@@ -146,12 +147,12 @@ impl<L: Ledger, K: Keeper + Drop, B: Bell + Clone + Drop> Core<L, K, B> {
         ensures lines { IfOk result (λ c. c.lines ≡ []) }
         ensures counts { IfOk result (λ c.
             c.counts ≡ record { accepted = 0; seats = 0; out = 0 }) }
-        ensures stands { IfOk result (λ c. Stands K.works K.keeps c) }
+        ensures stands { IfOk result (λ c. CoreInvariant K.works K.keeps c) }
         ensures refused { IfErr result (λ e. K.works e.1 → (fault : _) × (e.0 ≡ of_engine fault)
             × IsNotStarted (K.readable keeper) (K.keeps keeper) (K.keeps e.1) now fault) }
         ensures ready { IfErr result (λ e. K.ready e.1) }
     {
-        match Exchange::start(alloc, keeper, now) {
+        match Dispatcher::start(alloc, keeper, now) {
             Ok(exchange) => {
                 let start = exchange.number();
                 Ok(Core {
@@ -167,7 +168,7 @@ impl<L: Ledger, K: Keeper + Drop, B: Bell + Clone + Drop> Core<L, K, B> {
 
     /// Changes nothing, and shows what holds whenever the lock is free.
     pub fn show(&self)
-        ensures { Stands K.works K.keeps self.now }
+        ensures { CoreInvariant K.works K.keeps self.now }
     {
         let _ = self.exchange.number();
     }
@@ -186,7 +187,7 @@ impl<L: Ledger, K: Keeper + Drop, B: Bell + Clone + Drop> Core<L, K, B> {
             IsCarriedOut input now self.old.run.server self.new.run.server
             self.old.lines self.new.lines) }
         ensures refused { IfErr result
-            (IsRefused input now self.old.run.server self.new.run.server) }
+            (IsEventRefused input now self.old.run.server self.new.run.server) }
         ensures lines { OnErr result (self.new.lines ≡ self.old.lines) }
         ensures marks { StayMarked self.old.lines self.new.lines }
         ensures rises { self.old.run.number ≤ self.new.run.number }
@@ -212,10 +213,10 @@ impl<L: Ledger, K: Keeper + Drop, B: Bell + Clone + Drop> Core<L, K, B> {
           seats = self.old.counts.seats + 1;
           out = self.old.counts.out + 1;
         }) }
-        ensures joined { IfOk result (λ joined. IsOpened session.now now self.old.run.server
+        ensures joined { IfOk result (λ joined. IsJoinAnswered session.now now self.old.run.server
             self.new.run.server self.old.lines self.new.lines joined.1) }
         ensures refused { IfErr result
-            (IsNotOpened session.now now self.old.run.server self.new.run.server) }
+            (IsJoinRefused session.now now self.old.run.server self.new.run.server) }
         ensures lines { OnErr result
             ((t : SessionId) → line_at t self.new.lines ≡ line_at t self.old.lines) }
         ensures down { (self.old.run.server ≡ None)
@@ -242,10 +243,10 @@ impl<L: Ledger, K: Keeper + Drop, B: Bell + Clone + Drop> Core<L, K, B> {
     pub fn say(&mut self, seat: &mut Seat<L>, up: Up, now: Moment) -> Result<Said, HubFault>
         ensures number { IfOk result (λ said. said.number ≡ self.new.run.number) }
         ensures fresh { IfOk result (λ said. seat.old.seen ≤ said.number) }
-        ensures heard { IfOk result (λ said. IsHeard up now self.old.run.server
+        ensures heard { IfOk result (λ said. IsSayAnswered up now self.old.run.server
             self.new.run.server self.old.lines self.new.lines self.old.run.number said.number
             seat.old seat.new self.old.counts self.new.counts) }
-        ensures refused { IfErr result (IsNotHeard seat.old up self.old.run.number now
+        ensures refused { IfErr result (IsSayRefused seat.old up self.old.run.number now
             self.old.run.server self.new.run.server) }
         ensures kept { OnErr result
             ((self.new.counts ≡ self.old.counts) × (seat.new ≡ seat.old)) }
@@ -272,7 +273,7 @@ impl<L: Ledger, K: Keeper + Drop, B: Bell + Clone + Drop> Core<L, K, B> {
             self.old.lines self.new.lines) }
         ensures stopped { IfErr result (λ e. (last : _)
             × AreLateEnded now self.old.run.server last self.old.lines self.new.lines
-            × IsRefused Late now last self.new.run.server e) }
+            × IsEventRefused Late now last self.new.run.server e) }
         ensures none_late { OnOk result
             (Runs (λ s. turn s Late now ≡ quiet) self.new.run.server) }
         ensures marks { StayMarked self.old.lines self.new.lines }
@@ -295,8 +296,8 @@ impl<L: Ledger, K: Keeper + Drop, B: Bell + Clone + Drop> Core<L, K, B> {
     pub fn tick(&mut self, now: Moment) -> Result<u64, HubFault>
         ensures ended { IfOk result (λ n. self.new.run.number ≡ self.old.run.number + n) }
         ensures ticked { OnOk result
-            (IsTicked now self.old.run.server self.new.run.server self.old.lines self.new.lines) }
-        ensures stopped { IfErr result (IsNotTicked now self.old.run.server self.new.run.server
+            (IsTickDone now self.old.run.server self.new.run.server self.old.lines self.new.lines) }
+        ensures stopped { IfErr result (IsTickStopped now self.old.run.server self.new.run.server
             self.old.lines self.new.lines) }
         ensures closed { OnOk result ((s : SessionId) → IsMarked s self.old.lines
             → Runs (λ t. is_open s (entries t.log) ≡ false) self.new.run.server) }
@@ -337,7 +338,7 @@ impl<L: Ledger, K: Keeper + Drop, B: Bell + Clone + Drop> Core<L, K, B> {
     fn end(&mut self, session: &SessionId, why: Why, now: Moment) -> Result<(), HubFault>
         ensures ended { IfOk result (λ _. IsCarriedOut (end_by why session.now) now
             self.old.run.server self.new.run.server self.old.lines self.new.lines) }
-        ensures refused { IfErr result (IsRefusedEnd (end_by why session.now) now
+        ensures refused { IfErr result (IsEndRefused (end_by why session.now) now
             self.old.run.server self.new.run.server) }
         ensures rises { self.old.run.number ≤ self.new.run.number }
         ensures lines { OnErr result (self.new.lines ≡ self.old.lines) }
@@ -354,7 +355,7 @@ impl<L: Ledger, K: Keeper + Drop, B: Bell + Clone + Drop> Core<L, K, B> {
         ensures made { result.made ≡ seat.made }
         ensures ended { IfNone result.fault (IsCarriedOut (end_by why seat.session) now
             self.old.run.server self.new.run.server self.old.lines self.new.lines) }
-        ensures refused { IfSome result.fault (IsRefusedEnd (end_by why seat.session) now
+        ensures refused { IfSome result.fault (IsEndRefused (end_by why seat.session) now
             self.old.run.server self.new.run.server) }
         ensures marked { IfSome result.fault (λ _. ChangesAt seat.session
             (option_map (struck why)) self.old.lines self.new.lines) }
@@ -376,11 +377,11 @@ impl<L: Ledger, K: Keeper + Drop, B: Bell + Clone + Drop> Core<L, K, B> {
     // Why the seat's message isn't taken to the server.
     fn refusal(&self, seat: &Seat<L>, up: &Up) -> Option<HubFault>
         ensures refused { IfSome result
-            (IsKeptBack seat.now up.now self.now.run.server self.now.run.number) }
+            (IsHeldBack seat.now up.now self.now.run.server self.now.run.number) }
         ensures runs { IfNone result (is_some self.now.run.server ≡ true) }
         ensures own { IfNone result (IsOwnMessage seat.now up.now) }
         ensures fresh { IfNone result (seat.now.seen ≤ self.now.run.number) }
-        ensures abreast { IfNone result (IsAbreast up.now seat.now.q self.now.run.server) }
+        ensures abreast { IfNone result (HasSameCount up.now seat.now.q self.now.run.server) }
     {
         let Some(server) = self.exchange.server() else {
             return Some(HubFault::Down);

@@ -8,5 +8,6 @@ mod locked;
 pub use center::{Core, Said};
 pub use gate::{Gate, OpenGate};
 pub use locked::Hub;
-pub use pres_exchange::{Bell, Keeper, MemKeeper, Moment, NoBell, Outbox, SessionId, Up, Why};
-pub use pres_seats::{HubFault, Parting, Report, Seat};
+pub use pres_accounting::{Parting, Report, Seat};
+pub use pres_dispatch::{Bell, Keeper, MemKeeper, Moment, NoBell, Outbox, SessionId, Up, Why};
+pub use pres_faults::HubFault;

@@ -1,11 +1,11 @@
 //! A hub.
 
 ghost use Rattle.std.specs.Sync.Mutex.{mutex_guard_value};
-ghost use Rattle.pres_hub.specs.Cores.{Stands};
+ghost use Rattle.pres_hub.specs.Cores.{CoreInvariant};
 
 use crate::center::Core;
 use crate::gate::Gate;
-use pres_exchange::{Bell, Keeper};
+use pres_dispatch::{Bell, Keeper};
 use std::sync::ledger::Ledger;
 use std::sync::{Mutex, MutexGuard, Wait};
 
@@ -26,7 +26,7 @@ impl<L: Ledger, K: Keeper + Drop, B: Bell + Clone + Drop, G: Gate> Hub<L, K, B, 
 
     /// Passes the gate, waits for the lock, and lends the core.
     pub fn enter<R: Wait>(&self, rt: &R, caller: u64) -> MutexGuard<'_, Core<L, K, B>>
-        ensures { let core = mutex_guard_value result in Stands K.works K.keeps core }
+        ensures { let core = mutex_guard_value result in CoreInvariant K.works K.keeps core }
     {
         self.gate.pass(caller);
         let guard = self.core.lock(rt);
@@ -38,7 +38,7 @@ impl<L: Ledger, K: Keeper + Drop, B: Bell + Clone + Drop, G: Gate> Hub<L, K, B, 
     pub fn into_core(self) -> Core<L, K, B>
     where
         G: Drop,
-        ensures { Stands K.works K.keeps result }
+        ensures { CoreInvariant K.works K.keeps result }
     {
         let Hub { core, gate: _ } = self;
         let core = core.into_inner();

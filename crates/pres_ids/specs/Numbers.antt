@@ -1,6 +1,6 @@
 -- Numbers that messages carry.
 use Rattle.std.specs.Prelude.{ℕ, ◌≤◌}
-use Rattle.pres_write.specs.Moments.{max_safe_integer}
+use Rattle.pres_limits.specs.Limits.{max_safe_integer}
 
 -- the greatest number of a message
 abbrev pub greatest_number : ℕ

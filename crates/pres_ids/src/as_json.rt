@@ -3,7 +3,7 @@
 
 ghost use Rattle.std.specs.Prelude.{◌≡◌, ◌++◌, Some, IfOk, OnOk};
 ghost use Rattle.serde_json.specs.View.{view};
-ghost use Rattle.pres_tree.specs.Printing.{tokens_of, IsPlain};
+ghost use Rattle.pres_tree.specs.JsonPrinting.{tokens_of, IsPlain};
 ghost use Rattle.pres_ids.specs.Forms.{whole, message_number, message_count, stamp_json, stamp_in, session_json, session_of, why_in, why_of};
 
 use crate::id::{ClientId, IdFault, SessionId, Stamp, Why};

@@ -4,7 +4,7 @@ ghost use Rattle.std.specs.Prelude.{◌≡◌, ◌+◌, ◌<◌, ◌≤◌, Matc
 ghost use Rattle.std.specs.Option.{SomeIff};
 ghost use Rattle.pres_ids.specs.Numbers.{greatest_number, IsNumber};
 
-use pres_write::MAX_SAFE_INTEGER;
+use pres_limits::MAX_SAFE_INTEGER;
 use std::fmt;
 use std::marker::Model;
 

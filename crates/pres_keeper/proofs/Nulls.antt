@@ -15,7 +15,7 @@ use Rattle.pres_log.specs.declared.entry.Batch.{Batch}
 use Rattle.pres_log.specs.declared.entry.Entry.{Entry}
 use Rattle.pres_log.specs.declared.entry.Entry.TheVariants as entry
 use Rattle.pres_log.specs.Logs.{Log, entries}
-use Rattle.pres_body.specs.Reads.{one_null, with_one_null}
+use Rattle.pres_batch_json.specs.Reads.{one_null, with_one_null}
 use Rattle.pres_server.specs.LegalLog.{MayCome, MayComeTogether, MayFollow, IsLegal, IsLegalAfter}
 use Rattle.pres_keeper.specs.Keepers.{HasOneNull}
 

@@ -2,9 +2,9 @@
 use Rattle.std.specs.Prelude.{◌≡◌, ◌⊎◌, ℕ, ◌+◌, Bool, true, false, List, ◌++◌, length, map}
 use Rattle.pres_log.specs.declared.entry.Entry.{Entry}
 use Rattle.pres_log.specs.Logs.{Log}
-use Rattle.pres_body.specs.Reads.{with_one_null}
-use Rattle.pres_table.specs.declared.fault.SavedFault.{SavedFault}
-use Rattle.pres_table.specs.declared.fault.SavedFault.TheVariants.{Memory, Database, BadRow}
+use Rattle.pres_batch_json.specs.Reads.{with_one_null}
+use Rattle.pres_faults.specs.declared.saved_fault.SavedFault.{SavedFault}
+use Rattle.pres_faults.specs.declared.saved_fault.SavedFault.TheVariants.{Memory, Database, BadRow}
 use Rattle.pres_server.specs.declared.replay.ReplayFault.{ReplayFault}
 use Rattle.pres_server.specs.declared.replay.ReplayFault.TheVariants.{Memory as OutOfMemory, NotLegal}
 use Rattle.pres_server.specs.LegalLog.{IsLegal}

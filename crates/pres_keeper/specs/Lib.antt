@@ -1,2 +1,4 @@
 pub mod Keepers
-pub mod Settled
+pub mod Settlements
+pub mod Engines
+pub mod EngineTurns

@@ -6,10 +6,10 @@ ghost use Rattle.pres_log.specs.Logs.{Log, number};
 ghost use Rattle.pres_server.specs.Replays.{made_from};
 ghost use Rattle.pres_keeper.specs.Keepers.{Readable, BeginsWith, whole, HasOneNull, IsOfStore, IsUnread, IsNoServer, bad_batch};
 
+use pres_faults::SavedFault;
 use pres_ids::Count;
 use pres_log::Batch;
 use pres_server::{ReplayFault, Server};
-use pres_table::SavedFault;
 
 /// The refusal of batches of which no server is made: BadRow with the number of the first that may
 /// not follow, or Memory.

@@ -1,11 +1,17 @@
-//! What keeps the batches of a server, and a turn that is kept before it is done.
+//! What keeps the batches of a server, a turn that is kept before it is done, and an engine: a server
+//! with its keeper.
 #![tactic(auto)]
 
+mod engine;
 mod keeper;
 mod memory;
 mod settlement;
+mod supposed;
 
+pub use engine::Engine;
 pub use keeper::{Keeper, bad_batch};
 pub use memory::MemKeeper;
-pub use pres_table::SavedFault;
+pub use pres_faults::{EngineFault, SavedFault};
+pub use pres_server::{Fault, Input};
 pub use settlement::{Unsettled, settle};
+pub use supposed::{Premise, Supposed};

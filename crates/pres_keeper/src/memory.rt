@@ -3,9 +3,9 @@
 ghost use Rattle.std.specs.Prelude.{◌≡◌, []};
 
 use crate::keeper::{Keeper, bad_batch};
+use pres_faults::SavedFault;
 use pres_log::Batch;
 use pres_server::Server;
-use pres_table::SavedFault;
 use std::alloc::Global;
 use std::marker::Model;
 

@@ -4,11 +4,11 @@ ghost use Rattle.std.specs.Prelude.{◌≡◌, IfOk, IfErr};
 ghost use Rattle.pres_log.specs.Logs.{Log, entries};
 ghost use Rattle.pres_server.specs.Turns.{batch_of, state_after};
 ghost use Rattle.pres_server.specs.Streams.{answers};
-ghost use Rattle.pres_keeper.specs.Settled.{IsUndone, KeepsUndone};
+ghost use Rattle.pres_keeper.specs.Settlements.{IsUnsettled, KeepsUnsettled};
 
 use crate::keeper::Keeper;
+use pres_faults::SavedFault;
 use pres_server::{Busy, Down, Items, Server};
-use pres_table::SavedFault;
 
 /// Why a turn isn't done.
 #[derive(Drop)]
@@ -32,10 +32,10 @@ pub fn settle<K: Keeper>(keeper: &mut K, busy: Busy) -> Result<(Server, Items<Do
     ensures kept { K.ready keeper.old → K.works keeper.new
         → K.keeps keeper.old busy.state.log
         → IfOk result (λ done. K.keeps keeper.new done.0.log) }
-    ensures undone { IfErr result (IsUndone busy.state) }
+    ensures undone { IfErr result (IsUnsettled busy.state) }
     ensures refused { K.ready keeper.old → K.works keeper.new
         → K.keeps keeper.old busy.state.log
-        → IfErr result (KeepsUndone (K.keeps keeper.new) busy) }
+        → IfErr result (KeepsUnsettled (K.keeps keeper.new) busy) }
     ensures ready { K.ready keeper.old → K.ready keeper.new }
     ensures worked { K.ready keeper.old → K.works keeper.new → K.works keeper.old }
     ensures crash { K.ready keeper.old → K.keeps keeper.old busy.state.log

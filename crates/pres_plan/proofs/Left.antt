@@ -7,7 +7,7 @@ use Rattle.pres_tree.specs.Paths.{Path, below, is_prefix, meet, overlap}
 use Rattle.pres_tree.specs.Rows.{Rows}
 use Rattle.pres_tree.proofs.Found.{IsRest, rest_is}
 use Rattle.pres_tree.proofs.Values.{below-append}
-use Rattle.pres_write.specs.declared.draft.Slot.{Slot}
+use Rattle.pres_write.specs.declared.draft.DraftLeaf.{DraftLeaf}
 use Rattle.pres_plan.specs.declared.row.PlanRow.{PlanRow}
 use Rattle.pres_plan.specs.declared.row.Action.TheVariants.{Put}
 use Rattle.pres_plan.specs.Plans.{path_of, is_put, covers, is_left, lasting, puts_above, matters, plan_of, puts, cancels}
@@ -187,25 +187,25 @@ rows_left rows later whole =
 
 -- ---- puts
 
-none_above : (q : ℕ) (x : Path) (ps : List (Path × Rows Slot)) → list_any (meet x) (map (λ p. p.0) ps) ≡ false → list_any (λ l. is_prefix (path_of l.action) x) (puts q ps) ≡ false
+none_above : (q : ℕ) (x : Path) (ps : List (Path × Rows DraftLeaf)) → list_any (meet x) (map (λ p. p.0) ps) ≡ false → list_any (λ l. is_prefix (path_of l.action) x) (puts q ps) ≡ false
 none_above q x [] h = refl
 none_above q x (p ∷ ps) h =
     let parts = or_parts (meet x p.0) _ h in
     ap (λ b. b || list_any (λ l. is_prefix (path_of l.action) x) (puts q ps)) (or_parts (is_prefix x p.0) _ parts.0).1 ∙ none_above q x ps parts.1
 
-lasting-puts : (q : ℕ) (ps : List (Path × Rows Slot)) → overlap (map (λ p. p.0) ps) ≡ false → lasting (puts q ps) ≡ puts q ps
+lasting-puts : (q : ℕ) (ps : List (Path × Rows DraftLeaf)) → overlap (map (λ p. p.0) ps) ≡ false → lasting (puts q ps) ≡ puts q ps
 lasting-puts q [] h = refl
 lasting-puts q (p ∷ ps) h =
     let parts = or_parts (list_any (meet p.0) (map (λ p. p.0) ps)) _ h in
     ap (λ b. cond (not b) (record { q = q; action = Put p } ∷ lasting (puts q ps)) (lasting (puts q ps))) (none_above q p.0 ps parts.0)
     ∙ ap (λ l. record { q = q; action = Put p } ∷ l) (lasting-puts q ps parts.1)
 
-puts_matter : (left : List PlanRow) (q : ℕ) (ps : List (Path × Rows Slot)) → filter (matters left) (puts q ps) ≡ puts q ps
+puts_matter : (left : List PlanRow) (q : ℕ) (ps : List (Path × Rows DraftLeaf)) → filter (matters left) (puts q ps) ≡ puts q ps
 puts_matter left q [] = refl
 puts_matter left q (p ∷ ps) = ap (λ l. record { q = q; action = Put p } ∷ l) (puts_matter left q ps)
 
 -- a plan and puts more
-pub plan-puts : (rows : List PlanRow) (q : ℕ) (ps : List (Path × Rows Slot)) → plan_of rows ≡ rows → overlap (map (λ p. p.0) ps) ≡ false
+pub plan-puts : (rows : List PlanRow) (q : ℕ) (ps : List (Path × Rows DraftLeaf)) → plan_of rows ≡ rows → overlap (map (λ p. p.0) ps) ≡ false
     → plan_of (rows ++ puts q ps) ≡ filter (is_left (puts q ps)) rows ++ puts q ps
 plan-puts rows q ps whole apart =
     rows_left rows (puts q ps) whole

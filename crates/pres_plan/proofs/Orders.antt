@@ -11,7 +11,7 @@ use Rattle.std.proofs.lemmas.List.Elements.{All-nil, All-cons, All-head, All-tai
 use Rattle.std.proofs.lemmas.List.Kept.{IsStrictlySortedBy-filter}
 use Rattle.pres_tree.specs.Paths.{Path, path_cmp}
 use Rattle.pres_tree.specs.Rows.{Rows}
-use Rattle.pres_write.specs.declared.draft.Slot.{Slot}
+use Rattle.pres_write.specs.declared.draft.DraftLeaf.{DraftLeaf}
 use Rattle.pres_plan.specs.declared.row.PlanRow.{PlanRow}
 use Rattle.pres_plan.specs.declared.row.Action.TheVariants.{Put, Keep}
 use Rattle.pres_plan.specs.Plans.{path_of, is_left, lasting, matters, plan_of, puts, cancels, row_cmp, ComesLast}
@@ -68,21 +68,21 @@ in_order-plan xs h = IsStrictlySortedBy-filter row_cmp (matters (lasting xs)) (l
 same_number : (q : ℕ) (o : Ordering) → ordering_then (nat_cmp q q) o ≡ o
 same_number q o = ap (λ n. ordering_then n o) (sym (nat_cmp_is q q Equal refl))
 
-first_put : (q : ℕ) (p : Path × Rows Slot) (ps : List (Path × Rows Slot)) → AllByRecursion (λ x. path_cmp p.0 x ≡ Less) (keys_of ps) → AllByRecursion (λ row. row_cmp (record { q = q; action = Put p }) row ≡ Less) (puts q ps)
+first_put : (q : ℕ) (p : Path × Rows DraftLeaf) (ps : List (Path × Rows DraftLeaf)) → AllByRecursion (λ x. path_cmp p.0 x ≡ Less) (keys_of ps) → AllByRecursion (λ row. row_cmp (record { q = q; action = Put p }) row ≡ Less) (puts q ps)
 first_put q p [] h = tt
 first_put q p (x ∷ ps) h = (same_number q (path_cmp p.0 x.0) ∙ h.0, first_put q p ps h.1)
 
-in_order-puts : (q : ℕ) (ps : List (Path × Rows Slot)) → IsStrictlySortedBy path_cmp (keys_of ps) → IsStrictlySortedBy row_cmp (puts q ps)
+in_order-puts : (q : ℕ) (ps : List (Path × Rows DraftLeaf)) → IsStrictlySortedBy path_cmp (keys_of ps) → IsStrictlySortedBy row_cmp (puts q ps)
 unfolding IsStrictlySortedBy
 in_order-puts q [] h = tt
 in_order-puts q (p ∷ ps) h = (first_put q p ps h.0, in_order-puts q ps h.1)
 
-last_puts : (rows : List PlanRow) (q : ℕ) (ps : List (Path × Rows Slot)) → AllByRecursion (λ p. ComesLast q p.0 rows) ps → AllByRecursion (λ n. All (λ row. row_cmp row n ≡ Less) rows) (puts q ps)
+last_puts : (rows : List PlanRow) (q : ℕ) (ps : List (Path × Rows DraftLeaf)) → AllByRecursion (λ p. ComesLast q p.0 rows) ps → AllByRecursion (λ n. All (λ row. row_cmp row n ≡ Less) rows) (puts q ps)
 last_puts rows q [] h = tt
 last_puts rows q (p ∷ ps) h = (h.0, last_puts rows q ps h.1)
 
 -- the plan of rows and puts in path order that come last
-pub puts_in_order : (rows : List PlanRow) (q : ℕ) (ps : List (Path × Rows Slot)) → IsStrictlySortedBy row_cmp rows → IsStrictlySortedBy path_cmp (keys_of ps)
+pub puts_in_order : (rows : List PlanRow) (q : ℕ) (ps : List (Path × Rows DraftLeaf)) → IsStrictlySortedBy row_cmp rows → IsStrictlySortedBy path_cmp (keys_of ps)
     → All (λ p. ComesLast q p.0 rows) ps → IsStrictlySortedBy row_cmp (plan_of (rows ++ puts q ps))
 puts_in_order rows q ps order paths last =
     in_order-plan (rows ++ puts q ps)
@@ -93,7 +93,7 @@ unfolding IsStrictlySortedBy
 one_in_order n = (tt, tt)
 
 -- the plan of rows and a put that comes last
-pub put_in_order : (rows : List PlanRow) (q : ℕ) (p : Path × Rows Slot) → IsStrictlySortedBy row_cmp rows → ComesLast q p.0 rows → IsStrictlySortedBy row_cmp (plan_of (rows ++ puts q (p ∷ [])))
+pub put_in_order : (rows : List PlanRow) (q : ℕ) (p : Path × Rows DraftLeaf) → IsStrictlySortedBy row_cmp rows → ComesLast q p.0 rows → IsStrictlySortedBy row_cmp (plan_of (rows ++ puts q (p ∷ [])))
 put_in_order rows q p order last = in_order-plan (rows ++ puts q (p ∷ [])) (in_order-append rows (puts q (p ∷ [])) order (one_in_order (record { q = q; action = Put p })) (last, tt))
 
 -- the plan of rows and a cancel that comes last
@@ -111,6 +111,6 @@ later_comes_last q path (r ∷ rows) h =
     (later_comes_last q path rows (All-tail (λ row. row.q < q) r rows h))
 
 -- and so does an update with each of its places
-pub later_update_comes_last : (q : ℕ) (ps : List (Path × Rows Slot)) (rows : List PlanRow) → All (λ row. row.q < q) rows → All (λ p. ComesLast q p.0 rows) ps
+pub later_update_comes_last : (q : ℕ) (ps : List (Path × Rows DraftLeaf)) (rows : List PlanRow) → All (λ row. row.q < q) rows → All (λ p. ComesLast q p.0 rows) ps
 later_update_comes_last q [] rows h = All-nil (λ p. ComesLast q p.0 rows)
 later_update_comes_last q (p ∷ ps) rows h = All-cons (λ p. ComesLast q p.0 rows) p ps (later_comes_last q p.0 rows h) (later_update_comes_last q ps rows h)

@@ -8,7 +8,7 @@ use Rattle.std.specs.Prelude.{nat_lt, nat_le}
 use Rattle.std.proofs.lemmas.Bool.{leb-true, leb-false, le-leb, lt-leb, lt-ltb}
 use Rattle.pres_tree.specs.Paths.{Path, is_prefix, overlap}
 use Rattle.pres_tree.specs.Rows.{Rows}
-use Rattle.pres_write.specs.declared.draft.Slot.{Slot}
+use Rattle.pres_write.specs.declared.draft.DraftLeaf.{DraftLeaf}
 use Rattle.pres_plan.specs.declared.fault.PlanFault.{PlanFault}
 use Rattle.pres_plan.specs.declared.fault.PlanFault.TheVariants.{Memory, Full}
 use Rattle.pres_plan.specs.declared.row.Action.TheVariants.{Put, Keep}
@@ -39,22 +39,22 @@ is_plan xs rows e few order = record { whole = ap plan_of e ∙ plan_of-plan xs 
 
 -- ---- puts
 
-length-puts : (q : ℕ) (ps : List (Path × Rows Slot)) → length (puts q ps) ≡ length ps
+length-puts : (q : ℕ) (ps : List (Path × Rows DraftLeaf)) → length (puts q ps) ≡ length ps
 length-puts q [] = refl
 length-puts q (p ∷ ps) = ap suc (length-puts q ps)
 
-pub puts_paths : (q : ℕ) (ps : List (Path × Rows Slot)) → map (λ row. path_of row.action) (puts q ps) ≡ map (λ p. p.0) ps
+pub puts_paths : (q : ℕ) (ps : List (Path × Rows DraftLeaf)) → map (λ row. path_of row.action) (puts q ps) ≡ map (λ p. p.0) ps
 puts_paths q [] = refl
 puts_paths q (p ∷ ps) = ap (λ l. p.0 ∷ l) (puts_paths q ps)
 
-any-puts : (f : PlanRow → Bool) (q : ℕ) (ps : List (Path × Rows Slot)) → list_any f (puts q ps) ≡ list_any (λ p. f (record { q = q; action = Put p })) ps
+any-puts : (f : PlanRow → Bool) (q : ℕ) (ps : List (Path × Rows DraftLeaf)) → list_any f (puts q ps) ≡ list_any (λ p. f (record { q = q; action = Put p })) ps
 any-puts f q [] = refl
 any-puts f q (p ∷ ps) = ap (λ b. f (record { q = q; action = Put p }) || b) (any-puts f q ps)
 
-left_by_puts : (q : ℕ) (ps : List (Path × Rows Slot)) (row : PlanRow) → is_left (puts q ps) row ≡ not (list_any (λ p. is_prefix p.0 (path_of row.action)) ps)
+left_by_puts : (q : ℕ) (ps : List (Path × Rows DraftLeaf)) (row : PlanRow) → is_left (puts q ps) row ≡ not (list_any (λ p. is_prefix p.0 (path_of row.action)) ps)
 left_by_puts q ps row = ap not (any-puts (λ l. covers l row) q ps)
 
-pub room_for_puts : (rows : List PlanRow) (ps : List (Path × Rows Slot)) (n : ℕ) → IsPlan rows → overlap (map (λ p. p.0) ps) ≡ false
+pub room_for_puts : (rows : List PlanRow) (ps : List (Path × Rows DraftLeaf)) (n : ℕ) → IsPlan rows → overlap (map (λ p. p.0) ps) ≡ false
     → n ≡ length (filter (λ row. not (list_any (λ p. is_prefix p.0 (path_of row.action)) ps)) rows)
     → (q : ℕ) → nat_le (length ps) (256 - n) ≡ nat_le (length (plan_of (rows ++ puts q ps))) 256
 room_for_puts rows ps n plan apart count q =
@@ -68,7 +68,7 @@ room_for_puts rows ps n plan apart count q =
     same_test (length ps) (256 - n) (length (plan_of (rows ++ puts q ps))) 256 (λ h. omega arith) (λ h. omega arith)
 
 -- the rows that an update leaves
-pub puts_done : (old made new : List PlanRow) (q : ℕ) (ps : List (Path × Rows Slot)) → IsPlan old → overlap (map (λ p. p.0) ps) ≡ false
+pub puts_done : (old made new : List PlanRow) (q : ℕ) (ps : List (Path × Rows DraftLeaf)) → IsPlan old → overlap (map (λ p. p.0) ps) ≡ false
     → made ≡ puts q ps → new ≡ filter (is_left made) old ++ made → new ≡ plan_of (old ++ puts q ps)
 puts_done old made new q ps plan apart made_is new_is = new_is ∙ ap (λ l. filter (is_left l) old ++ l) made_is ∙ sym (plan-puts old q ps plan.whole apart)
 

@@ -11,7 +11,7 @@ use Rattle.pres_tree.specs.Paths.{Path, path_cmp, is_prefix, meet}
 use Rattle.pres_tree.specs.Rows.{Rows, IsValue, value_at}
 use Rattle.pres_tree.specs.declared.scalar.Scalar.{Scalar}
 use Rattle.pres_write.specs.declared.basic.Basic.{Basic}
-use Rattle.pres_write.specs.declared.draft.Slot.{Slot}
+use Rattle.pres_write.specs.declared.draft.DraftLeaf.{DraftLeaf}
 use Rattle.pres_write.specs.Basics.{basic, applied}
 use Rattle.pres_write.specs.Drafts.{settled}
 use Rattle.pres_plan.specs.declared.row.Action.{Action}
@@ -22,7 +22,7 @@ use Rattle.pres_plan.specs.declared.row.DueRow.{DueRow}
 -- ---- actions: a put, or a cancel, which is a row that keeps
 
 -- one put for each placement, in order
-abbrev pub puts : ℕ → List (Path × Rows Slot) → List PlanRow
+abbrev pub puts : ℕ → List (Path × Rows DraftLeaf) → List PlanRow
 puts q placements = map (λ p. record { q = q; action = Put p }) placements
 
 abbrev pub cancels : ℕ → Path → List PlanRow
@@ -84,16 +84,16 @@ pub record IsPlan (rows : List PlanRow) : Type 0 where
 -- ---- rows that are lent by their parts
 
 -- an action: the path, and the draft, none where the place keeps its value
-abbrev pub action_of : Path → Option (Rows Slot) → Action
+abbrev pub action_of : Path → Option (Rows DraftLeaf) → Action
 action_of path None = Keep path
 action_of path (Some draft) = Put (path, draft)
 
-abbrev pub lent_draft : Option (Bor (Rows Slot)) → Option (Rows Slot)
+abbrev pub lent_draft : Option (Bor (Rows DraftLeaf)) → Option (Rows DraftLeaf)
 lent_draft None = None
 lent_draft (Some draft) = Some draft.now
 
 -- a row: its number and its action
-abbrev pub lent_row : ℕ × Bor Path × Option (Bor (Rows Slot)) → PlanRow
+abbrev pub lent_row : ℕ × Bor Path × Option (Bor (Rows DraftLeaf)) → PlanRow
 lent_row parts = record { q = parts.0; action = action_of parts.1.now (lent_draft parts.2) }
 
 -- ---- the end

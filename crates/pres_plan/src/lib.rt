@@ -11,4 +11,4 @@ mod standing;
 pub use fault::PlanFault;
 pub use plan::{MOST_ROWS, Plan};
 pub use row::{Action, DueRow, PlanRow};
-pub use rows::Rows;
+pub use rows::PlanRows;

@@ -9,7 +9,7 @@ ghost use Rattle.pres_plan.specs.declared.fault.PlanFault.TheVariants.{Full, Mem
 
 use crate::fault::PlanFault;
 use crate::row::{Action, DueRow, PlanRow};
-use crate::rows::Rows;
+use crate::rows::PlanRows;
 use crate::standing::Standing;
 use pres_ids::Number;
 use pres_session::Pays;
@@ -61,13 +61,13 @@ impl Plan {
 
     /// Its rows, in the order of their messages, and those of one message in path order. They take
     /// no memory.
-    pub fn rows(&self) -> Rows<'_>
+    pub fn rows(&self) -> PlanRows<'_>
         ensures rows { result ≡ self.now }
         ensures plan { plan_of self.now ≡ self.now }
         ensures few { length self.now ≤ most_rows }
         ensures in_order { IsStrictlySortedBy row_cmp self.now }
     {
-        Rows::of(&self.standing.rows)
+        PlanRows::of(&self.standing.rows)
     }
 
     /// Whether an update of these places leaves at most `MOST_ROWS` rows.

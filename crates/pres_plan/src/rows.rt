@@ -18,11 +18,11 @@ use std::marker::Model;
 /// asked for it, its path, and its draft, none where the place keeps its value. Contracts see the
 /// list of the rows.
 #[derive(Drop)]
-pub struct Rows<'a> {
+pub struct PlanRows<'a> {
     rest: Values<'a, u64, PlanRow>,
 }
 
-impl<'a> Model for Rows<'a> {
+impl<'a> Model for PlanRows<'a> {
     ghost use Rattle.std.specs.Prelude.{List};
     ghost use Rattle.pres_plan.specs.declared.row.PlanRow.{PlanRow};
 
@@ -31,18 +31,18 @@ impl<'a> Model for Rows<'a> {
     ghost view = { λ it. it.rest };
 }
 
-impl<'a> Rows<'a> {
+impl<'a> PlanRows<'a> {
     // Those of the map, in the order of their numbers.
-    pub(crate) fn of(rows: &'a BTreeMap<u64, PlanRow>) -> Rows<'a>
+    pub(crate) fn of(rows: &'a BTreeMap<u64, PlanRow>) -> PlanRows<'a>
         ensures { result ≡ values_of rows.now.entries }
     {
-        Rows {
+        PlanRows {
             rest: rows.values(),
         }
     }
 }
 
-impl<'a> Iterator for Rows<'a> {
+impl<'a> Iterator for PlanRows<'a> {
     type Item = (Number, &'a Path, Option<&'a Draft>);
 
     ghost next_gives = { TakesFirst lent_row };

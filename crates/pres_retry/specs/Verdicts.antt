@@ -5,21 +5,21 @@ use Rattle.pres_retry.specs.declared.table.Verdict.{Verdict}
 use Rattle.pres_retry.specs.declared.table.Verdict.TheVariants.{New, Again, Gap}
 
 -- what a write with a number is: the next one, one that has a row, or no write that may come
-pub data Told : Type 0 where
-  fresh : Told
-  again : Row → Told
-  gap : Told
+pub data WriteStatus : Type 0 where
+  fresh : WriteStatus
+  again : Row → WriteStatus
+  gap : WriteStatus
 
-abbrev pub told_row : Option Row → Told
-told_row None = gap
-told_row (Some row) = again row
+abbrev pub row_status : Option Row → WriteStatus
+row_status None = gap
+row_status (Some row) = again row
 
 -- write n of a client that has these rows: writes are counted from 1, so 0 is none of them
-abbrev pub verdict : ℕ → List Row → Told
-verdict n rows = if n == 0 then gap else (if n == length rows + 1 then fresh else told_row (slice_get rows (n - 1)))
+abbrev pub verdict : ℕ → List Row → WriteStatus
+verdict n rows = if n == 0 then gap else (if n == length rows + 1 then fresh else row_status (slice_get rows (n - 1)))
 
 -- what a verdict tells
-abbrev pub told : Verdict → Told
-told New = fresh
-told (Again row) = again row.now
-told Gap = gap
+abbrev pub status_of : Verdict → WriteStatus
+status_of New = fresh
+status_of (Again row) = again row.now
+status_of Gap = gap

@@ -4,7 +4,7 @@ ghost use Rattle.std.specs.Prelude.{◌≡◌, ◌≢◌, ◌+◌, ◌++◌, ◌
 ghost use Rattle.pres_ids.specs.Ids.{ClientId};
 ghost use Rattle.pres_ids.specs.Numbers.{greatest_number};
 ghost use Rattle.pres_retry.specs.Tables.{row, recorded, rows_of, table_of, with_row};
-ghost use Rattle.pres_retry.specs.Verdicts.{verdict, told};
+ghost use Rattle.pres_retry.specs.Verdicts.{verdict, status_of};
 ghost use Rattle.pres_retry.specs.declared.fault.RetryFault.TheVariants.{Memory};
 
 use crate::fault::RetryFault;
@@ -132,7 +132,7 @@ impl RetryTable {
 
     /// What the client's write with the number is.
     pub fn find(&self, client: &ClientId, n: Number) -> Verdict<'_>
-        ensures { told result ≡ verdict n (rows_of client.now self.now) }
+        ensures { status_of result ≡ verdict n (rows_of client.now self.now) }
     {
         let rows = self.kept(client);
         let place = (n.get() - 1) as usize;

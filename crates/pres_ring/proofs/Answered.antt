@@ -14,8 +14,8 @@ use Rattle.pres_server.specs.Sessions.{session_of, opens, ends, since_open, is_o
 use Rattle.pres_server.specs.Listening.{touched}
 use Rattle.pres_server.specs.LegalLog.{IsLegal, IsLegalAfter, MayFollow}
 use Rattle.pres_server.specs.Streams.{Unnumbered, push_of, own_answer, sent_for, sent_from, numbered_from, stream, welcome, added, is_push, own_added, answers_to, answers}
-use Rattle.pres_server.specs.Parts.{Sound}
-use Rattle.pres_server.specs.Invariants.{MayComeUncounted, MayComeInTurn}
+use Rattle.pres_server.specs.InternalParts.{Sound}
+use Rattle.pres_server.specs.InternalInvariants.{MayComeUncounted, MayComeInTurn}
 use Rattle.pres_server.proofs.Since.{any-append, after-append, before-append, before-cons, session_same, session_itself}
 use Rattle.pres_server.proofs.StreamSteps.{numbered_from-append, stream_step}
 use Rattle.pres_server.proofs.Parts.{not_opened, fresh_count}
@@ -23,8 +23,8 @@ use Rattle.pres_server.proofs.AfterEntry.{sound_start, sound_after}
 use Rattle.pres_server.proofs.Whole.{follows_in_turn, of_legal}
 use Rattle.pres_server.proofs.Sent.{push_count}
 use Rattle.pres_server.proofs.Answers.{pushes_added}
-use Rattle.pres_ring.specs.Told.{told, those_for}
-use Rattle.pres_ring.specs.Laws.{AnswersAreTold, OthersAreSilent}
+use Rattle.pres_ring.specs.Transcripts.{transcript, those_for}
+use Rattle.pres_ring.specs.Laws.{AnswersExtendTranscripts, OthersAreSilent}
 use Rattle.pres_ring.proofs.Begins.{told_opened, told_unopened}
 use Rattle.pres_ring.proofs.GoneLast.{told_ended}
 use Rattle.pres_ring.proofs.ForSession.{those-append, pushes_for, own_part}
@@ -83,14 +83,14 @@ ended_there true false h k = absurd (true≢false h)
 ended_there false b h k = absurd (true≢false (sym k))
 
 -- nothing, where it is not open and is not opened by them
-told_closed : (s : SessionId) (es later : List Entry) → EndsBehind es → is_open s es ≡ false → list_any (opens s) later ≡ false → told s (es ++ later) ≡ told s es
+told_closed : (s : SessionId) (es later : List Entry) → EndsBehind es → is_open s es ≡ false → list_any (opens s) later ≡ false → transcript s (es ++ later) ≡ transcript s es
 told_closed s es later behind o n = by (list_any (opens s) es) refl where
-  by : (b : Bool) → list_any (opens s) es ≡ b → told s (es ++ later) ≡ told s es
+  by : (b : Bool) → list_any (opens s) es ≡ b → transcript s (es ++ later) ≡ transcript s es
   by true k = told_ended s es later k (behind s (ended_there (list_any (opens s) es) (list_any (ends s) es) o k))
   by false k = told_unopened s (es ++ later) (any-append (opens s) es later ∙ (λ i. k i || n i)) ∙ sym (told_unopened s es k)
 
 -- what is sent to it, where it is open
-told_more : (s : SessionId) (es : List Entry) (e : Entry) → is_open s es ≡ true → told s (es ++ e ∷ []) ≡ told s es ++ numbered_from (length (stream s es) + 1) (sent_for s (es ++ e ∷ []) e)
+told_more : (s : SessionId) (es : List Entry) (e : Entry) → is_open s es ≡ true → transcript s (es ++ e ∷ []) ≡ transcript s es ++ numbered_from (length (stream s es) + 1) (sent_for s (es ++ e ∷ []) e)
 told_more s es e o =
     told_opened s (es ++ e ∷ []) (any-append (opens s) es (e ∷ []) ∙ ap (λ b. b || list_any (opens s) (e ∷ [])) was)
     ∙ (λ i. welcome s (front i ++ entry.Open s ∷ []) ∷ stream_step s es e o i)
@@ -102,7 +102,7 @@ told_more s es e o =
       front = before-append (opens s) es (e ∷ []) ∙ ap (λ b. cond b (before_first (opens s) es) (es ++ before_first (opens s) (e ∷ []))) was
 
 -- its Welcome, where it is opened
-pub told_new : (es : List Entry) (t : SessionId) → list_any (opens t) es ≡ false → told t (es ++ entry.Open t ∷ []) ≡ told t es ++ welcome t (es ++ entry.Open t ∷ []) ∷ []
+pub told_new : (es : List Entry) (t : SessionId) → list_any (opens t) es ≡ false → transcript t (es ++ entry.Open t ∷ []) ≡ transcript t es ++ welcome t (es ++ entry.Open t ∷ []) ∷ []
 told_new es t n =
     told_opened t now is_opened
     ∙ (λ i. welcome t (front i ++ e ∷ []) ∷ numbered_from 1 (sent_from t (before_first (opens t) now ++ e ∷ []) (fresh_count es t n i)))
@@ -127,10 +127,10 @@ told_new es t n =
 
 -- an entry that opens no session
 said_told : (s : SessionId) (es : List Entry) (e : Entry) → Kept es → is_open (session_of e) es ≡ true → own_added es e ≡ filter (λ m. not (is_push m)) (added (session_of e) es e)
-    → opens s e ≡ false → told s (es ++ e ∷ []) ≡ told s es ++ those_for s (answers_to es e)
+    → opens s e ≡ false → transcript s (es ++ e ∷ []) ≡ transcript s es ++ those_for s (answers_to es e)
 said_told s es e kept o own n =
     by (is_open s es) refl
-    ∙ ap (λ l. told s es ++ l) (sym (those-append s (flat_map (λ u. filter is_push (added u es e)) (open_sessions es)) (own_added es e) ∙ (λ i. pushes_for s es e kept.0 i ++ own_part s es e o own i))) where
+    ∙ ap (λ l. transcript s es ++ l) (sym (those-append s (flat_map (λ u. filter is_push (added u es e)) (open_sessions es)) (own_added es e) ∙ (λ i. pushes_for s es e kept.0 i ++ own_part s es e o own i))) where
       now : List Entry
       now = es ++ e ∷ []
 
@@ -151,36 +151,36 @@ said_told s es e kept o own n =
       not_mine true k c = absurd (true≢false (sym o ∙ ap (λ t. is_open t es) (sym (session_same s (session_of e) k)) ∙ c))
       not_mine false k c = refl
 
-      by : (b : Bool) → is_open s es ≡ b → told s now ≡ told s es ++ (cond b (filter is_push (added s es e)) [] ++ answer (same_session s (session_of e)))
+      by : (b : Bool) → is_open s es ≡ b → transcript s now ≡ transcript s es ++ (cond b (filter is_push (added s es e)) [] ++ answer (same_session s (session_of e)))
       by true k =
           told_more s es e k
-          ∙ ap (λ l. told s es ++ l) (numbered_from-append first pushes (cond (same_session s (session_of e)) (own_answer now e) []) ∙ λ i. sym (pushes_added s es e k) i ++ answered (same_session s (session_of e)) i)
+          ∙ ap (λ l. transcript s es ++ l) (numbered_from-append first pushes (cond (same_session s (session_of e)) (own_answer now e) []) ∙ λ i. sym (pushes_added s es e k) i ++ answered (same_session s (session_of e)) i)
       by false k =
           told_closed s es (e ∷ []) kept.1 k (ap (λ b. b || false) n)
-          ∙ sym (append-nil (told s es))
-          ∙ ap (λ l. told s es ++ l) (sym (not_mine (same_session s (session_of e)) refl k))
+          ∙ sym (append-nil (transcript s es))
+          ∙ ap (λ l. transcript s es ++ l) (sym (not_mine (same_session s (session_of e)) refl k))
 
-opened_told : (s : SessionId) (es : List Entry) (t : SessionId) → Kept es → is_newest t es ≡ true → told s (es ++ entry.Open t ∷ []) ≡ told s es ++ those_for s (answers_to es (entry.Open t))
+opened_told : (s : SessionId) (es : List Entry) (t : SessionId) → Kept es → is_newest t es ≡ true → transcript s (es ++ entry.Open t ∷ []) ≡ transcript s es ++ those_for s (answers_to es (entry.Open t))
 opened_told s es t kept new =
     by (is_open s es) refl (same_session s t) refl
-    ∙ ap (λ l. told s es ++ l) (sym (those-append s (flat_map (λ u. filter is_push (added u es e)) (open_sessions es)) (own_added es e) ∙ ap (λ l. l ++ cond (same_session s t) (welcome t now ∷ []) []) (pushes_for s es e kept.0))) where
+    ∙ ap (λ l. transcript s es ++ l) (sym (those-append s (flat_map (λ u. filter is_push (added u es e)) (open_sessions es)) (own_added es e) ∙ ap (λ l. l ++ cond (same_session s t) (welcome t now ∷ []) []) (pushes_for s es e kept.0))) where
       e : Entry
       e = entry.Open t
 
       now : List Entry
       now = es ++ e ∷ []
 
-      by : (b : Bool) → is_open s es ≡ b → (d : Bool) → same_session s t ≡ d → told s now ≡ told s es ++ (cond b (filter is_push (added s es e)) [] ++ cond d (welcome t now ∷ []) [])
+      by : (b : Bool) → is_open s es ≡ b → (d : Bool) → same_session s t ≡ d → transcript s now ≡ transcript s es ++ (cond b (filter is_push (added s es e)) [] ++ cond d (welcome t now ∷ []) [])
       by true k true d = absurd (true≢false (sym (and_parts (list_any (opens s) es) _ k).0 ∙ ap (λ u. list_any (opens u) es) (session_same s t d) ∙ not_opened t es new))
       by true k false d =
           told_more s es e k
-          ∙ ap (λ b. told s es ++ numbered_from (length (stream s es) + 1) (push_of s now (touched s now e) ++ cond b [] [])) d
-          ∙ ap (λ l. told s es ++ numbered_from (length (stream s es) + 1) l) (append-nil (push_of s now (touched s now e)))
-          ∙ ap (λ l. told s es ++ l) (sym (append-nil (filter is_push (added s es e)) ∙ pushes_added s es e k))
-      by false k true d = subst (λ u. told u now ≡ told u es ++ welcome t now ∷ []) (sym (session_same s t d)) (told_new es t (not_opened t es new))
-      by false k false d = told_closed s es (e ∷ []) kept.1 k (ap (λ b. b || false) d) ∙ sym (append-nil (told s es))
+          ∙ ap (λ b. transcript s es ++ numbered_from (length (stream s es) + 1) (push_of s now (touched s now e) ++ cond b [] [])) d
+          ∙ ap (λ l. transcript s es ++ numbered_from (length (stream s es) + 1) l) (append-nil (push_of s now (touched s now e)))
+          ∙ ap (λ l. transcript s es ++ l) (sym (append-nil (filter is_push (added s es e)) ∙ pushes_added s es e k))
+      by false k true d = subst (λ u. transcript u now ≡ transcript u es ++ welcome t now ∷ []) (sym (session_same s t d)) (told_new es t (not_opened t es new))
+      by false k false d = told_closed s es (e ∷ []) kept.1 k (ap (λ b. b || false) d) ∙ sym (append-nil (transcript s es))
 
-answered_told : (s : SessionId) (es : List Entry) (m : ℕ) (e : Entry) → Kept es → MayComeUncounted es m e → told s (es ++ e ∷ []) ≡ told s es ++ those_for s (answers_to es e)
+answered_told : (s : SessionId) (es : List Entry) (m : ℕ) (e : Entry) → Kept es → MayComeUncounted es m e → transcript s (es ++ e ∷ []) ≡ transcript s es ++ those_for s (answers_to es e)
 answered_told s es m (entry.Open t) kept f = opened_told s es t kept f.0
 answered_told s es m (entry.Op t q n op outcome) kept f = said_told s es (entry.Op t q n op outcome) kept f.0.0 refl refl
 answered_told s es m (entry.Again t q n) kept f = said_told s es (entry.Again t q n) kept f.0.0 refl refl
@@ -193,15 +193,15 @@ answered_told s es m (entry.Ended t q why rows) kept f = said_told s es (entry.E
 
 -- ---- and a batch
 
-told_in_turn : (s : SessionId) (es : List Entry) (m : ℕ) (xs : List Entry) → Kept es → MayComeInTurn es m xs → told s (es ++ xs) ≡ told s es ++ those_for s (answers es xs)
-told_in_turn s es m [] kept f = ap (told s) (append-nil es) ∙ sym (append-nil (told s es))
+told_in_turn : (s : SessionId) (es : List Entry) (m : ℕ) (xs : List Entry) → Kept es → MayComeInTurn es m xs → transcript s (es ++ xs) ≡ transcript s es ++ those_for s (answers es xs)
+told_in_turn s es m [] kept f = ap (transcript s) (append-nil es) ∙ sym (append-nil (transcript s es))
 told_in_turn s es m (e ∷ xs) kept f =
     let now : List Entry = es ++ e ∷ [] in
-    ap (told s) (sym (append_assoc es (e ∷ []) xs))
+    ap (transcript s) (sym (append_assoc es (e ∷ []) xs))
     ∙ told_in_turn s now m xs (sound_after es m e kept.0 f.0, behind_after es m e kept.0 kept.1 f.0) f.1
     ∙ ap (λ l. l ++ those_for s (answers now xs)) (answered_told s es m e kept f.0)
-    ∙ append_assoc (told s es) (those_for s (answers_to es e)) (those_for s (answers now xs))
-    ∙ ap (λ l. told s es ++ l) (sym (those-append s (answers_to es e) (answers now xs)))
+    ∙ append_assoc (transcript s es) (those_for s (answers_to es e)) (those_for s (answers now xs))
+    ∙ ap (λ l. transcript s es ++ l) (sym (those-append s (answers_to es e) (answers now xs)))
 
 -- a legal log without its last batch is legal, and that batch may follow it
 pub split_last : (before log : Log) (b : Batch) → IsLegalAfter before (log ++ b ∷ []) → IsLegalAfter before log × MayFollow (before ++ log) b
@@ -210,10 +210,10 @@ split_last before (a ∷ log) b h =
     let rest = split_last (before ++ a ∷ []) log b h.1 in
     ((h.0, rest.0), subst (λ l. MayFollow l b) (append_assoc before (a ∷ []) log) rest.1)
 
-pub answers_are_told : (s : SessionId) (log : Log) (b : Batch) → AnswersAreTold s log b
+pub answers_are_told : (s : SessionId) (log : Log) (b : Batch) → AnswersExtendTranscripts s log b
 answers_are_told s log b legal =
     let parts = split_last [] log b legal in
-    ap (told s) (entries-push log b)
+    ap (transcript s) (entries-push log b)
     ∙ told_in_turn s (entries log) b.moment b.entries (legal_kept log parts.0) (follows_in_turn (entries log) b.moment b.entries parts.1.allowed)
 
 same_then_none : (xs ys : List Down) → xs ++ ys ≡ xs → ys ≡ []
@@ -223,5 +223,5 @@ same_then_none xs (y ∷ ys) e = let n = length-append xs (y ∷ ys) in let k : 
 pub others_are_silent : (s : SessionId) (log : Log) (b : Batch) → OthersAreSilent s log b
 others_are_silent s log b legal o n =
     let behind = (legal_kept log (split_last [] log b legal).0).1 in
-    same_then_none (told s (entries log)) (those_for s (answers (entries log) b.entries))
-    (sym (answers_are_told s log b legal) ∙ ap (told s) (entries-push log b) ∙ told_closed s (entries log) b.entries behind o n)
+    same_then_none (transcript s (entries log)) (those_for s (answers (entries log) b.entries))
+    (sym (answers_are_told s log b legal) ∙ ap (transcript s) (entries-push log b) ∙ told_closed s (entries log) b.entries behind o n)

@@ -16,7 +16,7 @@ use Rattle.pres_server.specs.Sessions.{session_of, opened, is_open, open_entries
 use Rattle.pres_server.specs.Outcomes.{rows_for}
 use Rattle.pres_server.specs.Listening.{touched}
 use Rattle.pres_server.specs.Streams.{push_of, repeated_reply, own_answer, sent_for, numbered_from, stream, added, is_push, own_added}
-use Rattle.pres_server.specs.Parts.{Sound}
+use Rattle.pres_server.specs.InternalParts.{Sound}
 use Rattle.pres_server.proofs.Since.{client_same, session_same, session_itself}
 use Rattle.pres_server.proofs.Steps.{In, in_open}
 use Rattle.pres_server.proofs.Parts.{only_open}
@@ -24,7 +24,7 @@ use Rattle.pres_server.proofs.AfterEntry.{clients_apart, same_by_cmp, first_of_l
 use Rattle.pres_server.proofs.Sent.{push_count}
 use Rattle.pres_server.proofs.StreamSteps.{stream_step}
 use Rattle.pres_server.proofs.Answers.{pushes_added}
-use Rattle.pres_ring.specs.Told.{names, those_for}
+use Rattle.pres_ring.specs.Transcripts.{names, those_for}
 
 pub those-append : (s : SessionId) (xs ys : List Down) → those_for s (xs ++ ys) ≡ those_for s xs ++ those_for s ys
 those-append s xs ys = filter-append (λ m. names s (session_for m)) xs ys

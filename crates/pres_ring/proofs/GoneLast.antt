@@ -15,7 +15,7 @@ use Rattle.pres_server.specs.Listening.{touched}
 use Rattle.pres_server.specs.Streams.{Unnumbered, push_of, repeated_reply, own_answer, sent_for, sent_from, numbered_from, stream, welcome}
 use Rattle.pres_server.proofs.Since.{any-append, before-append}
 use Rattle.pres_server.proofs.StreamSteps.{numbered_from-append, stream_ended}
-use Rattle.pres_ring.specs.Told.{told, up_to_open, is_gone}
+use Rattle.pres_ring.specs.Transcripts.{transcript, up_to_open, is_gone}
 use Rattle.pres_ring.specs.Laws.{GoneIsLast}
 use Rattle.pres_ring.proofs.Begins.{told_opened, told_unopened}
 
@@ -155,7 +155,7 @@ gone_prefix false xs rest ms g e h = absurd (true≢false (sym (has_gone_first x
 gone_prefix true xs rest ms g e h = (refl, whole xs rest g.0 g.1 (e ∙ g.2) g.3 h)
 
 -- nothing is told behind the end
-pub told_ended : (s : SessionId) (es later : List Entry) → list_any (opens s) es ≡ true → list_any (ends s) (since_open s es) ≡ true → told s (es ++ later) ≡ told s es
+pub told_ended : (s : SessionId) (es later : List Entry) → list_any (opens s) es ≡ true → list_any (ends s) (since_open s es) ≡ true → transcript s (es ++ later) ≡ transcript s es
 told_ended s es later o e =
     told_opened s (es ++ later) (any-append (opens s) es later ∙ ap (λ b. b || list_any (opens s) later) o)
     ∙ (λ i. welcome s (front i ++ entry.Open s ∷ []) ∷ stream_ended s es later o e i)
@@ -165,7 +165,7 @@ told_ended s es later o e =
 
 pub gone_is_last : (s : SessionId) (xs : List Down) (es later : List Entry) → GoneIsLast s xs es later
 gone_is_last s xs es later p h = by (list_any (opens s) es) refl where
-  by : (b : Bool) → list_any (opens s) es ≡ b → told s (es ++ later) ≡ xs
+  by : (b : Bool) → list_any (opens s) es ≡ b → transcript s (es ++ later) ≡ xs
   by true o =
       let is = gone_prefix (list_any (ends s) (since_open s es)) xs p.0 (welcome s (up_to_open s es) ∷ stream s es) (gone_told s es) (p.1 ∙ told_opened s es o) h in
       told_ended s es later o is.0 ∙ sym p.1 ∙ ap (λ l. xs ++ l) is.1 ∙ append-nil xs

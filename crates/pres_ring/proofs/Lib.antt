@@ -6,3 +6,7 @@ pub mod OpenAfter
 pub mod Made
 pub mod Welcomed
 pub mod Turns
+pub mod Changes
+pub mod Marks
+pub mod Sends
+pub mod Firsts

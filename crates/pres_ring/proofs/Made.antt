@@ -12,7 +12,7 @@ use Rattle.pres_write.specs.Outcomes.{resolved}
 use Rattle.pres_write.specs.Unconditionals.{puts_of}
 use Rattle.pres_plan.specs.Plans.{most_rows}
 use Rattle.pres_fan.specs.Listeners.{most_paths}
-use Rattle.pres_retry.specs.Verdicts.{verdict, Told, fresh, again, gap}
+use Rattle.pres_retry.specs.Verdicts.{verdict, WriteStatus, fresh, again, gap}
 use Rattle.pres_ids.specs.declared.id.SessionId.{SessionId}
 use Rattle.pres_ids.specs.declared.id.Why.{Why}
 use Rattle.pres_ids.specs.declared.id.Why.TheVariants as why
@@ -33,7 +33,7 @@ use Rattle.pres_server.specs.Turns.{Decision, refused, quiet, makes, end_of, end
 use Rattle.pres_server.proofs.Since.{any-append}
 use Rattle.pres_server.proofs.Steps.{or_false}
 use Rattle.pres_server.proofs.Whole.{filter_small}
-use Rattle.pres_ring.specs.Accepted.{accepts, accepted, is_hello, is_hello_of, HasNextNumber, IsNextMessage}
+use Rattle.pres_ring.specs.AcceptedMessages.{accepts, accepted, is_hello, is_hello_of, HasNextNumber, IsNextMessage}
 use Rattle.pres_ring.specs.Laws.{AcceptedAdds, AcceptedIsFew}
 
 -- ---- the limits
@@ -129,7 +129,7 @@ said_made P bs s q d h = by (is_open s bs) refl (nat_le q (count s bs)) (q == co
   by true o false true k = h o (eqb-true q (count s bs + 1) k)
   by true o false false k = tt
 
-op_made : (P : List Entry → Type 0) (t : Told) (tree : Rows Scalar) (m : ℕ) (s : SessionId) (q n : ℕ) (op : Op)
+op_made : (P : List Entry → Type 0) (t : WriteStatus) (tree : Rows Scalar) (m : ℕ) (s : SessionId) (q n : ℕ) (op : Op)
     → P (entry.Op s q n op (resolved tree m op) ∷ []) → P (entry.Again s q n ∷ []) → IfMakes P (op_by t tree m s q n op)
 op_made P fresh tree m s q n op a b = a
 op_made P (again row) tree m s q n op a b = b
@@ -219,7 +219,7 @@ hello_loud bs m s = by (is_newest s bs) where
   by true = tt
   by false = tt
 
-op_loud : (t : Told) (tree : Rows Scalar) (m : ℕ) (s : SessionId) (q n : ℕ) (op : Op) → IsLoud (op_by t tree m s q n op)
+op_loud : (t : WriteStatus) (tree : Rows Scalar) (m : ℕ) (s : SessionId) (q n : ℕ) (op : Op) → IsLoud (op_by t tree m s q n op)
 op_loud fresh tree m s q n op = tt
 op_loud (again row) tree m s q n op = tt
 op_loud gap tree m s q n op = tt

@@ -15,15 +15,15 @@ use Rattle.pres_server.specs.Sessions.{session_of, opens, ends, is_open, open_se
 use Rattle.pres_server.specs.Outcomes.{rows_for}
 use Rattle.pres_server.specs.LegalLog.{MayComeTogether, Supersedes}
 use Rattle.pres_server.specs.Streams.{repeated_reply, own_answer, numbered_from, stream, added, is_push, own_added, answers_to, answers}
-use Rattle.pres_server.specs.Parts.{Sound}
-use Rattle.pres_server.specs.Invariants.{MayComeUncounted, MayComeInTurn}
+use Rattle.pres_server.specs.InternalParts.{Sound}
+use Rattle.pres_server.specs.InternalInvariants.{MayComeUncounted, MayComeInTurn}
 use Rattle.pres_server.proofs.Since.{any-append, session_same}
 use Rattle.pres_server.proofs.Steps.{or_false}
 use Rattle.pres_server.proofs.Parts.{uncounted, not_ended}
 use Rattle.pres_server.proofs.AfterEntry.{sound_after}
 use Rattle.pres_server.proofs.Sent.{push_count}
 use Rattle.pres_server.proofs.Whole.{follows_in_turn, legal_is_sound}
-use Rattle.pres_ring.specs.Told.{is_gone_for}
+use Rattle.pres_ring.specs.Transcripts.{is_gone_for}
 use Rattle.pres_ring.specs.Laws.{GoneTells, OpenAfter}
 use Rattle.pres_ring.proofs.ForSession.{own_number}
 use Rattle.pres_ring.proofs.Answered.{split_last}

@@ -10,7 +10,7 @@ use Rattle.pres_log.specs.declared.entry.Entry.{Entry}
 use Rattle.pres_log.specs.Logs.{entries}
 use Rattle.pres_server.specs.declared.input.Input.{Input}
 use Rattle.pres_server.specs.declared.input.Input.TheVariants as input
-use Rattle.pres_server.specs.Heard.{State, late_client}
+use Rattle.pres_server.specs.ServerStates.{ServerState, late_client}
 use Rattle.pres_server.specs.Sessions.{ends, is_open, sessions_of, open_sessions_of}
 use Rattle.pres_server.specs.Turns.{Decision, quiet, makes, moment_of, end_of, ends_if_open, ends_first, hello, message, limited}
 use Rattle.pres_server.proofs.Since.{client_same, session_itself}
@@ -18,27 +18,27 @@ use Rattle.pres_server.proofs.Steps.{or_false, in_open}
 use Rattle.pres_ring.specs.Laws.{HelloIsNotQuiet, OnlyHelloOpens, AcceptsOne, NextIsNotQuiet, MadeIsNext, IsEnding, LostEnds, SlowEnds, EndsAtRestart, RestartEnds}
 use Rattle.pres_ring.proofs.Made.{same_made, made_within, IsLoud, not_quiet, said, unasked_lost, unasked_first, unasked_late, hello_loud, next_loud}
 
-pub hello_is_not_quiet : (state : State) (s : SessionId) (now : ℕ) → HelloIsNotQuiet state s now
+pub hello_is_not_quiet : (state : ServerState) (s : SessionId) (now : ℕ) → HelloIsNotQuiet state s now
 hello_is_not_quiet state s now = let m = moment_of state.log now in not_quiet (entries state.log) (hello (entries state.log) m s) (hello_loud (entries state.log) m s)
 
-pub only_hello_opens : (s : SessionId) (state : State) (i : Input) (now : ℕ) (es : List Entry) → OnlyHelloOpens s state i now es
+pub only_hello_opens : (s : SessionId) (state : ServerState) (i : Input) (now : ℕ) (es : List Entry) → OnlyHelloOpens s state i now es
 only_hello_opens s state (input.Up u) now es e = (said (entries state.log) (moment_of state.log now) u es e).1 s
 only_hello_opens s state (input.Lost t) now es e = (unasked_lost (entries state.log) (moment_of state.log now) why.Lost t es e).1 s
 only_hello_opens s state (input.Slow t) now es e = (unasked_lost (entries state.log) (moment_of state.log now) why.Slow t es e).1 s
 only_hello_opens s state (input.Restart c) now es e = (unasked_first (entries state.log) (moment_of state.log now) why.Restart (open_sessions_of c (entries state.log)) es e).1 s
 only_hello_opens s state input.Tick now es e = let m = moment_of state.log now in (unasked_late (entries state.log) m (late_client m state.heard) es e).1 s
 
-pub accepts_one : (state : State) (i : Input) (now : ℕ) (es : List Entry) → AcceptsOne state i now es
+pub accepts_one : (state : ServerState) (i : Input) (now : ℕ) (es : List Entry) → AcceptsOne state i now es
 accepts_one state (input.Up u) now es e = (said (entries state.log) (moment_of state.log now) u es e).0
 accepts_one state (input.Lost t) now es e = (unasked_lost (entries state.log) (moment_of state.log now) why.Lost t es e).0
 accepts_one state (input.Slow t) now es e = (unasked_lost (entries state.log) (moment_of state.log now) why.Slow t es e).0
 accepts_one state (input.Restart c) now es e = (unasked_first (entries state.log) (moment_of state.log now) why.Restart (open_sessions_of c (entries state.log)) es e).0
 accepts_one state input.Tick now es e = let m = moment_of state.log now in (unasked_late (entries state.log) m (late_client m state.heard) es e).0
 
-pub next_is_not_quiet : (state : State) (u : Up) (now : ℕ) → NextIsNotQuiet state u now
+pub next_is_not_quiet : (state : ServerState) (u : Up) (now : ℕ) → NextIsNotQuiet state u now
 next_is_not_quiet state u now k = let m = moment_of state.log now in not_quiet (entries state.log) (message (entries state.log) m u) (next_loud (entries state.log) m u k)
 
-pub made_is_next : (state : State) (u : Up) (now : ℕ) (es : List Entry) → MadeIsNext state u now es
+pub made_is_next : (state : ServerState) (u : Up) (now : ℕ) (es : List Entry) → MadeIsNext state u now es
 made_is_next state u now es h e = (said (entries state.log) (moment_of state.log now) u es e).2 h
 
 -- ---- ends
@@ -51,10 +51,10 @@ ending s bs e d p h = record { not_quiet = not_quiet bs d (subst IsLoud (sym p) 
 open_ends : (bs : List Entry) (m : ℕ) (w : Why) (s : SessionId) → is_open s bs ≡ true → IsEnding s (end_of bs m None w s) (limited bs (ends_if_open bs m w s))
 open_ends bs m w s o = ending s bs (end_of bs m None w s) (ends_if_open bs m w s) (ap (λ b. cond b (makes (end_of bs m None w s ∷ [])) quiet) o) (session_itself s)
 
-pub lost_ends : (state : State) (s : SessionId) (now : ℕ) → LostEnds state s now
+pub lost_ends : (state : ServerState) (s : SessionId) (now : ℕ) → LostEnds state s now
 lost_ends state s now o = open_ends (entries state.log) (moment_of state.log now) why.Lost s o
 
-pub slow_ends : (state : State) (s : SessionId) (now : ℕ) → SlowEnds state s now
+pub slow_ends : (state : ServerState) (s : SessionId) (now : ℕ) → SlowEnds state s now
 slow_ends state s now o = open_ends (entries state.log) (moment_of state.log now) why.Slow s o
 
 none_passes : (p : SessionId → Bool) (ts : List SessionId) → filter p ts ≡ [] → list_any p ts ≡ false
@@ -64,7 +64,7 @@ none_passes p (t ∷ ts) h = by (p t) h (none_passes p ts) where
   by true k f = absurd (cc k)
   by false k f = f k
 
-pub restart_ends : (state : State) (c : ClientId) (now : ℕ) → RestartEnds state c now
+pub restart_ends : (state : ServerState) (c : ClientId) (now : ℕ) → RestartEnds state c now
 restart_ends state c now h = by (open_sessions_of c bs) refl where
   bs : List Entry
   bs = entries state.log

@@ -10,7 +10,7 @@ use Rattle.pres_log.specs.declared.entry.Entry.TheVariants as entry
 use Rattle.pres_log.specs.Logs.{Log, entries}
 use Rattle.pres_log.proofs.Entries.{entries-push}
 use Rattle.pres_server.specs.declared.input.Input.TheVariants as input
-use Rattle.pres_server.specs.Heard.{State}
+use Rattle.pres_server.specs.ServerStates.{ServerState}
 use Rattle.pres_server.specs.Sessions.{opens, ends, is_newest, open_sessions, open_sessions_of}
 use Rattle.pres_server.specs.Outcomes.{ops}
 use Rattle.pres_server.specs.LegalLog.{IsLegal}
@@ -19,7 +19,7 @@ use Rattle.pres_server.specs.Turns.{makes, moment_of, hello, batch_of}
 use Rattle.pres_server.proofs.Since.{any-append, session_itself}
 use Rattle.pres_server.proofs.Parts.{not_opened}
 use Rattle.pres_server.proofs.Whole.{legal_after, may_follow}
-use Rattle.pres_ring.specs.Told.{told, those_for}
+use Rattle.pres_ring.specs.Transcripts.{transcript, those_for}
 use Rattle.pres_ring.specs.Laws.{IsWelcomed, HelloIsWelcomed}
 use Rattle.pres_ring.proofs.Begins.{told_unopened}
 use Rattle.pres_ring.proofs.ForSession.{those-append}
@@ -71,8 +71,8 @@ welcomed s log m first xs legal fresh plain =
       fresh_too : list_any (opens s) front ≡ false
       fresh_too = any-append (opens s) bs xs ∙ λ i. fresh i || plain i
 
-      all : told s (bs ++ (xs ++ e ∷ [])) ≡ w ∷ []
-      all = ap (told s) (sym (append_assoc bs xs (e ∷ []))) ∙ told_new front s fresh_too ∙ ap (λ l. l ++ w ∷ []) (told_unopened s front fresh_too)
+      all : transcript s (bs ++ (xs ++ e ∷ [])) ≡ w ∷ []
+      all = ap (transcript s) (sym (append_assoc bs xs (e ∷ []))) ∙ told_new front s fresh_too ∙ ap (λ l. l ++ w ∷ []) (told_unopened s front fresh_too)
 
       silent : those_for s others ≡ []
       silent = nothing_before (those_for s others) w (
@@ -80,10 +80,10 @@ welcomed s log m first xs legal fresh plain =
           ∙ ap (those_for s) (sym split)
           ∙ sym (ap (λ l. l ++ those_for s (answers bs (xs ++ e ∷ []))) (told_unopened s bs fresh))
           ∙ sym (answers_are_told s log b legal)
-          ∙ ap (told s) (entries-push log b)
+          ∙ ap (transcript s) (entries-push log b)
           ∙ all)
 
-pub hello_is_welcomed : (state : State) (s : SessionId) (now : ℕ) (es : List Entry) → HelloIsWelcomed state s now es
+pub hello_is_welcomed : (state : ServerState) (s : SessionId) (now : ℕ) (es : List Entry) → HelloIsWelcomed state s now es
 hello_is_welcomed state s now es legal e =
     subst (IsWelcomed s bs) (sym is.1)
     (welcomed s log m (length bs + 1) xs (legal_after log (batch_of log m (xs ++ entry.Open s ∷ [])) legal (may_follow state (input.Up (up.Hello s)) now (xs ++ entry.Open s ∷ []) legal (e ∙ ap makes is.1)))

@@ -13,17 +13,17 @@ use Rattle.pres_log.specs.declared.entry.Entry.{Entry}
 use Rattle.pres_log.specs.Logs.{Log, entries}
 use Rattle.pres_server.specs.declared.input.Input.{Input}
 use Rattle.pres_server.specs.declared.input.Input.TheVariants as input
-use Rattle.pres_server.specs.Heard.{State}
+use Rattle.pres_server.specs.ServerStates.{ServerState}
 use Rattle.pres_server.specs.LegalLog.{IsLegal}
 use Rattle.pres_server.specs.Sessions.{opens, ends, is_open, has_open}
 use Rattle.pres_server.specs.Streams.{answers}
 use Rattle.pres_server.specs.Turns.{Decision, quiet, makes, moment_of, end_of, turn}
-use Rattle.pres_ring.specs.Told.{told, those_for, is_gone, is_gone_for, IsWelcome}
-use Rattle.pres_ring.specs.Accepted.{accepted, messages_in, is_hello, is_hello_of, HasNextNumber, IsNextMessage}
+use Rattle.pres_ring.specs.Transcripts.{transcript, those_for, is_gone, is_gone_for, IsWelcome}
+use Rattle.pres_ring.specs.AcceptedMessages.{accepted, messages_in, is_hello, is_hello_of, HasNextNumber, IsNextMessage}
 
 -- A batch tells a session those of its answers that are for it, behind what the session was told before.
-abbrev pub AnswersAreTold : SessionId → Log → Batch → Type 0
-AnswersAreTold s log batch = IsLegal (log ++ batch ∷ []) → told s (entries (log ++ batch ∷ [])) ≡ told s (entries log) ++ those_for s (answers (entries log) batch.entries)
+abbrev pub AnswersExtendTranscripts : SessionId → Log → Batch → Type 0
+AnswersExtendTranscripts s log batch = IsLegal (log ++ batch ∷ []) → transcript s (entries (log ++ batch ∷ [])) ≡ transcript s (entries log) ++ those_for s (answers (entries log) batch.entries)
 
 -- No answer of a batch is for a session that isn't open before it, and that it doesn't open.
 abbrev pub OthersAreSilent : SessionId → Log → Batch → Type 0
@@ -32,7 +32,7 @@ OthersAreSilent s log batch =
 
 -- Nothing is told behind Gone: a beginning that holds it is the whole, whatever entries come later.
 abbrev pub GoneIsLast : SessionId → List Down → List Entry → List Entry → Type 0
-GoneIsLast s xs es later = IsPrefix xs (told s es) → IsTrue (list_any is_gone xs) → told s (es ++ later) ≡ xs
+GoneIsLast s xs es later = IsPrefix xs (transcript s es) → IsTrue (list_any is_gone xs) → transcript s (es ++ later) ≡ xs
 
 -- ---- who is open after a batch
 
@@ -50,30 +50,30 @@ OpenAfter s log batch =
 -- s was closed and told nothing; of the answers the last alone is for it, and that is all that it is told
 pub record IsWelcomed (s : SessionId) (before es : List Entry) : Type 0 where
   pub closed : is_open s before ≡ false
-  pub untold : told s before ≡ []
+  pub untold : transcript s before ≡ []
   pub others : List Down
   pub last : Down
   pub welcome : IsWelcome s last
   pub answered : answers before es ≡ others ++ last ∷ []
   pub silent : those_for s others ≡ []
-  pub told_now : told s (before ++ es) ≡ last ∷ []
+  pub told_now : transcript s (before ++ es) ≡ last ∷ []
 
 -- A Hello that makes anything is answered by the Welcome of its session, last of all.
-abbrev pub HelloIsWelcomed : State → SessionId → ℕ → List Entry → Type 0
+abbrev pub HelloIsWelcomed : ServerState → SessionId → ℕ → List Entry → Type 0
 HelloIsWelcomed state s now es = IsLegal state.log → turn state (input.Up (up.Hello s)) now ≡ makes es → IsWelcomed s (entries state.log) es
 
 -- A Hello isn't passed over.
-abbrev pub HelloIsNotQuiet : State → SessionId → ℕ → Type 0
+abbrev pub HelloIsNotQuiet : ServerState → SessionId → ℕ → Type 0
 HelloIsNotQuiet state s now = turn state (input.Up (up.Hello s)) now ≢ quiet
 
 -- What an input makes opens s exactly where it is the Hello of s.
-abbrev pub OnlyHelloOpens : SessionId → State → Input → ℕ → List Entry → Type 0
+abbrev pub OnlyHelloOpens : SessionId → ServerState → Input → ℕ → List Entry → Type 0
 OnlyHelloOpens s state i now es = turn state i now ≡ makes es → list_any (opens s) es ≡ is_hello_of s i
 
 -- ---- accepted messages
 
 -- What an input makes stands for one message where it is one, and else for none.
-abbrev pub AcceptsOne : State → Input → ℕ → List Entry → Type 0
+abbrev pub AcceptsOne : ServerState → Input → ℕ → List Entry → Type 0
 AcceptsOne state i now es = turn state i now ≡ makes es → accepted es ≡ messages_in i
 
 -- The messages of two lists of entries are those of the first and those of the second.
@@ -85,11 +85,11 @@ abbrev pub AcceptedIsFew : List Entry → Type 0
 AcceptedIsFew es = accepted es ≤ length es
 
 -- The next message of a session isn't passed over.
-abbrev pub NextIsNotQuiet : State → Up → ℕ → Type 0
+abbrev pub NextIsNotQuiet : ServerState → Up → ℕ → Type 0
 NextIsNotQuiet state m now = HasNextNumber m (entries state.log) → turn state (input.Up m) now ≢ quiet
 
 -- A message but a Hello that makes anything is the next one of an open session.
-abbrev pub MadeIsNext : State → Up → ℕ → List Entry → Type 0
+abbrev pub MadeIsNext : ServerState → Up → ℕ → List Entry → Type 0
 MadeIsNext state m now es = is_hello m ≡ false → turn state (input.Up m) now ≡ makes es → IsNextMessage m (entries state.log)
 
 -- ---- ends
@@ -101,20 +101,20 @@ pub record IsEnding (s : SessionId) (e : Entry) (decision : Decision) : Type 0 w
   pub ended : (es : List Entry) → decision ≡ makes es → list_any (ends s) es ≡ true
 
 -- An open session whose connection is lost is ended, unless that is refused.
-abbrev pub LostEnds : State → SessionId → ℕ → Type 0
+abbrev pub LostEnds : ServerState → SessionId → ℕ → Type 0
 LostEnds state s now =
     is_open s (entries state.log) ≡ true → IsEnding s (end_of (entries state.log) (moment_of state.log now) None why.Lost s) (turn state (input.Lost s) now)
 
 -- So is one that is too slow.
-abbrev pub SlowEnds : State → SessionId → ℕ → Type 0
+abbrev pub SlowEnds : ServerState → SessionId → ℕ → Type 0
 SlowEnds state s now =
     is_open s (entries state.log) ≡ true → IsEnding s (end_of (entries state.log) (moment_of state.log now) None why.Slow s) (turn state (input.Slow s) now)
 
 -- s is an open session of the client, and ends at the restart
-abbrev pub EndsAtRestart : State → ClientId → ℕ → SessionId → Type 0
+abbrev pub EndsAtRestart : ServerState → ClientId → ℕ → SessionId → Type 0
 EndsAtRestart state c now s =
     (s.client ≡ c) × (is_open s (entries state.log) ≡ true) × IsEnding s (end_of (entries state.log) (moment_of state.log now) None why.Restart s) (turn state (input.Restart c) now)
 
 -- A restart ends the open session of a client that has one, unless that is refused.
-abbrev pub RestartEnds : State → ClientId → ℕ → Type 0
+abbrev pub RestartEnds : ServerState → ClientId → ℕ → Type 0
 RestartEnds state c now = has_open c (entries state.log) ≡ true → (s : SessionId) × EndsAtRestart state c now s

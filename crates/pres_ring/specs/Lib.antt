@@ -1,4 +1,7 @@
-pub mod Told
-pub mod Accepted
-pub mod Ends
+pub mod Transcripts
+pub mod AcceptedMessages
+pub mod RingEnds
 pub mod Laws
+pub mod Lines
+pub mod Deliveries
+pub mod InternalFeeds

@@ -1,8 +1,8 @@
 //! The end on which messages are put.
 
 ghost use Rattle.std.specs.Prelude.{◌≡◌, ◌++◌, ◌∷◌, ◌+◌, ◌≤◌, [], length, not, IfSome, Some, None, is_some};
-ghost use Rattle.pres_ring.specs.Told.{IsToldOf};
-ghost use Rattle.pres_ring.specs.Ends.{Puts, Fits};
+ghost use Rattle.pres_ring.specs.Transcripts.{BeginsTranscript};
+ghost use Rattle.pres_ring.specs.RingEnds.{Puts, Fits};
 ghost use Rattle.rtrb.specs.Ring.{sent, known_free};
 
 use crate::rule::Rule;
@@ -24,9 +24,9 @@ impl Model for Feed {
     ghost use Rattle.std.specs.Option.{option_map};
     ghost use Rattle.std.specs.Prelude.{◌+◌, ◌≤◌, IfSome, length};
     ghost use Rattle.rtrb.specs.Ring.{sent, known_free};
-    ghost use Rattle.pres_ring.specs.Ends.{Fed};
+    ghost use Rattle.pres_ring.specs.RingEnds.{FeedState};
 
-    ghost Value = { Fed };
+    ghost Value = { FeedState };
 
     ghost view = { λ f. record { session = f.session; sent = option_map sent f.ring } };
 
@@ -63,7 +63,7 @@ impl Feed {
     /// is full. The first `CAPACITY` messages find room.
     pub fn put(&mut self, message: Down)
         requires told { IfSome self.old.sent
-            (λ sent. IsToldOf self.old.session (sent ++ message ∷ [])) }
+            (λ sent. BeginsTranscript self.old.session (sent ++ message ∷ [])) }
         ensures session { self.new.session ≡ self.old.session }
         ensures puts { Puts self.old.sent message self.new.sent }
         ensures fits { Fits 256 self.old.sent message self.new.sent }

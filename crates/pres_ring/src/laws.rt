@@ -10,14 +10,14 @@ ghost use Rattle.pres_log.specs.declared.entry.Batch.{Batch};
 ghost use Rattle.pres_log.specs.declared.entry.Entry.{Entry};
 ghost use Rattle.pres_log.specs.Logs.{Log};
 ghost use Rattle.pres_server.specs.declared.input.Input.{Input};
-ghost use Rattle.pres_server.specs.Heard.{State};
-ghost use Rattle.pres_ring.specs.Laws.{AnswersAreTold, OthersAreSilent, GoneIsLast, GoneTells, OpenAfter, HelloIsWelcomed, HelloIsNotQuiet, OnlyHelloOpens, AcceptsOne, AcceptedAdds, AcceptedIsFew, NextIsNotQuiet, MadeIsNext, LostEnds, SlowEnds, RestartEnds};
+ghost use Rattle.pres_server.specs.ServerStates.{ServerState};
+ghost use Rattle.pres_ring.specs.Laws.{AnswersExtendTranscripts, OthersAreSilent, GoneIsLast, GoneTells, OpenAfter, HelloIsWelcomed, HelloIsNotQuiet, OnlyHelloOpens, AcceptsOne, AcceptedAdds, AcceptedIsFew, NextIsNotQuiet, MadeIsNext, LostEnds, SlowEnds, RestartEnds};
 
 /// A batch tells a session those of its answers that are for it, behind what the session was told
 /// before. That is its Welcome first, where the batch opens it.
-pub fn answers_are_told()
+pub fn answers_extend_transcripts()
     ensures { (session : SessionId) (log : Log) (batch : Batch)
-        → AnswersAreTold session log batch }
+        → AnswersExtendTranscripts session log batch }
 {}
 
 /// No answer of a batch is for a session that isn't open before it, and that it doesn't open.
@@ -47,25 +47,25 @@ pub fn open_after()
 /// A Hello that makes anything opens a session that was never told anything. It is answered by the
 /// Welcome, last of all and alone of the answers for its session.
 pub fn hello_is_welcomed()
-    ensures { (state : State) (session : SessionId) (now : ℕ) (es : List Entry)
+    ensures { (state : ServerState) (session : SessionId) (now : ℕ) (es : List Entry)
         → HelloIsWelcomed state session now es }
 {}
 
 /// A Hello isn't passed over.
 pub fn hello_is_not_quiet()
-    ensures { (state : State) (session : SessionId) (now : ℕ)
+    ensures { (state : ServerState) (session : SessionId) (now : ℕ)
         → HelloIsNotQuiet state session now }
 {}
 
 /// What an input makes opens a session exactly where it is the Hello of that session.
 pub fn only_hello_opens()
-    ensures { (session : SessionId) (state : State) (input : Input) (now : ℕ) (es : List Entry)
+    ensures { (session : SessionId) (state : ServerState) (input : Input) (now : ℕ) (es : List Entry)
         → OnlyHelloOpens session state input now es }
 {}
 
 /// What an input makes stands for one message where it is one, and else for none.
 pub fn accepts_one()
-    ensures { (state : State) (input : Input) (now : ℕ) (es : List Entry)
+    ensures { (state : ServerState) (input : Input) (now : ℕ) (es : List Entry)
         → AcceptsOne state input now es }
 {}
 
@@ -81,26 +81,26 @@ pub fn accepted_is_few()
 
 /// The next message of a session isn't passed over.
 pub fn next_is_not_quiet()
-    ensures { (state : State) (message : Up) (now : ℕ) → NextIsNotQuiet state message now }
+    ensures { (state : ServerState) (message : Up) (now : ℕ) → NextIsNotQuiet state message now }
 {}
 
 /// A message but a Hello that makes anything is the next one of an open session.
 pub fn made_is_next()
-    ensures { (state : State) (message : Up) (now : ℕ) (es : List Entry)
+    ensures { (state : ServerState) (message : Up) (now : ℕ) (es : List Entry)
         → MadeIsNext state message now es }
 {}
 
 /// An open session whose connection is lost is ended by one entry, unless that is refused.
 pub fn lost_ends()
-    ensures { (state : State) (session : SessionId) (now : ℕ) → LostEnds state session now }
+    ensures { (state : ServerState) (session : SessionId) (now : ℕ) → LostEnds state session now }
 {}
 
 /// An open session that is too slow is ended by one entry, unless that is refused.
 pub fn slow_ends()
-    ensures { (state : State) (session : SessionId) (now : ℕ) → SlowEnds state session now }
+    ensures { (state : ServerState) (session : SessionId) (now : ℕ) → SlowEnds state session now }
 {}
 
 /// A restart ends the open session of a client that has one by one entry, unless that is refused.
 pub fn restart_ends()
-    ensures { (state : State) (client : ClientId) (now : ℕ) → RestartEnds state client now }
+    ensures { (state : ServerState) (client : ClientId) (now : ℕ) → RestartEnds state client now }
 {}

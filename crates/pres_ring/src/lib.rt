@@ -1,15 +1,19 @@
 //! A ring for each open session: who answers puts the session's messages on one end, a connection
 //! takes them from the other, in another thread and without waiting. What is taken is at all times
-//! a beginning of what some legal log tells the session.
+//! a beginning of the transcript of some legal log's session. The feeds of all sessions stand in one
+//! map, by session: a session that didn't take its messages in time is found there and marked.
 #![tactic(auto)]
 
 mod feed;
 pub mod laws;
+mod lines;
 mod opening;
 mod outbox;
 mod rule;
+mod session_feed;
 
 pub use feed::Feed;
+pub use lines::Lines;
 pub use opening::{Opening, open};
 pub use outbox::Outbox;
 pub use rule::{CAPACITY, Rule};

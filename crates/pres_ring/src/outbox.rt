@@ -2,7 +2,7 @@
 
 ghost use Rattle.std.specs.Prelude.{◌≡◌, ◌++◌, ◌∷◌, ◌<◌, [], length, IfSome, IfNone, IsSome};
 ghost use mathlib.Core.List.{IsPrefix};
-ghost use Rattle.pres_ring.specs.Told.{IsToldOf, StartsFor, BeginsFor};
+ghost use Rattle.pres_ring.specs.Transcripts.{BeginsTranscript, StartsWithWelcome, MayStartWithWelcome};
 ghost use Rattle.rtrb.specs.Ring.{received, known_items};
 
 use crate::rule::Rule;
@@ -23,23 +23,23 @@ pub struct Outbox {
 impl Model for Outbox {
     ghost use Rattle.std.specs.Prelude.{◌++◌};
     ghost use Rattle.rtrb.specs.Ring.{received, known_items};
-    ghost use Rattle.pres_ring.specs.Told.{IsToldOf, StartsFor};
-    ghost use Rattle.pres_ring.specs.Ends.{Taking};
+    ghost use Rattle.pres_ring.specs.Transcripts.{BeginsTranscript, StartsWithWelcome};
+    ghost use Rattle.pres_ring.specs.RingEnds.{OutboxState};
 
-    ghost Value = { Taking };
+    ghost Value = { OutboxState };
 
     ghost view = { λ o. record
         { session = o.session; taken = received o.ring; ahead = known_items o.ring } };
 
-    ghost invariant = { λ o. IsToldOf o.session (received o.ring)
-        × StartsFor o.session (received o.ring ++ known_items o.ring) };
+    ghost invariant = { λ o. BeginsTranscript o.session (received o.ring)
+        × StartsWithWelcome o.session (received o.ring ++ known_items o.ring) };
 }
 
 impl Outbox {
     // The end of a new ring that holds the session's Welcome.
     pub(crate) fn new(session: SessionId, ring: Consumer<Down, Global, Rule>) -> Outbox
-        requires told { IsToldOf session (received ring) }
-        requires starts { StartsFor session (received ring ++ known_items ring) }
+        requires told { BeginsTranscript session (received ring) }
+        requires starts { StartsWithWelcome session (received ring ++ known_items ring) }
         ensures { result ≡ record
             { session = session; taken = received ring; ahead = known_items ring } }
     {
@@ -49,8 +49,8 @@ impl Outbox {
     /// Whose messages they are.
     pub fn session(&self) -> &SessionId
         ensures session { result.now ≡ self.now.session }
-        ensures told { IsToldOf self.now.session self.now.taken }
-        ensures begins { BeginsFor self.now.session self.now.taken }
+        ensures told { BeginsTranscript self.now.session self.now.taken }
+        ensures begins { MayStartWithWelcome self.now.session self.now.taken }
     {
         &self.session
     }
@@ -62,8 +62,8 @@ impl Outbox {
         ensures next { IfSome result (λ m. IsPrefix self.old.ahead (m ∷ self.new.ahead)) }
         ensures known { 0 < length self.old.ahead → IsSome result }
         ensures none { IfNone result (self.new.taken ≡ self.old.taken) }
-        ensures told { IsToldOf self.old.session self.new.taken }
-        ensures begins { BeginsFor self.old.session self.new.taken }
+        ensures told { BeginsTranscript self.old.session self.new.taken }
+        ensures begins { MayStartWithWelcome self.old.session self.new.taken }
     {
         let Ok(message) = self.ring.pop() else {
             return None;

@@ -10,7 +10,7 @@ pub const CAPACITY: usize = 256;
 pub struct Rule;
 
 impl Protocol<Down> for Rule {
-    ghost use Rattle.pres_ring.specs.Told.{MayPut};
+    ghost use Rattle.pres_ring.specs.Transcripts.{MayPut};
 
     ghost allows = { MayPut };
 }

@@ -17,30 +17,30 @@ use Rattle.pres_log.specs.declared.entry.Entry.{Entry}
 use Rattle.pres_log.specs.Batches.{may_hold}
 use Rattle.pres_log.specs.Logs.{Log, number}
 use Rattle.serde_json.specs.Written.{compact_text}
-use Rattle.pres_body.specs.Entries.{entries_json}
-use Rattle.pres_body.specs.Reads.{entries_in, with_one_null}
-use Rattle.pres_table.specs.declared.fault.SavedFault.{SavedFault}
-use Rattle.pres_table.specs.Saved.{Saved, stored, rows_in, shown_row, shown_rows}
-use Rattle.pres_table.specs.Kept.{Kept, Serves, AddsRow, IsLeft}
-use Rattle.pres_table.specs.Opened.{greatest_in}
-use Rattle.pres_table.proofs.Finding.{greatest_push}
-use Rattle.pres_table.proofs.Growing.{map_push}
+use Rattle.pres_batch_json.specs.Entries.{entries_json}
+use Rattle.pres_batch_json.specs.Reads.{entries_in, with_one_null}
+use Rattle.pres_faults.specs.declared.saved_fault.SavedFault.{SavedFault}
+use Rattle.pres_batch_rows.specs.RowContents.{RowContent, stored, rows_in, shown_row, shown_rows}
+use Rattle.pres_batch_rows.specs.TableStates.{TableState, Serves, AddsRow, IsLeft}
+use Rattle.pres_batch_rows.specs.TableOpening.{greatest_in}
+use Rattle.pres_batch_rows.proofs.Finding.{greatest_push}
+use Rattle.pres_batch_rows.proofs.Growing.{map_push}
 use Rattle.pres_keeper.specs.Keepers.{HasOneNull, Readable, whole}
-use Rattle.pres_saved.specs.Saved.{batch_of, batch_in, saved_log, readable_by, readable_rows}
-use Rattle.pres_saved.specs.Keeps.{Works, IsReady, KeepsLog, LeavesLog, MayFind, saved_batch}
+use Rattle.pres_saved.specs.SavedLogs.{batch_of, batch_in, saved_log, readable_by, readable_rows}
+use Rattle.pres_saved.specs.SqlKeepers.{Works, IsReady, KeepsLog, LeavesLog, MayFind, saved_batch}
 use Rattle.pres_saved.proofs.Reading.{kept_next, kept_more, kept_count}
 
-pub saves : (b : Batch) (s : Saved) → s.moment ≡ b.moment → s.body ≡ compact_text (entries_json b.entries) → s ≡ saved_batch b
+pub saves : (b : Batch) (s : RowContent) → s.moment ≡ b.moment → s.body ≡ compact_text (entries_json b.entries) → s ≡ saved_batch b
 saves b s moment body = ap (λ m. saved m s.body) moment ∙ ap (saved b.moment) body
   where
-    saved : ℕ → List ℕ → Saved
+    saved : ℕ → List ℕ → RowContent
     saved m text = record { moment = m; body = text }
 
 in_range : (n : ℕ) → n ≤ greatest_number → nat_le n greatest_number ≡ true
 in_range n h = grind (arith, nat_tests)
 
 -- what is printed of a batch saves it
-pub printed : (log : Log) (b : Batch) (s : Saved) (es : List Entry) (text : List ℕ) → s.moment ≡ b.moment → s.body ≡ text → es ≡ b.entries
+pub printed : (log : Log) (b : Batch) (s : RowContent) (es : List Entry) (text : List ℕ) → s.moment ≡ b.moment → s.body ≡ text → es ≡ b.entries
     → (IsTrue (may_hold es) → entries_in text ≡ Some (map with_one_null es)) → IsTrue (may_hold b.entries) → HasOneNull b.entries
     → b.first ≡ number log + 1 → IsNumber b.first → batch_in (number log) s ≡ Some b
 printed log b s es text moment body same back together nulls first range =
@@ -50,7 +50,7 @@ printed log b s es text moment body same back together nulls first range =
     ∙ ap (λ m. batch_of b.first m b.entries) moment
     ∙ ap (λ fits. if fits then Some b else None) (in_range b.first range.1)
 
-module _ {S : Type 0} (g : Ghosts S) (old new : Kept S) where
+module _ {S : Type 0} (g : Ghosts S) (old new : TableState S) where
   abbrev before : State
   before = state g old.connection
 
@@ -80,7 +80,7 @@ module _ {S : Type 0} (g : Ghosts S) (old new : Kept S) where
 
   -- ---- a row behind the last
 
-  module _ (s : Saved) (r : Result (Unit {0}) SavedFault) (serves : Serves g new) (adds : HasCleanDisk after → OnOk r (AddsRow before after (old.last + 1) s))
+  module _ (s : RowContent) (r : Result (Unit {0}) SavedFault) (serves : Serves g new) (adds : HasCleanDisk after → OnOk r (AddsRow before after (old.last + 1) s))
       (leaves : HasCleanDisk after → OnErr r (IsLeft before after)) (last : new.last ≡ (if is_ok r then old.last + 1 else old.last)) where
     was_open : (told : Result (Unit {0}) SavedFault) → r ≡ told → Works g new → IsTrue before.is_open
     was_open (Ok _) is works = (subst (λ x. OnOk x (AddsRow before after (old.last + 1) s)) is (adds works.clean)).was_open

@@ -4,29 +4,29 @@ use Rattle.std.proofs.lemmas.Bool.Decides.{nat_tests}
 use Rattle.std.specs.Option.{unwrap_or}
 use Rattle.sqlite.specs.Order.{Row, column}
 use Rattle.pres_write.specs.Moments.{last_moment}
-use Rattle.pres_table.specs.Saved.{Saved, saved_as, saved_row, saved_from, saved_rows, rows_then, saved_front, front_from, front_then, whole_of, text_of}
-use Rattle.pres_table.specs.Opened.{greatest_in}
-use Rattle.pres_table.proofs.Loading.{then_ok}
+use Rattle.pres_batch_rows.specs.RowContents.{RowContent, saved_as, saved_row, saved_from, saved_rows, rows_then, saved_front, front_from, front_then, whole_of, text_of}
+use Rattle.pres_batch_rows.specs.TableOpening.{greatest_in}
+use Rattle.pres_batch_rows.proofs.Loading.{then_ok}
 
-chosen : (b c : Bool) (x s : Saved) → (if b && c then Some x else None) ≡ Some s → b ≡ true
+chosen : (b c : Bool) (x s : RowContent) → (if b && c then Some x else None) ≡ Some s → b ≡ true
 chosen true c x s e = refl
 chosen false c x s e = absurd (cc)
 
 same_by : (k due : ℕ) → (k == due) ≡ true → k ≡ due
 same_by k due h = grind (arith, nat_tests)
 
-number_by : (due : ℕ) (k moment : Option ℕ) (body : Option (List ℕ)) (s : Saved) → saved_as due k moment body ≡ Some s → unwrap_or k 0 ≡ due
+number_by : (due : ℕ) (k moment : Option ℕ) (body : Option (List ℕ)) (s : RowContent) → saved_as due k moment body ≡ Some s → unwrap_or k 0 ≡ due
 number_by due (Some k) (Some moment) (Some body) s e =
     same_by k due (chosen (k == due) (nat_le moment last_moment) (record { moment = moment; body = body }) s e)
 number_by due (Some k) (Some moment) None s e = absurd (cc)
 number_by due (Some k) None body s e = absurd (cc)
 number_by due None moment body s e = absurd (cc)
 
-number_read : (due : ℕ) (row : Row) (s : Saved) → saved_row due row ≡ Some s → unwrap_or (whole_of (column row 0)) 0 ≡ due
+number_read : (due : ℕ) (row : Row) (s : RowContent) → saved_row due row ≡ Some s → unwrap_or (whole_of (column row 0)) 0 ≡ due
 number_read due row s e = number_by due (whole_of (column row 0)) (whole_of (column row 1)) (text_of (column row 2)) s e
 
 -- behind so many
-greatest_from : (before : ℕ) (rows : List Row) (saved : List Saved) → saved_from (before + 1) rows ≡ Ok saved → max before (greatest_in rows) ≡ before + length saved
+greatest_from : (before : ℕ) (rows : List Row) (saved : List RowContent) → saved_from (before + 1) rows ≡ Ok saved → max before (greatest_in rows) ≡ before + length saved
 greatest_from before [] saved e = let none : saved ≡ [] = cc in let many = ap length none in omega (arith, many)
 greatest_from before (row ∷ rows) saved e =
     let parts = then_ok (before + 1) (saved_row (before + 1) row) (saved_from (before + 1 + 1) rows) saved e in
@@ -35,11 +35,11 @@ greatest_from before (row ∷ rows) saved e =
     let many = ap length parts.4 in
     omega (arith, later, first, many)
 
-pub greatest_is : (rows : List Row) (saved : List Saved) → saved_rows rows ≡ Ok saved → greatest_in rows ≡ length saved
+pub greatest_is : (rows : List Row) (saved : List RowContent) → saved_rows rows ≡ Ok saved → greatest_in rows ≡ length saved
 greatest_is rows saved e = let it = greatest_from 0 rows saved e in omega (arith, it)
 
 -- the number that was due at the first row that saves nothing
-due_then : (due k : ℕ) (o : Option Saved) (more : Result (List Saved) ℕ) (front : List Saved) → ((j : ℕ) → more ≡ Err j → j ≡ due + 1 + length front) → rows_then due o more ≡ Err k → k ≡ due + length (front_then o front)
+due_then : (due k : ℕ) (o : Option RowContent) (more : Result (List RowContent) ℕ) (front : List RowContent) → ((j : ℕ) → more ≡ Err j → j ≡ due + 1 + length front) → rows_then due o more ≡ Err k → k ≡ due + length (front_then o front)
 due_then due k None more front ih e = let it : due ≡ k = cc in omega (arith, it)
 due_then due k (Some s) (Ok rows) front ih e = absurd (cc)
 due_then due k (Some s) (Err j) front ih e = let it : j ≡ k = cc in omega (arith, it, ih j refl)

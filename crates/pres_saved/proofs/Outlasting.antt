@@ -8,13 +8,13 @@ use Rattle.sqlite.specs.Store.{Ghosts}
 use Rattle.sqlite.specs.Held.{state}
 use Rattle.sqlite.specs.State.{State, HasCleanDisk, Survives}
 use Rattle.pres_log.specs.Logs.{Log}
-use Rattle.pres_table.specs.declared.fault.SavedFault.{SavedFault}
-use Rattle.pres_table.specs.Saved.{Saved, saved_front, front_from, rows_in, shown_row}
-use Rattle.pres_table.specs.Kept.{Kept, AddsRow, Lasts, Outlasts}
-use Rattle.pres_table.proofs.Loading.{front_all, front_append}
+use Rattle.pres_faults.specs.declared.saved_fault.SavedFault.{SavedFault}
+use Rattle.pres_batch_rows.specs.RowContents.{RowContent, saved_front, front_from, rows_in, shown_row}
+use Rattle.pres_batch_rows.specs.TableStates.{TableState, AddsRow, Lasts, Outlasts}
+use Rattle.pres_batch_rows.proofs.Loading.{front_all, front_append}
 use Rattle.pres_keeper.specs.Keepers.{Readable, BeginsWith}
-use Rattle.pres_saved.specs.Keeps.{Works, KeepsLog, MayFind, ComeFirst, OutlastsLog}
-use Rattle.pres_saved.specs.Saved.{log_after, log_front, saved_log, readable_rows}
+use Rattle.pres_saved.specs.SqlKeepers.{Works, KeepsLog, MayFind, ComeFirst, OutlastsLog}
+use Rattle.pres_saved.specs.SavedLogs.{log_after, log_front, saved_log, readable_rows}
 use Rattle.pres_saved.proofs.Reading.{read_of}
 use Rattle.pres_saved.proofs.Remade.{then_front, front_grows, read_batches}
 
@@ -34,7 +34,7 @@ begins rows more log e =
           ∙ grown.1,
     )
 
-module _ {S : Type 0} (g : Ghosts S) (old new : Kept S) where
+module _ {S : Type 0} (g : Ghosts S) (old new : TableState S) where
   abbrev before : State
   before = state g old.connection
 
@@ -77,7 +77,7 @@ module _ {S : Type 0} (g : Ghosts S) (old new : Kept S) where
     first = λ db may. ([], ap (λ (t : Trees). t 2) (lasts db may) ∙ sym (append-nil (rows_in after)));
   }
 
-  pub lasts_committed : (k : ℕ) (s : Saved) (r : Result (Unit {0}) SavedFault) (log : Log)
+  pub lasts_committed : (k : ℕ) (s : RowContent) (r : Result (Unit {0}) SavedFault) (log : Log)
       → (HasCleanDisk after → OnOk r (AddsRow before after k s)) → (HasCleanDisk after → OnOk r (Lasts after)) → (Works g new → OnOk r (KeepsLog g new log))
       → OnOk r (OutlastsLog g new log)
   lasts_committed k s (Ok _) log adds lasts keeps = λ clean. all_lasts log (keeps (record { clean = clean; is_open = (adds clean).is_open })) (lasts clean)

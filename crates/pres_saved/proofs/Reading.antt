@@ -7,14 +7,14 @@ use Rattle.sqlite.specs.State.{State}
 use Rattle.pres_write.specs.Moments.{last_moment}
 use Rattle.pres_log.specs.declared.entry.Batch.{Batch}
 use Rattle.pres_log.specs.Logs.{Log, number}
-use Rattle.pres_table.specs.Saved.{Saved, stored, rows_in, shown_row, saved_rows, saved_front, shown_rows}
-use Rattle.pres_table.specs.Kept.{AddsRow}
-use Rattle.pres_table.specs.Opened.{greatest_in}
-use Rattle.pres_table.specs.Taking.{TakesAll}
-use Rattle.pres_saved.specs.Saved.{batch_in, log_then, log_after, if_all_read, saved_log}
-use Rattle.pres_saved.specs.Taking.{Extends}
-use Rattle.pres_table.proofs.Loading.{front_all}
-use Rattle.pres_table.proofs.Growing.{saved_next}
+use Rattle.pres_batch_rows.specs.RowContents.{RowContent, stored, rows_in, shown_row, saved_rows, saved_front, shown_rows}
+use Rattle.pres_batch_rows.specs.TableStates.{AddsRow}
+use Rattle.pres_batch_rows.specs.TableOpening.{greatest_in}
+use Rattle.pres_batch_rows.specs.RowIteration.{TakesAll}
+use Rattle.pres_saved.specs.SavedLogs.{batch_in, log_then, log_after, if_all_read, saved_log}
+use Rattle.pres_saved.specs.RowReplay.{Extends}
+use Rattle.pres_batch_rows.proofs.Loading.{front_all}
+use Rattle.pres_batch_rows.proofs.Growing.{saved_next}
 use Rattle.pres_saved.proofs.Counted.{greatest_is}
 
 -- ---- results
@@ -24,18 +24,18 @@ no_err e a r h k = true≢false (ap is_ok (sym k ∙ h))
 
 -- ---- the log of rows
 
-pub after_one : (log mid : Log) (row : Saved) (later : List Saved) (b : Batch) → batch_in (number log) row ≡ Some b → mid ≡ log ++ b ∷ [] → log_after log (row ∷ later) ≡ log_after mid later
+pub after_one : (log mid : Log) (row : RowContent) (later : List RowContent) (b : Batch) → batch_in (number log) row ≡ Some b → mid ≡ log ++ b ∷ [] → log_after log (row ∷ later) ≡ log_after mid later
 after_one log mid row later b read is =
     ap (λ o. log_then log o (λ more. log_after more later)) read ∙ ap (λ l. log_after l later) (sym is)
 
 -- rows that a taker takes in turn, of which it shows a log
-pub taken_log : {T : Type 0} (log_of : T → Log) (given : List Saved) (old new : T) → TakesAll (λ before row after. Extends (log_of before) row (log_of after)) given old new
+pub taken_log : {T : Type 0} (log_of : T → Log) (given : List RowContent) (old new : T) → TakesAll (λ before row after. Extends (log_of before) row (log_of after)) given old new
     → log_after (log_of old) given ≡ Ok (log_of new)
 taken_log log_of [] old new t = ap (λ taker. Ok (log_of taker)) (sym t)
 taken_log log_of (row ∷ more) old new t =
     after_one (log_of old) (log_of t.0) row more t.1.batch t.1.read t.1.extended ∙ taken_log log_of more t.0 new t.2
 
-then_by : (old mid : Log) (o : Option Batch) (more rest : List Saved)
+then_by : (old mid : Log) (o : Option Batch) (more rest : List RowContent)
     → ((l : Log) → log_after l more ≡ Ok mid → log_after l (more ++ rest) ≡ log_after mid rest)
     → log_then old o (λ l. log_after l more) ≡ Ok mid
     → log_then old o (λ l. log_after l (more ++ rest)) ≡ log_after mid rest
@@ -43,12 +43,12 @@ then_by old mid None more rest ih e = absurd (no_err _ mid _ refl e)
 then_by old mid (Some b) more rest ih e = ih (old ++ b ∷ []) e
 
 -- the rest follows the log of the first
-pub then_log : (given rest : List Saved) (old mid : Log) → log_after old given ≡ Ok mid → log_after old (given ++ rest) ≡ log_after mid rest
+pub then_log : (given rest : List RowContent) (old mid : Log) → log_after old given ≡ Ok mid → log_after old (given ++ rest) ≡ log_after mid rest
 then_log [] rest old mid e = ap (λ l. log_after l rest) (ap (λ r. result_unwrap_or r old) e)
 then_log (row ∷ more) rest old mid e = then_by old mid (batch_in (number old) row) more rest (λ l. then_log more rest l mid) e
 
 -- a row that saves none ends it
-pub stopped_log : (given rest : List Saved) (row : Saved) (old mid : Log) → log_after old given ≡ Ok mid → batch_in (number mid) row ≡ None → log_after old (given ++ row ∷ rest) ≡ Err (length mid + 1)
+pub stopped_log : (given rest : List RowContent) (row : RowContent) (old mid : Log) → log_after old given ≡ Ok mid → batch_in (number mid) row ≡ None → log_after old (given ++ row ∷ rest) ≡ Err (length mid + 1)
 stopped_log given rest row old mid e none =
     then_log given (row ∷ rest) old mid e ∙ ap (λ o. log_then mid o (λ more. log_after more rest)) none
 
@@ -56,11 +56,11 @@ stopped_log given rest row old mid e none =
 
 -- all were read, and made the log
 pub record Read (shown : List Row) (log : Log) : Type 0 where
-  pub rows : List Saved
+  pub rows : List RowContent
   pub all : saved_rows shown ≡ Ok rows
   pub made : log_after [] (saved_front shown) ≡ Ok log
 
-read_by : (shown : List Row) (log : Log) (rows : Result (List Saved) ℕ) (made : Result Log ℕ) → saved_rows shown ≡ rows → log_after [] (saved_front shown) ≡ made → if_all_read rows made ≡ Ok log → Read shown log
+read_by : (shown : List Row) (log : Log) (rows : Result (List RowContent) ℕ) (made : Result Log ℕ) → saved_rows shown ≡ rows → log_after [] (saved_front shown) ≡ made → if_all_read rows made ≡ Ok log → Read shown log
 read_by shown log (Ok rows) (Ok l) r m e = record { rows = rows; all = r; made = m ∙ e }
 read_by shown log (Err k) (Ok l) r m e = absurd (no_err k log _ refl e)
 read_by shown log rows (Err k) r m e = absurd (no_err k log _ refl e)
@@ -68,7 +68,7 @@ read_by shown log rows (Err k) r m e = absurd (no_err k log _ refl e)
 pub read_of : (shown : List Row) (log : Log) → saved_log shown ≡ Ok log → Read shown log
 read_of shown log e = read_by shown log _ _ refl refl e
 
-pub log_of_read : (shown : List Row) (rows : List Saved) (log : Log) → saved_rows shown ≡ Ok rows → log_after [] (saved_front shown) ≡ Ok log → saved_log shown ≡ Ok log
+pub log_of_read : (shown : List Row) (rows : List RowContent) (log : Log) → saved_rows shown ≡ Ok rows → log_after [] (saved_front shown) ≡ Ok log → saved_log shown ≡ Ok log
 log_of_read shown rows log r m = ap (λ x. if_all_read x (log_after [] (saved_front shown))) r ∙ ap (if_all_read (Ok rows)) m
 
 pub log_unread : (shown : List Row) (log : Log) (k : ℕ) → saved_rows shown ≡ Err k → log_after [] (saved_front shown) ≡ Ok log → saved_log shown ≡ Err k
@@ -77,22 +77,22 @@ log_unread shown log k r m = ap (λ x. if_all_read x (log_after [] (saved_front 
 pub log_stopped : (shown : List Row) (k : ℕ) → log_after [] (saved_front shown) ≡ Err k → saved_log shown ≡ Err k
 log_stopped shown k m = ap (if_all_read (saved_rows shown)) m ∙ stop (saved_rows shown)
   where
-    stop : (rows : Result (List Saved) ℕ) → if_all_read rows (Err k) ≡ Err k
+    stop : (rows : Result (List RowContent) ℕ) → if_all_read rows (Err k) ≡ Err k
     stop rows = refl
 
 -- ---- one row more
 
-length_by : (old new : Log) (o : Option Batch) (more : List Saved) → ((l : Log) → log_after l more ≡ Ok new → length new ≡ length l + length more) → log_then old o (λ l. log_after l more) ≡ Ok new → length new ≡ length old + (length more + 1)
+length_by : (old new : Log) (o : Option Batch) (more : List RowContent) → ((l : Log) → log_after l more ≡ Ok new → length new ≡ length l + length more) → log_then old o (λ l. log_after l more) ≡ Ok new → length new ≡ length old + (length more + 1)
 length_by old new None more ih e = absurd (no_err _ new _ refl e)
 length_by old new (Some b) more ih e = let now = ih (old ++ b ∷ []) e in let one = length-append old (b ∷ []) in omega (arith, now, one)
 
 -- a batch for each row
-pub length_after : (rows : List Saved) (old new : Log) → log_after old rows ≡ Ok new → length new ≡ length old + length rows
+pub length_after : (rows : List RowContent) (old new : Log) → log_after old rows ≡ Ok new → length new ≡ length old + length rows
 length_after [] old new e = let same = ap length (ap (λ r. result_unwrap_or r new) e) in omega (arith, same)
 length_after (row ∷ more) old new e = let now = length_by old new (batch_in (number old) row) more (λ l. length_after more l new) e in omega (arith, now)
 
 -- a row behind these saves the next batch
-pub kept_next : (rows : List Row) (last : ℕ) (log : Log) (b : Batch) (s : Saved) → s.moment ≤ last_moment → IsUtf8 s.body
+pub kept_next : (rows : List Row) (last : ℕ) (log : Log) (b : Batch) (s : RowContent) → s.moment ≤ last_moment → IsUtf8 s.body
     → saved_log (map shown_row rows) ≡ Ok log → last ≡ length log → batch_in (number log) s ≡ Some b → saved_log (map shown_row (rows ++ stored (last + 1) s ∷ [])) ≡ Ok (log ++ b ∷ [])
 kept_next rows last log b s low text kept count one =
     let shown = map shown_row rows in
@@ -107,7 +107,7 @@ kept_next rows last log b s low text kept count one =
     ∙ after_one log (log ++ b ∷ []) s [] b one refl)
 
 -- the row that was added saves the next batch
-pub kept_more : (old new : State) (last : ℕ) (log : Log) (b : Batch) (s : Saved) → s.moment ≤ last_moment → IsUtf8 s.body → AddsRow old new (last + 1) s
+pub kept_more : (old new : State) (last : ℕ) (log : Log) (b : Batch) (s : RowContent) → s.moment ≤ last_moment → IsUtf8 s.body → AddsRow old new (last + 1) s
     → saved_log (shown_rows old) ≡ Ok log → last ≡ length log → batch_in (number log) s ≡ Some b → saved_log (shown_rows new) ≡ Ok (log ++ b ∷ [])
 kept_more old new last log b s low text adds kept count one =
     ap (λ rows. saved_log (map shown_row rows)) adds.rows ∙ kept_next (rows_in old) last log b s low text kept count one

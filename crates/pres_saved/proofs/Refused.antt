@@ -4,14 +4,14 @@ use Rattle.std.proofs.lemmas.List.{append_assoc}
 use Rattle.sqlite.specs.Order.{Row}
 use Rattle.pres_log.specs.declared.entry.Batch.{Batch}
 use Rattle.pres_log.specs.Logs.{Log, number}
-use Rattle.pres_table.specs.declared.fault.SavedFault.{SavedFault}
-use Rattle.pres_table.specs.declared.fault.SavedFault.TheVariants.{BadRow}
-use Rattle.pres_table.specs.Saved.{Saved, saved_rows, saved_front}
-use Rattle.pres_table.specs.Taking.{TakesAll, GoesOver, MeetsBadRow, IsRefused}
+use Rattle.pres_faults.specs.declared.saved_fault.SavedFault.{SavedFault}
+use Rattle.pres_faults.specs.declared.saved_fault.SavedFault.TheVariants.{BadRow}
+use Rattle.pres_batch_rows.specs.RowContents.{RowContent, saved_rows, saved_front}
+use Rattle.pres_batch_rows.specs.RowIteration.{TakesAll, GoesOver, MeetsBadRow, IsRefused}
 use Rattle.pres_server.specs.LegalLog.{IsLegal, MayFollow}
 use Rattle.pres_keeper.specs.Keepers.{Readable, IsOfStore, IsFirstUnread, IsFirstBad, IsUnread, IsNoServer}
-use Rattle.pres_saved.specs.Saved.{batch_in, log_after, front_by, log_front, saved_log, readable_by, readable_rows}
-use Rattle.pres_saved.specs.Taking.{Extends, HasNoRoom, IsNotTaken, Follows, IsNoFollower}
+use Rattle.pres_saved.specs.SavedLogs.{batch_in, log_after, front_by, log_front, saved_log, readable_by, readable_rows}
+use Rattle.pres_saved.specs.RowReplay.{Extends, HasNoRoom, IsNotTaken, Follows, IsNoFollower}
 use Rattle.pres_saved.proofs.Counted.{due_is}
 use Rattle.pres_saved.proofs.Reading.{taken_log, log_of_read, stopped_log, log_unread, log_stopped, length_after}
 use Rattle.pres_saved.proofs.Remade.{follows_all, legal_all, then_front, front_is, front_stops, front_grows, read_batches}
@@ -39,7 +39,7 @@ row_unread shown log k bad made =
     first_unread shown log k (log_unread shown log k bad made) (front_is (saved_front shown) [] log made) (omega (arith, due, count))
 
 -- a row whose text is that of no batch
-text_unread : (shown : List Row) (given rest : List Saved) (row : Saved) (mid : Log) → saved_front shown ≡ given ++ row ∷ rest → log_after [] given ≡ Ok mid → batch_in (number mid) row ≡ None
+text_unread : (shown : List Row) (given rest : List RowContent) (row : RowContent) (mid : Log) → saved_front shown ≡ given ++ row ∷ rest → log_after [] given ≡ Ok mid → batch_in (number mid) row ≡ None
     → IsFirstUnread (readable_rows shown) (length mid + 1)
 text_unread shown given rest row mid parts made none =
     first_unread shown mid (length mid + 1)
@@ -47,13 +47,13 @@ text_unread shown given rest row mid parts made none =
     (ap (log_front []) parts ∙ then_front given (row ∷ rest) [] mid made ∙ front_stops mid row rest none) refl
 
 module _ {T : Type 0} (log_of : T → Log) where
-  abbrev pub Adds : T → Saved → T → Type 0
+  abbrev pub Adds : T → RowContent → T → Type 0
   Adds before row after = Extends (log_of before) row (log_of after)
 
-  abbrev pub Leaves : T → Saved → SavedFault → T → Type 0
+  abbrev pub Leaves : T → RowContent → SavedFault → T → Type 0
   Leaves before row e after = IsNotTaken (log_of before) row e
 
-  made_of : (front : List Saved) (old new : T) → log_of old ≡ [] → TakesAll Adds front old new → log_after [] front ≡ Ok (log_of new)
+  made_of : (front : List RowContent) (old new : T) → log_of old ≡ [] → TakesAll Adds front old new → log_after [] front ≡ Ok (log_of new)
   made_of front old new none taken = ap (λ log. log_after log front) (sym none) ∙ taken_log log_of front old new taken
 
   pub all_read : (shown : List Row) (old new : T) → log_of old ≡ [] → GoesOver Adds Leaves shown old new (Ok tt) → saved_log shown ≡ Ok (log_of new)
@@ -86,7 +86,7 @@ legal_front : (shown : List Row) (mid : Log) → log_front [] (saved_front shown
 legal_front shown mid front legal = subst IsLegal (sym (read_batches shown ∙ front)) legal
 
 -- a row that may not follow: it saves no batch, or one that may not
-bad_by : (shown : List Row) (given rest : List Saved) (row : Saved) (mid : Log) (o : Option Batch) → batch_in (number mid) row ≡ o
+bad_by : (shown : List Row) (given rest : List RowContent) (row : RowContent) (mid : Log) (o : Option Batch) → batch_in (number mid) row ≡ o
     → saved_front shown ≡ given ++ row ∷ rest → log_after [] given ≡ Ok mid → IsLegal mid → ((b : Batch) → batch_in (number mid) row ≡ Some b → MayFollow mid b → ⊥)
     → IsFirstBad (readable_rows shown) (length mid + 1)
 bad_by shown given rest row mid None is parts made legal refused =
@@ -106,16 +106,16 @@ bad_by shown given rest row mid (Some b) is parts made legal refused =
     })
 
 module _ {T : Type 0} (log_of : T → Log) where
-  abbrev pub Joins : T → Saved → T → Type 0
+  abbrev pub Joins : T → RowContent → T → Type 0
   Joins before row after = Follows (log_of before) row (log_of after)
 
-  abbrev pub Stays : T → Saved → SavedFault → T → Type 0
+  abbrev pub Stays : T → RowContent → SavedFault → T → Type 0
   Stays before row e after = IsNoFollower (log_of before) row e
 
-  served_of : (front : List Saved) (old new : T) → log_of old ≡ [] → TakesAll Joins front old new → log_after [] front ≡ Ok (log_of new)
+  served_of : (front : List RowContent) (old new : T) → log_of old ≡ [] → TakesAll Joins front old new → log_after [] front ≡ Ok (log_of new)
   served_of front old new none taken = made_of log_of front old new none (follows_all log_of front old new taken)
 
-  legal_of : (front : List Saved) (old new : T) → log_of old ≡ [] → TakesAll Joins front old new → IsLegal (log_of new)
+  legal_of : (front : List RowContent) (old new : T) → log_of old ≡ [] → TakesAll Joins front old new → IsLegal (log_of new)
   legal_of front old new none taken = legal_all log_of front old new (subst IsLegal (sym none) tt) taken
 
   pub all_served : (shown : List Row) (old new : T) → log_of old ≡ [] → GoesOver Joins Stays shown old new (Ok tt) → (saved_log shown ≡ Ok (log_of new)) × IsLegal (log_of new)

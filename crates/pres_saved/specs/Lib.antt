@@ -1,4 +1,4 @@
-pub mod Saved
-pub mod Taking
-pub mod Keeps
+pub mod SavedLogs
+pub mod RowReplay
+pub mod SqlKeepers
 pub mod Laws

@@ -4,22 +4,23 @@ ghost use Rattle.std.specs.Prelude.{◌≡◌, ◌≤◌, ◌⊎◌, [], false, 
 ghost use Rattle.sqlite.specs.Held.{state};
 ghost use Rattle.sqlite.specs.State.{HasCleanDisk, Survives};
 ghost use Rattle.sqlite.specs.View.{doubt};
-ghost use Rattle.pres_table.specs.Kept.{Serves, IsSame, IsLeft, IsOurs};
-ghost use Rattle.pres_table.specs.Made.{HoldsFormat, Makes, FailsToMake, making_fault};
-ghost use Rattle.pres_table.specs.Opened.{HasFormat, LacksFormat};
-ghost use Rattle.pres_table.specs.Schemas.{no_schema};
-ghost use Rattle.pres_table.specs.Saved.{shown_rows};
+ghost use Rattle.pres_batch_rows.specs.TableStates.{Serves, IsSame, IsLeft, IsOurs};
+ghost use Rattle.pres_batch_rows.specs.TableCreation.{HoldsFormat, Makes, FailsToMake, making_fault};
+ghost use Rattle.pres_batch_rows.specs.TableOpening.{HasFormat, LacksFormat};
+ghost use Rattle.pres_batch_rows.specs.Schemas.{no_schema};
+ghost use Rattle.pres_batch_rows.specs.RowContents.{shown_rows};
 ghost use Rattle.pres_server.specs.Replays.{made_from};
-ghost use Rattle.pres_saved.specs.Saved.{saved_log};
+ghost use Rattle.pres_saved.specs.SavedLogs.{saved_log};
 ghost use Rattle.pres_keeper.specs.Keepers.{IsUnread, IsNoServer};
-ghost use Rattle.pres_saved.specs.Keeps.{IsReady, WasShut, KeepsLog, readable_in};
+ghost use Rattle.pres_saved.specs.SqlKeepers.{IsReady, WasShut, KeepsLog, readable_in};
 
-use crate::taker::{Batches, Remaking};
-use pres_body::print_entries;
+use crate::replaying::{Batches, Replaying};
+use pres_batch_json::print_entries;
+use pres_batch_rows::BatchTable;
+use pres_faults::SavedFault;
 use pres_keeper::Keeper;
 use pres_log::{Batch, Log};
 use pres_server::{Replay, Server};
-use pres_table::{SavedFault, Table};
 use sqlite::{Alter, Connection};
 use std::alloc::Global;
 use std::marker::Model;
@@ -30,13 +31,13 @@ use std::marker::Model;
 /// answers Database, and the next open finds the rows with or without that one.
 pub struct SqlKeeper<S: Alter> {
     alloc: Global,
-    table: Table<S>,
+    table: BatchTable<S>,
 }
 
 impl<S: Alter> Model for SqlKeeper<S> {
-    ghost use Rattle.pres_table.specs.Kept.{Kept, kept_code};
+    ghost use Rattle.pres_batch_rows.specs.TableStates.{TableState, kept_code};
 
-    ghost Value = { Kept S };
+    ghost Value = { TableState S };
 
     ghost coded = { kept_code S.code };
 
@@ -76,7 +77,7 @@ impl<S: Alter + Drop> SqlKeeper<S> {
             (λ k. Survives (state S.Store connection) (state S.Store k.connection) HoldsFormat)
             (λ e. Survives (state S.Store connection) (state S.Store e.1) HoldsFormat) }
     {
-        match Table::create(connection) {
+        match BatchTable::create(connection) {
             Ok(table) => Ok(SqlKeeper { alloc, table }),
             Err(refused) => Err(refused),
         }
@@ -111,7 +112,7 @@ impl<S: Alter + Drop> SqlKeeper<S> {
             (λ k. Survives (state S.Store connection) (state S.Store k.connection) (λ _. ⊥))
             (λ e. Survives (state S.Store connection) (state S.Store e.1) (λ _. ⊥)) }
     {
-        match Table::open(connection) {
+        match BatchTable::open(connection) {
             Ok(table) => Ok(SqlKeeper { alloc, table }),
             Err(refused) => Err(refused),
         }
@@ -163,7 +164,7 @@ impl<S: Alter + Drop> SqlKeeper<S> {
             (state S.Store self.new.connection) (λ _. ⊥) }
         ensures serves { Serves S.Store self.old → Serves S.Store self.new }
     {
-        let mut made = Remaking {
+        let mut made = Replaying {
             alloc: self.alloc,
             replay: Replay::new(self.alloc),
         };
@@ -185,8 +186,8 @@ impl<S: Alter + Drop> SqlKeeper<S> {
 
 impl<S: Alter + Drop> Keeper for SqlKeeper<S> {
     ghost use Rattle.std.proofs.Common.{ap};
-    ghost use Rattle.pres_saved.specs.Saved.{readable_by};
-    ghost use Rattle.pres_saved.specs.Keeps.{IsReady, Works, WasShut, KeepsLog, LeavesLog, MayFind, OutlastsLog, SavesBatch, readable_in};
+    ghost use Rattle.pres_saved.specs.SavedLogs.{readable_by};
+    ghost use Rattle.pres_saved.specs.SqlKeepers.{IsReady, Works, WasShut, KeepsLog, LeavesLog, MayFind, OutlastsLog, SavesBatch, readable_in};
     ghost use Rattle.pres_saved.specs.Laws.{found_first};
 
     ghost ready = { λ kept. IsReady S.Store kept };

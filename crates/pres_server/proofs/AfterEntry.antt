@@ -18,9 +18,9 @@ use Rattle.pres_log.specs.declared.entry.Entry.TheVariants as entry
 use Rattle.pres_tree.specs.Paths.{sorted_by}
 use Rattle.pres_ids.specs.Ids.{ClientId, client_cmp, same_client, is_earlier, stamp_of}
 use Rattle.pres_server.specs.Sessions.{session_of, count, opened_by, opened, opens, ends, is_open, sessions_of, open_entries, open_sessions_of, open_sessions, is_newest, last_of}
-use Rattle.pres_server.specs.Invariants.{MayComeUncounted}
+use Rattle.pres_server.specs.InternalInvariants.{MayComeUncounted}
 use Rattle.pres_server.specs.SessionPlans.{plan}
-use Rattle.pres_server.specs.Parts.{LivePart, Part, IsAsked, session_with, part_of, part_step, live_step, one_more, live_in, open_step, Sound, listed, comes_after}
+use Rattle.pres_server.specs.InternalParts.{LivePart, Part, IsAsked, session_with, part_of, part_step, live_step, one_more, live_in, open_step, Sound, listed, comes_after}
 use Rattle.pres_server.proofs.PlanSteps.{number_in, asked_by}
 use Rattle.pres_server.proofs.Since.{client_same, client_itself, session_same, any-append}
 use Rattle.pres_server.proofs.Steps.{is_open-same, filter_alike, filter-filter}

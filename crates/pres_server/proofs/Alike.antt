@@ -27,16 +27,16 @@ use Rattle.pres_log.specs.declared.entry.Entry.TheVariants as entry
 use Rattle.pres_log.specs.Logs.{tree, writes_of}
 use Rattle.pres_log.proofs.Entries.{tree-append}
 use Rattle.pres_server.specs.declared.index.Index.{Index}
-use Rattle.pres_server.specs.declared.places.Places.{Places}
+use Rattle.pres_server.specs.declared.client_sessions.ClientSessions.{ClientSessions}
 use Rattle.pres_server.specs.Sessions.{is_open, open_sessions_of}
 use Rattle.pres_server.specs.Listening.{listened}
 use Rattle.pres_server.specs.Streams.{push_of}
-use Rattle.pres_server.specs.Parts.{Part, Sound, part_of, part_step, live_in, sent_in, sent_of}
-use Rattle.pres_server.specs.Invariants.{MayComeUncounted, MayComeInTurn, MayTakeAll}
-use Rattle.pres_server.specs.Places.{Session, began, last_stamp, live_part, sent_to}
-use Rattle.pres_server.specs.Pushes.{after_pushes}
-use Rattle.pres_server.specs.Index.{session_at, gone_at, part_at, sent_at, paths_at, retry_after, Carries, Steps, MayTake, Indexed}
-use Rattle.pres_server.specs.Growth.{IsAlike, MayKeep, FindsOpen, HasPlace, IsSilent}
+use Rattle.pres_server.specs.InternalParts.{Part, Sound, part_of, part_step, live_in, sent_in, sent_of}
+use Rattle.pres_server.specs.InternalInvariants.{MayComeUncounted, MayComeInTurn, MayTakeAll}
+use Rattle.pres_server.specs.InternalSessions.{Session, began, last_stamp, live_part, sent_to}
+use Rattle.pres_server.specs.InternalPushes.{after_pushes}
+use Rattle.pres_server.specs.InternalIndex.{session_at, gone_at, part_at, sent_at, paths_at, retry_after, Carries, Steps, MayTake, Indexed}
+use Rattle.pres_server.specs.InternalGrowth.{IsAlike, MayKeep, FindsOpen, HasPlace, IsSilent}
 use Rattle.pres_server.proofs.Since.{client_same}
 use Rattle.pres_server.proofs.Pushed.{nobody_touched}
 use Rattle.pres_server.proofs.Parts.{part_after, only_open}
@@ -71,11 +71,11 @@ alike_then a b c k l = record {
 }
 
 -- the index with these places
-abbrev pub placed : Places → Index → Index
+abbrev pub placed : ClientSessions → Index → Index
 placed places index = record { places = places; retry = index.retry; listeners = index.listeners; tree = index.tree }
 
 -- whose sessions are those that were
-pub places_alike : (old : Index) (places : Places) → ((c : ClientId) → get client_cmp places.live c ≡ session_at old c)
+pub places_alike : (old : Index) (places : ClientSessions) → ((c : ClientId) → get client_cmp places.live c ≡ session_at old c)
     → ((c : ClientId) → last_stamp (session_at old c) (get client_cmp places.gone c) ≡ last_stamp (session_at old c) (gone_at old c)) → IsAlike old (placed places old)
 places_alike old places live gone = record {
   parts = λ c.
@@ -91,17 +91,17 @@ told_by_live : (live : Option Session) (g h : Option Stamp) → IsSome live → 
 told_by_live None g h some = absurd (true≢false (sym some))
 told_by_live (Some session) g h some = refl
 
-pub room_alike : (old : Index) (places : Places) (k : ClientId) → IsSome (session_at old k) → places.live ≡ old.places.live
+pub room_alike : (old : Index) (places : ClientSessions) (k : ClientId) → IsSome (session_at old k) → places.live ≡ old.places.live
     → ((c : ClientId) → same_client k c ≡ false → get client_cmp places.gone c ≡ gone_at old c) → IsAlike old (placed places old)
 room_alike old places k some live others = places_alike old places (λ c. ap (λ m. get client_cmp m c) live) (λ c. by c (same_client k c) refl) where
   by : (c : ClientId) (b : Bool) → same_client k c ≡ b → last_stamp (session_at old c) (get client_cmp places.gone c) ≡ last_stamp (session_at old c) (gone_at old c)
   by c true e = told_by_live (session_at old c) (get client_cmp places.gone c) (gone_at old c) (subst (λ d. IsSome (session_at old d)) (client_same k c e) some)
   by c false e = ap (last_stamp (session_at old c)) (others c e)
 
-pub unchanged_alike : (old : Index) (places : Places) → IsUnchanged old.places.live places.live → places.gone ≡ old.places.gone → IsAlike old (placed places old)
+pub unchanged_alike : (old : Index) (places : ClientSessions) → IsUnchanged old.places.live places.live → places.gone ≡ old.places.gone → IsAlike old (placed places old)
 unchanged_alike old places live gone = places_alike old places (λ c. ap (lookup (is_at (client_cmp c))) live) (λ c. ap (λ m. last_stamp (session_at old c) (get client_cmp m c)) gone)
 
-pub same_alike : (old : Index) (places : Places) (k : ClientId) → Updates client_cmp old.places.live places.live k (session_at old k) → places.gone ≡ old.places.gone → IsAlike old (placed places old)
+pub same_alike : (old : Index) (places : ClientSessions) (k : ClientId) → Updates client_cmp old.places.live places.live k (session_at old k) → places.gone ≡ old.places.gone → IsAlike old (placed places old)
 same_alike old places k live gone = places_alike old places (λ c. live.0 c ∙ ap (λ b. cond b (session_at old k) (session_at old c)) (same_by_cmp k c) ∙ by c (same_client k c) refl) (λ c. ap (λ m. last_stamp (session_at old c) (get client_cmp m c)) gone) where
   by : (c : ClientId) (b : Bool) → same_client k c ≡ b → cond b (session_at old k) (session_at old c) ≡ session_at old c
   by c true e = ap (session_at old) (client_same k c e)

@@ -14,8 +14,8 @@ use Rattle.pres_server.specs.Sessions.{session_of, is_open, open_sessions_of}
 use Rattle.pres_server.specs.Outcomes.{rows_for}
 use Rattle.pres_server.specs.Listening.{touched}
 use Rattle.pres_server.specs.Streams.{Unnumbered, shown, push_of, repeated_reply, own_answer, sent_for, numbered_from, stream, added, is_push, own_added}
-use Rattle.pres_server.specs.Parts.{message_next, reply_next, answer_by, Sound}
-use Rattle.pres_server.specs.Invariants.{MayComeUncounted}
+use Rattle.pres_server.specs.InternalParts.{message_next, reply_next, answer_by, Sound}
+use Rattle.pres_server.specs.InternalInvariants.{MayComeUncounted}
 use Rattle.pres_server.proofs.Since.{session_itself}
 use Rattle.pres_server.proofs.StreamSteps.{stream_step}
 use Rattle.pres_server.proofs.Parts.{only_open, no_row, row_there, own_again}

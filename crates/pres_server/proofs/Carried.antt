@@ -25,10 +25,10 @@ use Rattle.pres_server.specs.declared.index.Index.{Index}
 use Rattle.pres_server.specs.Sessions.{opens, opened, is_open, open_entries, open_sessions, open_sessions_of}
 use Rattle.pres_server.specs.Listening.{listened, touched}
 use Rattle.pres_server.specs.Streams.{shown, push_of, stream, added, is_push, numbered_from}
-use Rattle.pres_server.specs.Parts.{LivePart, part_of, sent_in, message_next, listed, live_in, Sound}
-use Rattle.pres_server.specs.Places.{Session, sent_to, sent_one, live_part, last_stamp, MaySend}
-use Rattle.pres_server.specs.Pushes.{after_pushes, pushes, MayPush, MayPushAll}
-use Rattle.pres_server.specs.Index.{session_at, gone_at, part_at, sent_at, paths_at, Carries, Indexed}
+use Rattle.pres_server.specs.InternalParts.{LivePart, part_of, sent_in, message_next, listed, live_in, Sound}
+use Rattle.pres_server.specs.InternalSessions.{Session, sent_to, sent_one, live_part, last_stamp, MaySend}
+use Rattle.pres_server.specs.InternalPushes.{after_pushes, pushes, MayPush, MayPushAll}
+use Rattle.pres_server.specs.InternalIndex.{session_at, gone_at, part_at, sent_at, paths_at, Carries, Indexed}
 use Rattle.pres_server.proofs.Since.{session_itself}
 use Rattle.pres_server.proofs.Steps.{or_false, open_listed}
 use Rattle.pres_server.proofs.ListenSteps.{touched_is, touched_sorted}

@@ -22,7 +22,7 @@ use Rattle.pres_write.specs.Unconditionals.{puts_of}
 use Rattle.pres_plan.specs.Plans.{most_rows, due}
 use Rattle.pres_ids.specs.Ids.{ClientId, same_session, is_earlier, stamp_of}
 use Rattle.pres_retry.specs.declared.table.Row.{Row}
-use Rattle.pres_retry.specs.Verdicts.{fresh, gap, verdict, told_row}
+use Rattle.pres_retry.specs.Verdicts.{fresh, gap, verdict, row_status}
 use Rattle.pres_log.specs.declared.entry.Entry.{Entry}
 use Rattle.pres_log.specs.declared.entry.Entry.TheVariants as entry
 use Rattle.pres_log.specs.declared.fault.Fault.TheVariants as fault
@@ -34,10 +34,10 @@ use Rattle.pres_server.specs.Outcomes.{rows_for, ops}
 use Rattle.pres_server.specs.Listening.{listened}
 use Rattle.pres_server.specs.LegalLog.{MayCome, MayComeTogether, IsPlain, Supersedes, LeavesRoom, IsEndNumber}
 use Rattle.pres_server.specs.SessionPlans.{plan, due_at}
-use Rattle.pres_server.specs.Heard.{State, late_client}
+use Rattle.pres_server.specs.ServerStates.{ServerState, late_client}
 use Rattle.pres_server.specs.Turns.{Decision, refused, quiet, makes, op_by, in_order, if_open, end_of, opening, ends_if_open, ends_first, ends_late, within_rows, within_paths, leaves, listens, hello, message, limited, wanted}
-use Rattle.pres_server.specs.Invariants.{MayComeUncounted}
-use Rattle.pres_server.specs.Parts.{LivePart, part_of, live_in, open_step, Sound, listed, session_with, same_stamp, is_live, said_by, plan_in, plan_after, end_by, leaves_by, listens_by, hello_by, message_by, ends_live, ends_of, ends_late_by, wanted_by, open_steps, limited_by}
+use Rattle.pres_server.specs.InternalInvariants.{MayComeUncounted}
+use Rattle.pres_server.specs.InternalParts.{LivePart, part_of, live_in, open_step, Sound, listed, session_with, same_stamp, is_live, said_by, plan_in, plan_after, end_by, leaves_by, listens_by, hello_by, message_by, ends_live, ends_of, ends_late_by, wanted_by, open_steps, limited_by}
 use Rattle.pres_server.proofs.Since.{client_itself, session_itself}
 use Rattle.pres_server.proofs.Steps.{or_false, open_listed, in_open}
 use Rattle.pres_server.proofs.PlanSteps.{plan_own}
@@ -80,16 +80,16 @@ op_by_count ops tree m s q n op =
     cond (n == 0) (refused fault.Order) (cond (n == ops + 1) (makes (entry.Op s q n op (resolved tree m op) ∷ [])) (cond (nat_lt ops n) (refused fault.Order) (makes (entry.Again s q n ∷ []))))
 
 op_is : (rows : List Row) (t : Rows Scalar) (m : ℕ) (s : SessionId) (q n : ℕ) (op : Op) → op_by (verdict n rows) t m s q n op ≡ op_by_count (length rows) t m s q n op
-op_is rows t m s q n op = elim (n == 0) as (λ z. (n == 0) ≡ z → op_by (cond z gap (cond (n == length rows + 1) fresh (told_row (slice_get rows (n - 1))))) t m s q n op
+op_is rows t m s q n op = elim (n == 0) as (λ z. (n == 0) ≡ z → op_by (cond z gap (cond (n == length rows + 1) fresh (row_status (slice_get rows (n - 1))))) t m s q n op
     ≡ cond z (refused fault.Order) (cond (n == length rows + 1) (makes (entry.Op s q n op (resolved t m op) ∷ [])) (cond (nat_lt (length rows) n) (refused fault.Order) (makes (entry.Again s q n ∷ []))))) [
       | true ↦ λ _. refl
-      | false ↦ λ z. elim (n == length rows + 1) as (λ b. op_by (cond b fresh (told_row (slice_get rows (n - 1)))) t m s q n op
+      | false ↦ λ z. elim (n == length rows + 1) as (λ b. op_by (cond b fresh (row_status (slice_get rows (n - 1)))) t m s q n op
           ≡ cond b (makes (entry.Op s q n op (resolved t m op) ∷ [])) (cond (nat_lt (length rows) n) (refused fault.Order) (makes (entry.Again s q n ∷ [])))) [
             | true ↦ refl
-            | false ↦ elim (nat_lt (length rows) n) as (λ b. nat_lt (length rows) n ≡ b → op_by (told_row (slice_get rows (n - 1))) t m s q n op ≡ cond b (refused fault.Order) (makes (entry.Again s q n ∷ []))) [
-              | true ↦ λ h. ap (λ o. op_by (told_row o) t m s q n op) (slice_get_past rows (n - 1) (past (length rows) n h))
+            | false ↦ elim (nat_lt (length rows) n) as (λ b. nat_lt (length rows) n ≡ b → op_by (row_status (slice_get rows (n - 1))) t m s q n op ≡ cond b (refused fault.Order) (makes (entry.Again s q n ∷ []))) [
+              | true ↦ λ h. ap (λ o. op_by (row_status o) t m s q n op) (slice_get_past rows (n - 1) (past (length rows) n h))
               | false ↦ λ h. elim (slice_get_cases rows (n - 1)).1 [
-                | inl here ↦ ap (λ o. op_by (told_row o) t m s q n op) here.2
+                | inl here ↦ ap (λ o. op_by (row_status o) t m s q n op) here.2
                 | inr end ↦ absurd (within (length rows) n h (from_one n z) end.0)
               ]
             ] refl
@@ -179,7 +179,7 @@ message_is es m (up.Off s q path) sound = said_is s q _ es sound
 message_is es m (up.Bye s q) sound = said_same s q _ _ es sound (λ o. ap (λ e. makes (e ∷ [])) (end_is es m (Some q) why.Bye s sound o))
 message_is es m (up.Beat s) sound = ap (λ b. cond b quiet (refused fault.Session)) (live_is s es sound)
 
-pub wanted_is : (state : State) (m : ℕ) (i : Input) → Sound (entries state.log) → wanted state m i ≡ wanted_by (λ c. part_of c (entries state.log)) (listens_in (entries state.log)) state.heard (tree (entries state.log)) m i
+pub wanted_is : (state : ServerState) (m : ℕ) (i : Input) → Sound (entries state.log) → wanted state m i ≡ wanted_by (λ c. part_of c (entries state.log)) (listens_in (entries state.log)) state.heard (tree (entries state.log)) m i
 wanted_is state m (input.Up u) sound = message_is (entries state.log) m u sound
 wanted_is state m (input.Lost s) sound = ends_is (entries state.log) m why.Lost s sound
 wanted_is state m (input.Slow s) sound = ends_is (entries state.log) m why.Slow s sound
@@ -292,7 +292,7 @@ message_allowed es m (up.Off s q path) sound = said_allowed es m s q (makes (ent
 message_allowed es m (up.Bye s q) sound = said_allowed es m s q (makes (end_of es m (Some q) why.Bye s ∷ [])) (λ o k. ((λ e. absurd (cc)), (o, ap Some k, refl)))
 message_allowed es m (up.Beat s) sound = elim (is_open s es) as (λ b. Allowed es m (cond b quiet (refused fault.Session))) [ true ↦ tt | false ↦ tt ]
 
-pub wanted_allowed : (state : State) (m : ℕ) (i : Input) → Sound (entries state.log) → Allowed (entries state.log) m (wanted state m i)
+pub wanted_allowed : (state : ServerState) (m : ℕ) (i : Input) → Sound (entries state.log) → Allowed (entries state.log) m (wanted state m i)
 wanted_allowed state m (input.Up u) sound = message_allowed (entries state.log) m u sound
 wanted_allowed state m (input.Lost s) sound = ends_allowed (entries state.log) m why.Lost s (λ e. absurd (cc)) refl
 wanted_allowed state m (input.Slow s) sound = ends_allowed (entries state.log) m why.Slow s (λ e. absurd (cc)) refl

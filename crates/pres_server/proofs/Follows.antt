@@ -21,11 +21,11 @@ use Rattle.pres_server.specs.Sessions.{session_of, opens, is_open, is_newest, co
 use Rattle.pres_server.specs.Listening.{listened}
 use Rattle.pres_server.specs.SessionPlans.{plan, due_at}
 use Rattle.pres_server.specs.LegalLog.{IsNext, IsEndNumber, MayCome, MayComeTogether, Supersedes, MayFollow}
-use Rattle.pres_server.specs.Invariants.{Holds}
-use Rattle.pres_server.specs.Parts.{Part, Sound, part_of, live_in, plan_in, plan_after, listed, open_steps}
-use Rattle.pres_server.specs.Places.{open_count}
-use Rattle.pres_server.specs.Index.{part_at, paths_at}
-use Rattle.pres_server.specs.Follows.{IsNextIn, IsNextBy, IsEndNumberBy, MayComeBy, IsNewerBy, MayComeTogetherBy, LeavesRoomBy, MayJoinOn}
+use Rattle.pres_server.specs.InternalInvariants.{ServerInvariant}
+use Rattle.pres_server.specs.InternalParts.{Part, Sound, part_of, live_in, plan_in, plan_after, listed, open_steps}
+use Rattle.pres_server.specs.InternalSessions.{open_count}
+use Rattle.pres_server.specs.InternalIndex.{part_at, paths_at}
+use Rattle.pres_server.specs.InternalFollows.{IsNextIn, IsNextBy, IsEndNumberBy, MayComeBy, IsNewerBy, MayComeTogetherBy, LeavesRoomBy, MayJoinOn}
 use Rattle.pres_server.proofs.Since.{session_itself}
 use Rattle.pres_server.proofs.PlanSteps.{plan_own}
 use Rattle.pres_server.proofs.ListenSteps.{listened_own}
@@ -211,7 +211,7 @@ abbrev Said : Type 0
 Said = (ClientId → Part) × (SessionId → List Path) × ℕ × Rows Scalar
 
 -- what the index says is what the log says
-said_is : (log : Log) (moment : ℕ) (index : Index) → Holds log moment index
+said_is : (log : Log) (moment : ℕ) (index : Index) → ServerInvariant log moment index
     → let es = entries log in let a : Said = (part_at index, paths_at index, open_count index.places, index.tree) in let b : Said = (λ c. part_of c es, listens_in es, length (open_sessions es), tree es) in a ≡ b
 said_is log moment index kept =
     λ i. (λ c. kept.indexed.parts c i, λ s. kept.indexed.listens s i, count_is log moment index kept i, kept.indexed.tree i)
@@ -226,7 +226,7 @@ pub record Joins (log : Log) (moment : ℕ) (index : Index) (b : Batch) : Type 0
   pub room : LeavesRoomBy (number log) (open_count index.places) b.entries
   pub together : MayComeTogetherBy (part_at index) (paths_at index) (open_count index.places) index.tree b.moment b.entries
 
-pub joins_in : (log : Log) (moment : ℕ) (index : Index) (b : Batch) → Holds log moment index → b.moment ≤ moments.last_moment → Joins log moment index b → MayFollow log b
+pub joins_in : (log : Log) (moment : ℕ) (index : Index) (b : Batch) → ServerInvariant log moment index → b.moment ≤ moments.last_moment → Joins log moment index b → MayFollow log b
 joins_in log moment index b kept range joins =
     let es = entries log in
     let sound = legal_is_sound log kept.legal in
@@ -239,7 +239,7 @@ joins_in log moment index b kept range joins =
     let room = joins.room in
     record { first = joins.first; not_earlier = omega arith; in_range = range; allowed = together; room = omega arith }
 
-pub joins_out : (log : Log) (moment : ℕ) (index : Index) (b : Batch) → Holds log moment index → MayFollow log b → Joins log moment index b
+pub joins_out : (log : Log) (moment : ℕ) (index : Index) (b : Batch) → ServerInvariant log moment index → MayFollow log b → Joins log moment index b
 joins_out log moment index b kept follows =
     let es = entries log in
     let sound = legal_is_sound log kept.legal in
@@ -260,7 +260,7 @@ joins_out log moment index b kept follows =
 abbrev JoinsAt : Index → ℕ × ℕ × List Entry → Type 0
 JoinsAt index x = MayJoinOn index (record { number = x.0; moment = x.1 }) x.2
 
-pub follows_by : (log : Log) (moment : ℕ) (index : Index) (b : Batch) (n m : ℕ) (es : List Entry) → Holds log moment index → n ≡ number log → m ≡ b.moment → es ≡ b.entries
+pub follows_by : (log : Log) (moment : ℕ) (index : Index) (b : Batch) (n m : ℕ) (es : List Entry) → ServerInvariant log moment index → n ≡ number log → m ≡ b.moment → es ≡ b.entries
     → b.first ≡ n + 1 → moment ≤ m → m ≤ moments.last_moment → MayJoinOn index (record { number = n; moment = m }) es ↔ MayFollow log b
 follows_by log moment index b n m es kept en em ee first later range = (
   λ h.

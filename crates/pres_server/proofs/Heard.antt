@@ -18,13 +18,13 @@ use Rattle.pres_log.specs.declared.entry.Entry.{Entry}
 use Rattle.pres_log.specs.declared.entry.Entry.TheVariants as entry
 use Rattle.pres_server.specs.declared.index.Index.{Index}
 use Rattle.pres_server.specs.Sessions.{session_of, has_open}
-use Rattle.pres_server.specs.Heard.{Heard, heard_last, heard_since, heard_again, heard_after, heard_after_all, first_client}
-use Rattle.pres_server.specs.Parts.{plan_after}
+use Rattle.pres_server.specs.ServerStates.{Heard, heard_last, heard_since, heard_again, heard_after, heard_after_all, first_client}
+use Rattle.pres_server.specs.InternalParts.{plan_after}
 use Rattle.pres_write.specs.Basics.{BasicWrite}
 use Rattle.pres_fan.specs.Listeners.{IsListeners, paths_of, touched}
-use Rattle.pres_server.specs.Places.{Session, moment_at, live_after, answered, heard_at, sent_to, sent_one}
-use Rattle.pres_server.specs.Pushes.{Reached, Standing, after_push, after_pushes}
-use Rattle.pres_server.specs.Index.{session_at, gone_at, part_at, sent_at, heard_in, Carries, Steps, Tells, Hears, Indexed}
+use Rattle.pres_server.specs.InternalSessions.{Session, moment_at, live_after, answered, heard_at, sent_to, sent_one}
+use Rattle.pres_server.specs.InternalPushes.{TouchedSession, Standing, after_push, after_pushes}
+use Rattle.pres_server.specs.InternalIndex.{session_at, gone_at, part_at, sent_at, heard_in, Carries, Steps, Tells, Hears, Indexed}
 use Rattle.pres_server.proofs.Readers.{has_open_is}
 use Rattle.pres_server.proofs.Since.{client_same, client_itself, client_sym}
 use Rattle.pres_server.proofs.AfterEntry.{clients_total, clients_apart, same_by_cmp}
@@ -84,14 +84,14 @@ other_after m (entry.On s q path) c heard h = again_other c s.client m heard h
 other_after m (entry.Off s q path) c heard h = again_other c s.client m heard h
 other_after m (entry.Ended s q why rows) c heard h = find_where c s.client heard false h
 
-moment_stepped : (live : Standing) (reached : Reached) (c : ClientId) → moment_at (after_push live reached c) ≡ moment_at (live c)
+moment_stepped : (live : Standing) (reached : TouchedSession) (c : ClientId) → moment_at (after_push live reached c) ≡ moment_at (live c)
 moment_stepped live reached c = by (same_client reached.0.client c) (live c) where
   by : (b : Bool) (o : Option Session) → moment_at (cond b (sent_one o) o) ≡ moment_at o
   by true None = refl
   by true (Some session) = refl
   by false o = refl
 
-moment_pushed : (live : Standing) (ts : List Reached) (c : ClientId) → moment_at (after_pushes live ts c) ≡ moment_at (live c)
+moment_pushed : (live : Standing) (ts : List TouchedSession) (c : ClientId) → moment_at (after_pushes live ts c) ≡ moment_at (live c)
 moment_pushed live [] c = refl
 moment_pushed live (t ∷ ts) c = moment_pushed (after_push live t) ts c ∙ moment_stepped live t c
 

@@ -9,9 +9,9 @@ use Rattle.pres_ids.specs.declared.id.SessionId.{SessionId}
 use Rattle.pres_log.specs.declared.entry.Entry.{Entry}
 use Rattle.pres_server.specs.declared.index.Index.{Index}
 use Rattle.pres_server.specs.Sessions.{open_entries, open_sessions}
-use Rattle.pres_server.specs.Parts.{Part, Sound, listed, session_with}
-use Rattle.pres_server.specs.Places.{Session, live_part, open_count}
-use Rattle.pres_server.specs.Index.{session_at, Indexed}
+use Rattle.pres_server.specs.InternalParts.{Part, Sound, listed, session_with}
+use Rattle.pres_server.specs.InternalSessions.{Session, live_part, open_count}
+use Rattle.pres_server.specs.InternalIndex.{session_at, Indexed}
 use Rattle.pres_server.proofs.AfterEntry.{clients_total, clients_apart, first_of_list, find_open, open_is_sorted}
 use Rattle.pres_server.proofs.Heard.{behind, behind_sorted, find_behind}
 

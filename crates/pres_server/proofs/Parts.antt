@@ -22,10 +22,10 @@ use Rattle.pres_server.specs.Streams.{own_answer, repeated_reply}
 use Rattle.pres_wire.specs.declared.down.Down.TheVariants.{Reply}
 use Rattle.std.proofs.lemmas.Option.{slice_get_cases}
 use Rattle.pres_server.specs.LegalLog.{MayCome}
-use Rattle.pres_server.specs.Invariants.{MayComeUncounted}
+use Rattle.pres_server.specs.InternalInvariants.{MayComeUncounted}
 use Rattle.pres_server.specs.SessionPlans.{actions_in}
 use Rattle.pres_plan.specs.Plans.{plan_of}
-use Rattle.pres_server.specs.Parts.{LivePart, Part, session_with, part_of, live_in, one_more, rows_step, part_step, Sound, listed, comes_after}
+use Rattle.pres_server.specs.InternalParts.{LivePart, Part, session_with, part_of, live_in, one_more, rows_step, part_step, Sound, listed, comes_after}
 use Rattle.pres_server.proofs.PlanSteps.{plan_own, plan_other}
 use Rattle.pres_server.proofs.Since.{after-append, after-cons, client_same, client_itself, client_sym, session_same, session_itself}
 use Rattle.pres_server.proofs.Steps.{In, or_false, any-filter, any-opened, is_open-append, is_open-same, open_listed, filter_alike, filter-filter, sessions_of-append, in_sessions, in_open, rows_for-append, count_own, count_other}

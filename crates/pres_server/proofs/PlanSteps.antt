@@ -5,7 +5,7 @@ use Rattle.std.proofs.lemmas.Grind.{flat_map-append}
 use Rattle.std.proofs.lemmas.List.Elements.{All-head, All-tail, All-cons, All-append, All-filter}
 use Rattle.pres_tree.specs.Paths.{Path}
 use Rattle.pres_tree.specs.Rows.{Rows}
-use Rattle.pres_write.specs.declared.draft.Slot.{Slot}
+use Rattle.pres_write.specs.declared.draft.DraftLeaf.{DraftLeaf}
 use Rattle.pres_ids.specs.declared.id.SessionId.{SessionId}
 use Rattle.pres_ids.specs.Ids.{same_session}
 use Rattle.pres_plan.specs.declared.row.PlanRow.{PlanRow}
@@ -16,7 +16,7 @@ use Rattle.pres_log.specs.declared.entry.Entry.{Entry}
 use Rattle.pres_log.specs.declared.entry.Entry.TheVariants as entry
 use Rattle.pres_server.specs.Sessions.{session_of, opens, own}
 use Rattle.pres_server.specs.SessionPlans.{actions_in, actions, plan}
-use Rattle.pres_server.specs.Parts.{plan_after}
+use Rattle.pres_server.specs.InternalParts.{plan_after}
 use Rattle.pres_server.proofs.Steps.{own-append}
 
 more_actions : (s : SessionId) (es : List Entry) (e : Entry) → list_any (opens s) es ≡ true → same_session s (session_of e) ≡ true → actions s (es ++ e ∷ []) ≡ actions s es ++ actions_in e
@@ -66,7 +66,7 @@ All-lasting P (r ∷ rows) h = by (is_left rows r) (All-head P r rows h) (All-la
 All-plan : (P : PlanRow → Type 0) (rows : List PlanRow) → All P rows → All P (plan_of rows)
 All-plan P rows h = All-filter (matters (lasting rows)) P (lasting rows) (All-lasting P rows h)
 
-puts_below : (q : ℕ) (places : List (Path × Rows Slot)) → All (Below (q + 1)) (puts q places)
+puts_below : (q : ℕ) (places : List (Path × Rows DraftLeaf)) → All (Below (q + 1)) (puts q places)
 puts_below q [] = λ i x small. absurd (omega arith)
 puts_below q (p ∷ places) = All-cons (Below (q + 1)) (record { q = q; action = Put p }) (puts q places) (omega arith) (puts_below q places)
 

@@ -14,10 +14,10 @@ use Rattle.pres_ids.specs.Ids.{ClientId, client_cmp, same_client}
 use Rattle.pres_wire.specs.Values.{Rising}
 use Rattle.pres_fan.specs.declared.listeners.Listener.{Listener}
 use Rattle.pres_fan.specs.Listeners.{is_touched, by_session, touched}
-use Rattle.pres_server.specs.declared.places.Places.{Places}
+use Rattle.pres_server.specs.declared.client_sessions.ClientSessions.{ClientSessions}
 use Rattle.pres_server.specs.Streams.{shown}
-use Rattle.pres_server.specs.Places.{sent_one}
-use Rattle.pres_server.specs.Pushes.{Reached, Standing, standing, after_push, push_to, pushes}
+use Rattle.pres_server.specs.InternalSessions.{sent_one}
+use Rattle.pres_server.specs.InternalPushes.{TouchedSession, Standing, standing, after_push, push_to, pushes}
 use Rattle.pres_server.proofs.Since.{client_same}
 use Rattle.pres_server.proofs.AfterEntry.{same_by_cmp}
 
@@ -28,7 +28,7 @@ shown_rises tree (p ∷ []) h = refl
 shown_rises tree (p ∷ q ∷ paths) h = and_from _ _ (ap is_lt (sorted_head path_cmp p (q ∷ paths) h).0) (shown_rises tree (q ∷ paths) (sorted_tail path_cmp p (q ∷ paths) h))
 
 -- the places after the Push are those that the map says
-pub stands_after : (t : Reached) (old new : Places) → Updates client_cmp old.live new.live t.0.client (sent_one (get client_cmp old.live t.0.client)) → standing new ≡ after_push (standing old) t
+pub stands_after : (t : TouchedSession) (old new : ClientSessions) → Updates client_cmp old.live new.live t.0.client (sent_one (get client_cmp old.live t.0.client)) → standing new ≡ after_push (standing old) t
 stands_after t old new step = λ i c. each c i where
   each : (c : ClientId) → standing new c ≡ after_push (standing old) t c
   each c = step.0 c ∙ by (same_client t.0.client c) refl where
@@ -42,7 +42,7 @@ stands_after t old new step = λ i c. each c i where
         ∙ sym (ap (λ b. cond b (sent_one (standing old c)) (standing old c)) k)
 
 -- what is left to be sent
-pub pushed_next : (z : ℕ) (tree : Rows Scalar) (live : Standing) (t : Reached) (more : List Reached) (outs next : List Down) (m : Down) → push_to z tree live t ≡ m ∷ [] → next ≡ outs ++ m ∷ []
+pub pushed_next : (z : ℕ) (tree : Rows Scalar) (live : Standing) (t : TouchedSession) (more : List TouchedSession) (outs next : List Down) (m : Down) → push_to z tree live t ≡ m ∷ [] → next ≡ outs ++ m ∷ []
     → next ++ pushes z tree (after_push live t) more ≡ outs ++ pushes z tree live (t ∷ more)
 pushed_next z tree live t more outs next m k e =
     let rest : List Down = pushes z tree (after_push live t) more in

@@ -12,8 +12,8 @@ use Rattle.pres_ids.specs.Ids.{ClientId, client_cmp, same_client, same_session}
 use Rattle.pres_fan.specs.Listeners.{session_cmp}
 use Rattle.pres_fan.specs.Laws.{some_paths}
 use Rattle.pres_fan.proofs.Orders.{same_by_cmp as same_by_session}
-use Rattle.pres_server.specs.Places.{Session, sent_one, MaySend}
-use Rattle.pres_server.specs.Pushes.{Reached, Standing, after_push, after_pushes, push_to, pushes, MayPush, MayPushAll}
+use Rattle.pres_server.specs.InternalSessions.{Session, sent_one, MaySend}
+use Rattle.pres_server.specs.InternalPushes.{TouchedSession, Standing, after_push, after_pushes, push_to, pushes, MayPush, MayPushAll}
 use Rattle.pres_server.proofs.Since.{client_same, client_sym, session_same}
 use Rattle.pres_server.proofs.AfterEntry.{same_by_cmp, by_client}
 
@@ -54,12 +54,12 @@ none_below c d (s ∷ ss) k h =
 
 -- ---- who is reached
 
-abbrev pub reach : List Path → SessionId → List Reached → List Reached
+abbrev pub reach : List Path → SessionId → List TouchedSession → List TouchedSession
 reach [] s rest = rest
 reach (p ∷ paths) s rest = (s, p ∷ paths) ∷ rest
 
 -- those of whose paths some are touched, with these paths
-abbrev pub reached : (SessionId → List Path) → List SessionId → List Reached
+abbrev pub reached : (SessionId → List Path) → List SessionId → List TouchedSession
 reached g [] = []
 reached g (s ∷ ss) = reach (g s) s (reached g ss)
 

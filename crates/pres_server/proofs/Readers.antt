@@ -8,9 +8,9 @@ use Rattle.pres_ids.specs.Ids.{ClientId, stamp_of}
 use Rattle.pres_log.specs.declared.entry.Entry.{Entry}
 use Rattle.pres_server.specs.declared.index.Index.{Index}
 use Rattle.pres_server.specs.Sessions.{is_open, count, has_open, sessions_of, open_sessions_of}
-use Rattle.pres_server.specs.Parts.{Part, LivePart, Sound, part_of, live_in, is_live, count_in, listed, session_with}
-use Rattle.pres_server.specs.Places.{Session, moment_at, stamp_at, live_part}
-use Rattle.pres_server.specs.Index.{session_at, part_at, Indexed}
+use Rattle.pres_server.specs.InternalParts.{Part, LivePart, Sound, part_of, live_in, is_live, count_in, listed, session_with}
+use Rattle.pres_server.specs.InternalSessions.{Session, moment_at, stamp_at, live_part}
+use Rattle.pres_server.specs.InternalIndex.{session_at, part_at, Indexed}
 use Rattle.pres_server.proofs.Parts.{only_open}
 use Rattle.pres_server.proofs.Decide.{live_is, stamp_itself}
 

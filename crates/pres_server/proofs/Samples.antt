@@ -2,7 +2,7 @@
 use Rattle.std.proofs.Common.{refl, ◌≡◌, ℕ, List, [], ◌∷◌, Some, None, codes, pos}
 use Rattle.pres_tree.specs.declared.scalar.Scalar.TheVariants.{Int}
 use Rattle.pres_tree.specs.Paths.{Path}
-use Rattle.pres_write.specs.declared.draft.Slot.TheVariants.{Fixed}
+use Rattle.pres_write.specs.declared.draft.DraftLeaf.TheVariants.{Fixed}
 use Rattle.pres_write.specs.declared.op.Op.{Op}
 use Rattle.pres_write.specs.declared.op.Op.TheVariants.{Set}
 use Rattle.pres_write.specs.declared.outcome.Outcome.{Outcome}
@@ -19,7 +19,7 @@ use Rattle.pres_log.specs.declared.fault.Fault.TheVariants as fault
 use Rattle.pres_log.specs.Logs.{Log, entries, tree}
 use Rattle.pres_server.specs.declared.input.Input.{Input}
 use Rattle.pres_server.specs.declared.input.Input.TheVariants as input
-use Rattle.pres_server.specs.Heard.{State}
+use Rattle.pres_server.specs.ServerStates.{ServerState}
 use Rattle.pres_server.specs.Turns.{refused, quiet, makes, moment_of, turn, log_after}
 use Rattle.pres_server.specs.Streams.{answers}
 use Rattle.pres_server.specs.LegalLog.{IsLegal}
@@ -38,7 +38,7 @@ abbrev wrote_a : Outcome
 wrote_a = Wrote (basic at_a (([], Int (pos 1)) ∷ []) ∷ [])
 
 -- a server with the log, whose clients were not heard of
-abbrev state : Log → State
+abbrev state : Log → ServerState
 state log = record { log = log; heard = [] }
 
 -- the log after an input, whose batch is committed

@@ -10,8 +10,8 @@ use Rattle.pres_server.specs.Sessions.{session_of, opened, opens, ends, is_open,
 use Rattle.pres_server.specs.Outcomes.{ops}
 use Rattle.pres_server.specs.Listening.{touched}
 use Rattle.pres_server.specs.Streams.{Unnumbered, push_of, own_answer, sent_from, numbered_from, stream}
-use Rattle.pres_server.specs.Parts.{sent_in, sent_of, Sound}
-use Rattle.pres_server.specs.Invariants.{MayComeUncounted}
+use Rattle.pres_server.specs.InternalParts.{sent_in, sent_of, Sound}
+use Rattle.pres_server.specs.InternalInvariants.{MayComeUncounted}
 use Rattle.pres_server.proofs.Since.{client_same, client_itself, client_sym, session_itself}
 use Rattle.pres_server.proofs.StreamSteps.{stream_step, length-numbered_from}
 use Rattle.pres_server.proofs.Steps.{In, in_open}

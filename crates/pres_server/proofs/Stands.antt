@@ -8,7 +8,7 @@ use Rattle.pres_tree.specs.Rows.{Rows, Fits, Holds, is_null, rows_in, option_of}
 use Rattle.pres_tree.specs.Writes.{write, after}
 use Rattle.pres_tree.proofs.Last.{tree_grows}
 use Rattle.pres_write.specs.Basics.{BasicWrite, FitsThere, applied, write_of}
-use Rattle.pres_server.specs.Growth.{puts_by, StandsIn, MayBeLast, MayStand}
+use Rattle.pres_server.specs.InternalGrowth.{puts_by, StandsIn, MayBeLast, MayStand}
 use Rattle.pres_server.proofs.Rewritten.{puts_near, removed_last, held_over}
 
 near : (p : Path) (ws : List BasicWrite) → list_any (puts_near p) (map write_of ws) ≡ list_any (puts_by p) ws

@@ -20,14 +20,14 @@ use Rattle.pres_log.specs.declared.entry.Entry.TheVariants as entry
 use Rattle.pres_log.specs.Logs.{tree, writes}
 use Rattle.pres_log.proofs.Entries.{tree-append}
 use Rattle.pres_server.specs.declared.index.Index.{Index}
-use Rattle.pres_server.specs.declared.places.Places.{Places}
+use Rattle.pres_server.specs.declared.client_sessions.ClientSessions.{ClientSessions}
 use Rattle.pres_server.specs.Sessions.{is_open, open_sessions_of}
 use Rattle.pres_server.specs.Listening.{listened, touched}
 use Rattle.pres_server.specs.Streams.{stream, push_of}
-use Rattle.pres_server.specs.Parts.{Part, Sound, part_of, part_step, sent_in, sent_of}
-use Rattle.pres_server.specs.Invariants.{MayTakeAll}
-use Rattle.pres_server.specs.Places.{Session, began, sent_to}
-use Rattle.pres_server.specs.Index.{session_at, gone_at, part_at, sent_at, paths_at, Carries, Indexed}
+use Rattle.pres_server.specs.InternalParts.{Part, Sound, part_of, part_step, sent_in, sent_of}
+use Rattle.pres_server.specs.InternalInvariants.{MayTakeAll}
+use Rattle.pres_server.specs.InternalSessions.{Session, began, sent_to}
+use Rattle.pres_server.specs.InternalIndex.{session_at, gone_at, part_at, sent_at, paths_at, Carries, Indexed}
 use Rattle.pres_server.proofs.Parts.{part_after}
 use Rattle.pres_server.proofs.AfterEntry.{sound_after, same_by_cmp}
 use Rattle.pres_server.proofs.Sent.{push_count, sent_between, sent_after}
@@ -63,7 +63,7 @@ rows_ended true z s q why due p = refl
 rows_ended false z s q why due p = refl
 
 -- the places after them
-pub record Supersedes (t : SessionId) (m : ℕ) (old new : Places) : Type 0 where
+pub record Supersedes (t : SessionId) (m : ℕ) (old new : ClientSessions) : Type 0 where
   pub live : Updates client_cmp old.live new.live t.client (Some (began (stamp_of t) m))
   pub gone : new.gone ≡ old.gone
 

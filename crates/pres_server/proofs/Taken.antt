@@ -21,7 +21,7 @@ use Rattle.pres_ids.specs.Numbers.{greatest_number}
 use Rattle.pres_session.specs.declared.gone.Gone.{Gone}
 use Rattle.pres_retry.specs.declared.table.Row.{Row}
 use Rattle.pres_retry.specs.Tables.{Table, row, rows_of}
-use Rattle.pres_retry.specs.Verdicts.{verdict, told_row, again, fresh, gap}
+use Rattle.pres_retry.specs.Verdicts.{verdict, row_status, again, fresh, gap}
 use Rattle.pres_retry.proofs.Records.{rows_of_recorded}
 use Rattle.pres_fan.specs.declared.listeners.Listener.{Listener}
 use Rattle.pres_fan.specs.Listeners.{IsListeners, most_paths, listener_cmp, listener_of, paths_of, add_path, with_listener, without, without_session}
@@ -33,16 +33,16 @@ use Rattle.pres_log.specs.declared.entry.Entry.TheVariants as entry
 use Rattle.pres_log.specs.Logs.{tree, writes_of}
 use Rattle.pres_wire.specs.declared.down.Down.{Down}
 use Rattle.pres_server.specs.declared.index.Index.{Index}
-use Rattle.pres_server.specs.declared.index.Made.{Made}
+use Rattle.pres_server.specs.declared.index.LogPosition.{LogPosition}
 use Rattle.pres_server.specs.Sessions.{session_of, opens, ends, is_open, is_newest, count, open_sessions_of}
 use Rattle.pres_server.specs.Listening.{listens_after, listened, touched}
 use Rattle.pres_server.specs.Streams.{stream, answers_to}
 use Rattle.pres_server.specs.SessionPlans.{plan}
-use Rattle.pres_server.specs.Parts.{Part, LivePart, Sound, IsAsked, plan_after, rows_step, part_of, part_step, live_in, sent_of, answer_by, comes_after}
-use Rattle.pres_server.specs.Invariants.{MayComeUncounted, MayComeInTurn, MayTakeAll}
-use Rattle.pres_server.specs.Places.{Session, last_stamp, live_part, sent_to, answered, live_after, gone_after, HasRoom, MayLeaveAt, AreDueAt, MayOpen}
-use Rattle.pres_server.specs.Pushes.{pushes}
-use Rattle.pres_server.specs.Index.{session_at, gone_at, part_at, sent_at, paths_at, retry_after, listeners_after, GoneSteps, Carries, Steps, Takes, MayTake, MayCarry, Indexed}
+use Rattle.pres_server.specs.InternalParts.{Part, LivePart, Sound, IsAsked, plan_after, rows_step, part_of, part_step, live_in, sent_of, answer_by, comes_after}
+use Rattle.pres_server.specs.InternalInvariants.{MayComeUncounted, MayComeInTurn, MayTakeAll}
+use Rattle.pres_server.specs.InternalSessions.{Session, last_stamp, live_part, sent_to, answered, live_after, gone_after, HasRoom, MayLeaveAt, AreDueAt, MayOpen}
+use Rattle.pres_server.specs.InternalPushes.{pushes}
+use Rattle.pres_server.specs.InternalIndex.{session_at, gone_at, part_at, sent_at, paths_at, retry_after, listeners_after, GoneSteps, Carries, Steps, TakesEntry, MayTake, MayCarry, Indexed}
 use Rattle.pres_server.proofs.Since.{client_same, client_itself, session_same, session_itself}
 use Rattle.pres_server.proofs.Steps.{is_open-append, is_open-same}
 use Rattle.pres_server.proofs.Sorted.{sorted_put}
@@ -121,8 +121,8 @@ not_zero n h = grind (arith, nat_tests)
 
 is_again : (n : ℕ) (rows : List Row) (kept : Row) → 1 ≤ n → n ≤ length rows → slice_get rows (n - 1) ≡ Some kept → verdict n rows ≡ again kept
 is_again n rows kept low high k =
-    (λ i. cond (not_zero n low i) gap (cond (not_next n (length rows) high i) fresh (told_row (slice_get rows (n - 1)))))
-    ∙ ap told_row k
+    (λ i. cond (not_zero n low i) gap (cond (not_next n (length rows) high i) fresh (row_status (slice_get rows (n - 1)))))
+    ∙ ap row_status k
 
 -- an open session may listen to what its next message asks for
 listens_there : (es : List Entry) (s : SessionId) (q : ℕ) (path : Path) (index : Index) → Between es (entry.On s q path) index → is_open s es ≡ true
@@ -472,7 +472,7 @@ first_answered es z m xs e more old mid k f carried =
     ++ answer_by (sym f.next i) e (sym (ap (λ (p : Part). p.rows) (ix.parts c)) i) (sym (ix.sent c) i) (sym ix.tree i))
 
 -- what taking the first of them in adds to the answers
-pub first_added : (es : List Entry) (xs : List Entry) (e : Entry) (more : List Entry) (old new : Index) (made : Made) (before after : List Down) → xs ≡ e ∷ more → MayTakeAll es made.number made.moment xs old
-    → Takes made e old new before after → after ≡ before ++ answers_to es e
+pub first_added : (es : List Entry) (xs : List Entry) (e : Entry) (more : List Entry) (old new : Index) (made : LogPosition) (before after : List Down) → xs ≡ e ∷ more → MayTakeAll es made.number made.moment xs old
+    → TakesEntry made e old new before after → after ≡ before ++ answers_to es e
 first_added es xs e more old new made before after k f taken =
     taken.answers ∙ ap (λ l. before ++ l) (sym (first_answered es made.number made.moment xs e more old taken.between k f taken.carried))

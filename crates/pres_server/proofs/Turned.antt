@@ -12,48 +12,48 @@ use Rattle.pres_server.specs.declared.index.Index.{Index}
 use Rattle.pres_server.specs.declared.input.Input.{Input}
 use Rattle.pres_server.specs.LegalLog.{MayFollow}
 use Rattle.pres_server.specs.Turns.{moment_of, wanted, turn, batch_of}
-use Rattle.pres_server.specs.Parts.{wanted_by, limited_by}
-use Rattle.pres_server.specs.Heard.{State, heard_after_all}
-use Rattle.pres_server.specs.Index.{part_at, paths_at, heard_in, Indexed, Tells}
-use Rattle.pres_server.specs.Invariants.{MayTakeAll, Holds}
+use Rattle.pres_server.specs.InternalParts.{wanted_by, limited_by}
+use Rattle.pres_server.specs.ServerStates.{ServerState, heard_after_all}
+use Rattle.pres_server.specs.InternalIndex.{part_at, paths_at, heard_in, Indexed, Tells}
+use Rattle.pres_server.specs.InternalInvariants.{MayTakeAll, ServerInvariant}
 use Rattle.pres_server.specs.Sessions.{open_sessions}
-use Rattle.pres_server.specs.Places.{open_count}
+use Rattle.pres_server.specs.InternalSessions.{open_count}
 use Rattle.pres_server.proofs.OpenList.{open_count_is}
 use Rattle.pres_server.proofs.Decide.{wanted_is, wanted_allowed, limited_is}
 use Rattle.pres_server.proofs.Whole.{legal_is_sound, legal_leaves_room, legal_after, follows_in_turn}
-use Rattle.pres_server.specs.Parts.{Part}
+use Rattle.pres_server.specs.InternalParts.{Part}
 use Rattle.pres_server.proofs.AfterEntry.{open_counted}
 use Rattle.pres_server.proofs.Heard.{heard_is, heard_sorted, sorted_after_all}
 
-pub count_is : (log : Log) (moment : ℕ) (index : Index) → Holds log moment index → open_count index.places ≡ length (open_sessions (entries log))
+pub count_is : (log : Log) (moment : ℕ) (index : Index) → ServerInvariant log moment index → open_count index.places ≡ length (open_sessions (entries log))
 count_is log moment index kept = open_count_is (entries log) index kept.indexed (legal_is_sound log kept.legal) kept.ordered
 
 -- the numbers are far from the last one
-pub number_small : (log : Log) (moment : ℕ) (index : Index) → Holds log moment index → number log < 2 ^ 53
+pub number_small : (log : Log) (moment : ℕ) (index : Index) → ServerInvariant log moment index → number log < 2 ^ 53
 number_small log moment index kept = let room = legal_leaves_room log kept.legal in omega arith
 
-pub open_small : (log : Log) (moment : ℕ) (index : Index) → Holds log moment index → open_count index.places < 2 ^ 53
+pub open_small : (log : Log) (moment : ℕ) (index : Index) → ServerInvariant log moment index → open_count index.places < 2 ^ 53
 open_small log moment index kept =
     let room = legal_leaves_room log kept.legal in
     let count = count_is log moment index kept in
     omega arith
 
 -- an open session is counted
-pub counted : (log : Log) (moment : ℕ) (index : Index) → Holds log moment index → (c : ClientId) → IsSome (part_at index c).live → 0 < open_count index.places
+pub counted : (log : Log) (moment : ℕ) (index : Index) → ServerInvariant log moment index → (c : ClientId) → IsSome (part_at index c).live → 0 < open_count index.places
 counted log moment index kept c h =
     let n = open_counted c (entries log) (sym (ap (λ (p : Part). is_some p.live) (kept.indexed.parts c)) ∙ h) in
     let count = count_is log moment index kept in
     omega arith
 
-pub moment_is : (log : Log) (moment now : ℕ) (index : Index) → Holds log moment index → now ≤ moments.last_moment → max moment now ≡ moment_of log now
+pub moment_is : (log : Log) (moment now : ℕ) (index : Index) → ServerInvariant log moment index → now ≤ moments.last_moment → max moment now ≡ moment_of log now
 moment_is log moment now index kept low = let last = kept.last in omega arith
 
 -- what the server says of itself
-abbrev pub told : Log → Index → State
+abbrev pub told : Log → Index → ServerState
 told log index = record { log = log; heard = heard_in index }
 
 -- what the index decides is the turn
-pub turned : (log : Log) (moment now : ℕ) (index : Index) (i : Input) → Holds log moment index → now ≤ moments.last_moment
+pub turned : (log : Log) (moment now : ℕ) (index : Index) (i : Input) → ServerInvariant log moment index → now ≤ moments.last_moment
     → turn (told log index) i now ≡ limited_by (number log) (open_count index.places) (wanted_by (part_at index) (paths_at index) (heard_in index) index.tree (max moment now) i)
 turned log moment now index i kept low =
     let es = entries log in
@@ -66,7 +66,7 @@ turned log moment now index i kept low =
 
 -- ---- the commit
 
-pub fitting : (log : Log) (moment : ℕ) (index : Index) (b : Batch) → Holds log moment index → MayFollow log b → MayTakeAll (entries log) b.first b.moment b.entries index
+pub fitting : (log : Log) (moment : ℕ) (index : Index) (b : Batch) → ServerInvariant log moment index → MayFollow log b → MayTakeAll (entries log) b.first b.moment b.entries index
 fitting log moment index b kept follows =
     let room = follows.room in
     let both = length-append (entries log) b.entries in
@@ -78,7 +78,7 @@ fitting log moment index b kept follows =
       room = omega arith;
     }
 
-pub kept_after : (log : Log) (moment : ℕ) (index new : Index) (b : Batch) → Holds log moment index → MayFollow log b → Indexed (entries log ++ b.entries) new → IsOrdered client_cmp new.places.live → Holds (log ++ b ∷ []) b.moment new
+pub kept_after : (log : Log) (moment : ℕ) (index new : Index) (b : Batch) → ServerInvariant log moment index → MayFollow log b → Indexed (entries log ++ b.entries) new → IsOrdered client_cmp new.places.live → ServerInvariant (log ++ b ∷ []) b.moment new
 kept_after log moment index new b kept follows ix ordered =
     let last = last_moment-push log b in
     let later = follows.not_earlier in

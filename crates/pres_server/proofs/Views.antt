@@ -26,7 +26,7 @@ use Rattle.pres_log.specs.Logs.{tree, writes, writes_of}
 use Rattle.pres_server.specs.Sessions.{session_of, opens, ends, since_open}
 use Rattle.pres_server.specs.Listening.{listens_after, listened, touched}
 use Rattle.pres_server.specs.Streams.{Unnumbered, shown, push_of, repeated_reply, own_answer, sent_for, sent_from, numbered_from, stream}
-use Rattle.pres_wire.specs.Views.{value_in, told, seen, seen_in}
+use Rattle.pres_wire.specs.Views.{value_in, value_told, seen, seen_in}
 use Rattle.pres_server.specs.Laws.{TellsTheTree, StreamTells, unlistens, snap_of, ViewsAreTrue}
 use Rattle.pres_server.proofs.Since.{session_itself, not_ended_since, any-append, split_at_open}
 use Rattle.pres_server.proofs.StreamSteps.{stream-append, stream_unopened, numbered_from-append}
@@ -90,7 +90,7 @@ still_listens s p es e o n h = by (same_session s (session_of e)) refl where
 
 -- its number is that of the entry, and it tells nothing of p or what stands there now
 abbrev TellsNow : Path → List Entry → Unnumbered → Type 0
-TellsNow p now m = (r : ℕ) → (number_in (m r) ≡ length now) × ((told p (m r) ≡ None) ⊎ (told p (m r) ≡ Some (value_at p (tree now))))
+TellsNow p now m = (r : ℕ) → (number_in (m r) ≡ length now) × ((value_told p (m r) ≡ None) ⊎ (value_told p (m r) ≡ Some (value_at p (tree now))))
 
 value_made : (p : Path) (t : Rows Scalar) (paths : List Path) → (value_in p (map (shown t) paths) ≡ None) ⊎ (value_in p (map (shown t) paths) ≡ Some (value_at p t))
 value_made p t [] = inl refl
@@ -151,7 +151,7 @@ some_same v w k = ap (λ o. unwrap_or o v) k
 tells_all : (p : Path) (all now : List Entry) (r : ℕ) (ms : List Unnumbered) → take (length now) all ≡ now → AllByRecursion (TellsNow p now) ms → AllByRecursion (TellsTheTree p all) (numbered_from r ms)
 tells_all p all now r [] t h = tt
 tells_all p all now r (m ∷ ms) t h = ((λ value k. by value (h.0 r).1 k ∙ sym (ap (λ es. value_at p (tree es)) (ap (λ z. take z all) (h.0 r).0 ∙ t))), tells_all p all now (r + 1) ms t h.1) where
-  by : (value : Rows Scalar) → (told p (m r) ≡ None) ⊎ (told p (m r) ≡ Some (value_at p (tree now))) → told p (m r) ≡ Some value → value ≡ value_at p (tree now)
+  by : (value : Rows Scalar) → (value_told p (m r) ≡ None) ⊎ (value_told p (m r) ≡ Some (value_at p (tree now))) → value_told p (m r) ≡ Some value → value ≡ value_at p (tree now)
   by value (inl e) k = let no : ◌≡◌ {A = Option (Rows Scalar)} None (Some value) = sym e ∙ k in absurd (cc)
   by value (inr e) k = some_same value (value_at p (tree now)) (sym k ∙ e)
 
@@ -186,18 +186,18 @@ told_or v (Some w) = w
 
 -- after one more message: its number, and the value that it tells, or else the one before
 abbrev see : Path → View → Down → View
-see p view m = (number_in m, told_or view.1 (told p m))
+see p view m = (number_in m, told_or view.1 (value_told p m))
 
-seen_fold : (p : Path) (m : Down) (w : Rows Scalar) (ms : List Down) → seen (last_or (Some m) ms) (last_or (Some w) (filter_map (told p) ms)) ≡ Some (fold (see p) (number_in m, w) ms)
+seen_fold : (p : Path) (m : Down) (w : Rows Scalar) (ms : List Down) → seen (last_or (Some m) ms) (last_or (Some w) (filter_map (value_told p) ms)) ≡ Some (fold (see p) (number_in m, w) ms)
 seen_fold p m w [] = refl
-seen_fold p m w (x ∷ ms) = by (told p x) (λ o. seen_fold p x o ms) where
-  by : (o : Option (Rows Scalar)) → ((u : Rows Scalar) → seen (last_or (Some x) ms) (last_or (Some u) (filter_map (told p) ms)) ≡ Some (fold (see p) (number_in x, u) ms))
-      → seen (last_or (Some x) ms) (last_or (Some w) (cons_option o (filter_map (told p) ms))) ≡ Some (fold (see p) (number_in x, told_or w o) ms)
+seen_fold p m w (x ∷ ms) = by (value_told p x) (λ o. seen_fold p x o ms) where
+  by : (o : Option (Rows Scalar)) → ((u : Rows Scalar) → seen (last_or (Some x) ms) (last_or (Some u) (filter_map (value_told p) ms)) ≡ Some (fold (see p) (number_in x, u) ms))
+      → seen (last_or (Some x) ms) (last_or (Some w) (cons_option o (filter_map (value_told p) ms))) ≡ Some (fold (see p) (number_in x, told_or w o) ms)
   by None f = f w
   by (Some u) f = f u
 
-view_fold : (p : Path) (m : Down) (w : Rows Scalar) (ms : List Down) → told p m ≡ Some w → seen_in p (m ∷ ms) ≡ Some (fold (see p) (number_in m, w) ms)
-view_fold p m w ms e = ap (λ o. seen (last_or (Some m) ms) (last_or None (cons_option o (filter_map (told p) ms)))) e ∙ seen_fold p m w ms
+view_fold : (p : Path) (m : Down) (w : Rows Scalar) (ms : List Down) → value_told p m ≡ Some w → seen_in p (m ∷ ms) ≡ Some (fold (see p) (number_in m, w) ms)
+view_fold p m w ms e = ap (λ o. seen (last_or (Some m) ms) (last_or None (cons_option o (filter_map (value_told p) ms)))) e ∙ seen_fold p m w ms
 
 -- the view is the value at its number
 abbrev IsTrueView : Path → List Entry → View → Type 0
@@ -224,9 +224,9 @@ along-take p all view (m ∷ ms) (suc k) h = along-take p all (see p view m) ms 
 
 -- a message of the last entry tells what stands now, where the view does already or the message says it
 sees_now : (p : Path) (all now : List Entry) (view : View) (m : Down) → take (length now) all ≡ now → number_in m ≡ length now
-    → ((told p m ≡ None) × (view.1 ≡ value_at p (tree now))) ⊎ (told p m ≡ Some (value_at p (tree now))) → IsNow p all now (see p view m)
+    → ((value_told p m ≡ None) × (view.1 ≡ value_at p (tree now))) ⊎ (value_told p m ≡ Some (value_at p (tree now))) → IsNow p all now (see p view m)
 sees_now p all now view m t n h = (value h, value h ∙ sym (ap (λ es. value_at p (tree es)) (ap (λ k. take k all) n ∙ t))) where
-  value : ((told p m ≡ None) × (view.1 ≡ value_at p (tree now))) ⊎ (told p m ≡ Some (value_at p (tree now))) → told_or view.1 (told p m) ≡ value_at p (tree now)
+  value : ((value_told p m ≡ None) × (view.1 ≡ value_at p (tree now))) ⊎ (value_told p m ≡ Some (value_at p (tree now))) → told_or view.1 (value_told p m) ≡ value_at p (tree now)
   value (inl k) = ap (told_or view.1) k.0 ∙ k.1
   value (inr k) = ap (told_or view.1) k
 
@@ -236,7 +236,7 @@ along_now p all now view r [] t h v = (v.1, v)
 along_now p all now view r (m ∷ ms) t h v =
     let rest = along_now p all now (see p view (m r)) (r + 1) ms t h.1 (sees_now p all now view (m r) t (h.0 r).0 (ready (h.0 r).1)) in
     ((v.1, rest.0), rest.1) where
-      ready : (told p (m r) ≡ None) ⊎ (told p (m r) ≡ Some (value_at p (tree now))) → ((told p (m r) ≡ None) × (view.1 ≡ value_at p (tree now))) ⊎ (told p (m r) ≡ Some (value_at p (tree now)))
+      ready : (value_told p (m r) ≡ None) ⊎ (value_told p (m r) ≡ Some (value_at p (tree now))) → ((value_told p (m r) ≡ None) × (view.1 ≡ value_at p (tree now))) ⊎ (value_told p (m r) ≡ Some (value_at p (tree now)))
       ready (inl e) = inl (e, v.0)
       ready (inr e) = inr e
 

@@ -16,7 +16,7 @@ use Rattle.pres_log.specs.Batches.{may_hold}
 use Rattle.pres_log.specs.Logs.{Log, entries, last_moment}
 use Rattle.pres_log.proofs.Entries.{entries-push, last_moment-push}
 use Rattle.pres_server.specs.declared.input.Input.{Input}
-use Rattle.pres_server.specs.Heard.{State}
+use Rattle.pres_server.specs.ServerStates.{ServerState}
 use Rattle.pres_server.specs.Sessions.{session_of, opened, opens, ends, since_open, is_open, count, open_sessions}
 use Rattle.pres_server.specs.Listening.{touched}
 use Rattle.pres_server.specs.Streams.{stream, push_of, sent_for, sent_from, own_answer, repeated_reply}
@@ -26,8 +26,8 @@ use Rattle.pres_server.specs.SessionPlans.{due_at}
 use Rattle.pres_server.specs.Laws.{TurnIsLegal, LegalIsSound, EndsAreDue}
 use Rattle.pres_ids.specs.declared.id.Why.{Why}
 use Rattle.pres_write.specs.declared.basic.Basic.{Basic}
-use Rattle.pres_server.specs.Invariants.{MayComeInTurn}
-use Rattle.pres_server.specs.Parts.{Sound}
+use Rattle.pres_server.specs.InternalInvariants.{MayComeInTurn}
+use Rattle.pres_server.specs.InternalParts.{Sound}
 use Rattle.pres_server.proofs.StreamSteps.{length-numbered_from}
 use Rattle.pres_server.proofs.Parts.{uncounted}
 use Rattle.pres_server.proofs.AfterEntry.{sound_start, sound_after, length_open, by_client, sorted_is}
@@ -214,7 +214,7 @@ ends_are_due earlier later b legal s q why rows more k =
 -- ---- turns
 
 -- what a turn makes may follow
-pub may_follow : (state : State) (i : Input) (now : ℕ) (xs : List Entry) → IsLegal state.log → turn state i now ≡ makes xs → MayFollow state.log (batch_of state.log (moment_of state.log now) xs)
+pub may_follow : (state : ServerState) (i : Input) (now : ℕ) (xs : List Entry) → IsLegal state.log → turn state i now ≡ makes xs → MayFollow state.log (batch_of state.log (moment_of state.log now) xs)
 may_follow state i now xs legal e =
     let log = state.log in
     let es = entries log in
@@ -223,7 +223,7 @@ may_follow state i now xs legal e =
     let range = legal_in_range log legal in
     record { first = refl; not_earlier = omega arith; in_range = omega arith; allowed = full.0; room = full.1 }
 
-pub turn_is_legal : (state : State) (i : Input) (now : ℕ) → TurnIsLegal state i now
+pub turn_is_legal : (state : ServerState) (i : Input) (now : ℕ) → TurnIsLegal state i now
 turn_is_legal state i now legal = by (turn state i now) refl where
   m : ℕ
   m = moment_of state.log now

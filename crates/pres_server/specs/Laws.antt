@@ -16,18 +16,18 @@ use Rattle.pres_log.specs.declared.entry.Entry.{Entry}
 use Rattle.pres_log.specs.declared.entry.Entry.TheVariants as entry
 use Rattle.pres_log.specs.Logs.{Log, entries, tree}
 use Rattle.pres_server.specs.declared.input.Input.{Input}
-use Rattle.pres_server.specs.Heard.{State}
+use Rattle.pres_server.specs.ServerStates.{ServerState}
 use Rattle.pres_server.specs.Sessions.{is_open, own}
 use Rattle.pres_server.specs.Listening.{listened}
 use Rattle.pres_server.specs.SessionPlans.{due_at}
 use Rattle.pres_server.specs.Streams.{stream, sent_for, numbered_from}
-use Rattle.pres_wire.specs.Views.{told, seen_in}
+use Rattle.pres_wire.specs.Views.{value_told, seen_in}
 use Rattle.pres_server.specs.LegalLog.{IsLegal}
 use Rattle.pres_server.specs.Turns.{moment_of, turn, log_after}
-use Rattle.pres_server.specs.Parts.{Sound}
+use Rattle.pres_server.specs.InternalParts.{Sound}
 
 -- A turn on a legal log leaves a legal log.
-abbrev pub TurnIsLegal : State → Input → ℕ → Type 0
+abbrev pub TurnIsLegal : ServerState → Input → ℕ → Type 0
 TurnIsLegal state input now = IsLegal state.log → IsLegal (log_after state.log (moment_of state.log now) (turn state input now))
 
 -- After a legal log a client has at most one open session, and its last one is its newest.
@@ -50,7 +50,7 @@ EndsAreDue earlier batch later =
 
 -- The value that a message of a stream tells of a path is the value there after as many entries as its number says.
 abbrev pub TellsTheTree : Path → List Entry → Down → Type 0
-TellsTheTree p es m = (value : Rows Scalar) → told p m ≡ Some value → value ≡ value_at p (tree (take (number_in m) es))
+TellsTheTree p es m = (value : Rows Scalar) → value_told p m ≡ Some value → value ≡ value_at p (tree (take (number_in m) es))
 
 abbrev pub StreamTells : SessionId → Path → List Entry → Type 0
 StreamTells s p es = AllByRecursion (TellsTheTree p es) (stream s es)

@@ -6,14 +6,14 @@ use Rattle.pres_server.specs.declared.replay.ReplayFault.{ReplayFault}
 use Rattle.pres_server.specs.declared.replay.ReplayFault.TheVariants.{Memory, NotLegal}
 use Rattle.pres_server.specs.Sessions.{open_entries}
 use Rattle.pres_server.specs.LegalLog.{MayFollow, IsLegal}
-use Rattle.pres_server.specs.Heard.{Heard, State}
+use Rattle.pres_server.specs.ServerStates.{Heard, ServerState}
 
 -- the client of each open session counts as heard of at the log's greatest moment
 abbrev pub heard_anew : Log → Heard
 heard_anew log = map (λ e. (e.0, last_moment log)) (open_entries (entries log))
 
 -- the server that is made from a log
-abbrev pub made_from : Log → State
+abbrev pub made_from : Log → ServerState
 made_from log = record { log = log; heard = heard_anew log }
 
 -- why a batch isn't added to a log

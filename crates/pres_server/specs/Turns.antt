@@ -17,7 +17,7 @@ use Rattle.pres_wire.specs.declared.down.Limit.TheVariants as limit
 use Rattle.pres_ids.specs.Ids.{ClientId, stamp_of}
 use Rattle.pres_plan.specs.Plans.{most_rows}
 use Rattle.pres_fan.specs.Listeners.{most_paths}
-use Rattle.pres_retry.specs.Verdicts.{verdict, Told, fresh, again, gap}
+use Rattle.pres_retry.specs.Verdicts.{verdict, WriteStatus, fresh, again, gap}
 use Rattle.pres_log.specs.declared.entry.Entry.{Entry}
 use Rattle.pres_log.specs.declared.entry.Entry.TheVariants as entry
 use Rattle.pres_log.specs.declared.fault.Fault.{Fault}
@@ -30,9 +30,9 @@ use Rattle.pres_server.specs.Listening.{listened}
 use Rattle.pres_log.specs.declared.entry.Batch.{Batch}
 use Rattle.pres_server.specs.declared.input.Input.{Input}
 use Rattle.pres_server.specs.declared.input.Input.TheVariants as input
-use Rattle.pres_server.specs.Heard.{heard_from, heard_of, heard_after_all, late_client, State}
-use Rattle.pres_server.specs.declared.turn.Step.{Step}
-use Rattle.pres_server.specs.declared.turn.Step.TheVariants as step
+use Rattle.pres_server.specs.ServerStates.{heard_from, heard_of, heard_after_all, late_client, ServerState}
+use Rattle.pres_server.specs.declared.turn.TurnEffect.{TurnEffect}
+use Rattle.pres_server.specs.declared.turn.TurnEffect.TheVariants as step
 use Rattle.pres_server.specs.declared.server.Turn.{Turn}
 use Rattle.pres_server.specs.declared.server.Turn.TheVariants as turn_is
 
@@ -79,7 +79,7 @@ abbrev pub within_paths : ℕ → SessionId → ℕ → Path → Decision
 within_paths paths s q path = makes ((if nat_le paths most_paths then entry.On s q path else entry.Denied s q limit.Listens) ∷ [])
 
 -- what write n of a client makes, by what it is
-abbrev pub op_by : Told → Rows Scalar → ℕ → SessionId → ℕ → ℕ → Op → Decision
+abbrev pub op_by : WriteStatus → Rows Scalar → ℕ → SessionId → ℕ → ℕ → Op → Decision
 op_by fresh tree moment s q n op = makes (entry.Op s q n op (resolved tree moment op) ∷ [])
 op_by (again row) tree moment s q n op = makes (entry.Again s q n ∷ [])
 op_by gap tree moment s q n op = refused fault.Order
@@ -129,14 +129,14 @@ limited before other = other
 -- ---- a turn
 
 -- what an input asks for
-abbrev pub wanted : State → ℕ → Input → Decision
+abbrev pub wanted : ServerState → ℕ → Input → Decision
 wanted state moment (input.Up m) = message (entries state.log) moment m
 wanted state moment (input.Lost s) = ends_if_open (entries state.log) moment why.Lost s
 wanted state moment (input.Slow s) = ends_if_open (entries state.log) moment why.Slow s
 wanted state moment (input.Restart c) = ends_first (entries state.log) moment why.Restart (open_sessions_of c (entries state.log))
 wanted state moment input.Tick = ends_late (entries state.log) moment (late_client moment state.heard)
 
-abbrev pub turn : State → Input → ℕ → Decision
+abbrev pub turn : ServerState → Input → ℕ → Decision
 turn state input now = limited (entries state.log) (wanted state (moment_of state.log now) input)
 
 abbrev pub batch_of : Log → ℕ → List Entry → Batch
@@ -148,11 +148,11 @@ log_after log moment (makes es) = log ++ batch_of log moment es ∷ []
 log_after log moment other = log
 
 -- the server after a turn that makes nothing
-abbrev pub state_heard : State → ℕ → Input → State
+abbrev pub state_heard : ServerState → ℕ → Input → ServerState
 state_heard state moment input = record { log = state.log; heard = heard_of moment (heard_from input) state.heard }
 
 -- the server after the commit
-abbrev pub state_after : State → ℕ → List Entry → State
+abbrev pub state_after : ServerState → ℕ → List Entry → ServerState
 state_after state moment es = record { log = state.log ++ batch_of state.log moment es ∷ []; heard = heard_after_all moment es state.heard }
 
 -- ---- what the calls answer
@@ -171,15 +171,15 @@ abbrev pub Makes : Decision → Result (List Entry) Fault → Type 0
 Makes decision result = MatchResult result (λ es. decision ≡ makes es) (IsRefusal decision)
 
 -- the step is the decision on an input, which is a message of the session, or of none
-abbrev pub IsStep : Option SessionId → Decision → Step → Type 0
-IsStep from decision (step.Makes es) = decision ≡ makes es
-IsStep from decision (step.Quiet heard) = (decision ≡ quiet) × (heard ≡ from)
+abbrev pub IsEffect : Option SessionId → Decision → TurnEffect → Type 0
+IsEffect from decision (step.Makes es) = decision ≡ makes es
+IsEffect from decision (step.Quiet heard) = (decision ≡ quiet) × (heard ≡ from)
 
 -- the step that an input asks for, or its refusal
-abbrev pub Decides : Option SessionId → Decision → Result Step Fault → Type 0
-Decides from decision result = MatchResult result (IsStep from decision) (IsRefusal decision)
+abbrev pub Decides : Option SessionId → Decision → Result TurnEffect Fault → Type 0
+Decides from decision result = MatchResult result (IsEffect from decision) (IsRefusal decision)
 
 -- a quiet turn answers nothing, and one that waits for its commit is the one that the input asks for
-abbrev pub IsTurn : State → Input → ℕ → Turn → Type 0
+abbrev pub IsTurn : ServerState → Input → ℕ → Turn → Type 0
 IsTurn state input now (turn_is.Quiet server outs) = (turn state input now ≡ quiet) × (server ≡ state_heard state (moment_of state.log now) input) × (outs ≡ [])
 IsTurn state input now (turn_is.Busy busy) = (turn state input now ≡ makes busy.made) × (busy.state ≡ state) × (busy.moment ≡ moment_of state.log now)

@@ -7,13 +7,13 @@ ghost use Rattle.pres_ids.specs.Ids.{stamp_of};
 ghost use Rattle.pres_retry.specs.Tables.{rows_of};
 ghost use Rattle.pres_log.specs.declared.entry.Entry.TheVariants as entry;
 ghost use Rattle.pres_server.specs.LegalLog.{IsPlain, Supersedes};
-ghost use Rattle.pres_server.specs.Parts.{plan_in, comes_after, open_step};
-ghost use Rattle.pres_server.specs.Places.{open_count};
-ghost use Rattle.pres_server.specs.Index.{live_at, part_at, Ready};
-ghost use Rattle.pres_server.specs.Follows.{IsNextBy, IsEndNumberBy, IsNewerBy, MayComeOn, MayJoinOn};
+ghost use Rattle.pres_server.specs.InternalParts.{plan_in, comes_after, open_step};
+ghost use Rattle.pres_server.specs.InternalSessions.{open_count};
+ghost use Rattle.pres_server.specs.InternalIndex.{live_at, part_at, Ready};
+ghost use Rattle.pres_server.specs.InternalFollows.{IsNextBy, IsEndNumberBy, IsNewerBy, MayComeOn, MayJoinOn};
 
 use crate::index::Index;
-use crate::turn::{MOST_NUMBERS, MOST_SESSIONS, Now};
+use crate::turn::{MOST_NUMBERS, MOST_SESSIONS, TurnTime};
 use pres_log::Entry;
 use pres_tree::Path;
 use pres_wire::{Number, SessionId, Why};
@@ -251,7 +251,12 @@ impl Index {
     }
 
     // Whether the entry may come as a batch.
-    fn may_come_alone(&self, alloc: Global, entry: &Entry, now: Now) -> Result<bool, AllocError>
+    fn may_come_alone(
+        &self,
+        alloc: Global,
+        entry: &Entry,
+        now: TurnTime,
+    ) -> Result<bool, AllocError>
         requires { Ready self.now now }
         ensures { IfOk result (λ may. IsTrue may ↔ MayJoinOn self.now now (entry.now ∷ [])) }
     {
@@ -283,7 +288,7 @@ impl Index {
         alloc: Global,
         ended: &Entry,
         opened: &Entry,
-        now: Now,
+        now: TurnTime,
     ) -> Result<bool, AllocError>
         requires { Ready self.now now }
         ensures { IfOk result (λ may. IsTrue may ↔
@@ -304,7 +309,7 @@ impl Index {
         &self,
         alloc: Global,
         entries: &[Entry],
-        now: Now,
+        now: TurnTime,
     ) -> Result<bool, AllocError>
         requires { Ready self.now now }
         ensures { IfOk result (λ may. IsTrue may ↔ MayJoinOn self.now now entries.now) }

@@ -9,12 +9,12 @@ ghost use Rattle.pres_log.specs.Logs.{writes_of};
 ghost use Rattle.pres_log.specs.declared.entry.Entry.{Entry as LogEntry};
 ghost use Rattle.pres_log.specs.declared.entry.Entry.TheVariants as entry;
 ghost use Rattle.pres_server.specs.LegalLog.{MayComeTogether, Supersedes};
-ghost use Rattle.pres_server.specs.Pushes.{MayPushAll};
-ghost use Rattle.pres_server.specs.Index.{Indexed, Carries, StepsAt, MayTake, retry_after, session_at};
-ghost use Rattle.pres_server.specs.Invariants.{MayTakeAll};
-ghost use Rattle.pres_server.specs.Growth.{puts_by, MayStand, IsAlike, MayKeep, FindsOpen, HasPlace, IsSilent};
+ghost use Rattle.pres_server.specs.InternalPushes.{MayPushAll};
+ghost use Rattle.pres_server.specs.InternalIndex.{Indexed, Carries, StepsAt, MayTake, retry_after, session_at};
+ghost use Rattle.pres_server.specs.InternalInvariants.{MayTakeAll};
+ghost use Rattle.pres_server.specs.InternalGrowth.{puts_by, MayStand, IsAlike, MayKeep, FindsOpen, HasPlace, IsSilent};
 
-use crate::index::{Index, Made};
+use crate::index::{Index, LogPosition};
 use crate::push::count_all;
 use crate::reopen::Reopen;
 use pres_fan::FanFault;
@@ -164,7 +164,7 @@ impl Index {
 
     // Takes in an entry whose writes were carried out, whose answer is kept and for which room was
     // made. Memory is refused only to an entry that had nothing of these.
-    fn settle(&mut self, alloc: Global, entry: &Entry, made: Made) -> Result<(), Reopen>
+    fn settle(&mut self, alloc: Global, entry: &Entry, made: LogPosition) -> Result<(), Reopen>
         requires may { (before : Table) × MayTake (record self.old { retry = before }) entry.now }
         requires room { HasPlace self.old entry.now }
         ensures steps { (before : Table)
@@ -211,7 +211,7 @@ impl Index {
     }
 
     // Takes in the one entry of a batch.
-    fn grow_one(&mut self, alloc: Global, entry: &Entry, made: Made) -> Result<(), Reopen>
+    fn grow_one(&mut self, alloc: Global, entry: &Entry, made: LogPosition) -> Result<(), Reopen>
         requires { (es : List LogEntry)
             × MayTakeAll es made.number made.moment (entry.now ∷ []) self.old }
         ensures indexed { (es : List LogEntry)
@@ -232,7 +232,7 @@ impl Index {
         alloc: Global,
         ended: &Entry,
         opened: &SessionId,
-        made: Made,
+        made: LogPosition,
     ) -> Result<(), Reopen>
         requires may { (es : List LogEntry) × MayTakeAll es made.number made.moment
             (ended.now ∷ entry.Open opened.now ∷ []) self.old }
@@ -257,7 +257,7 @@ impl Index {
         &mut self,
         alloc: Global,
         entries: &[Entry],
-        made: Made,
+        made: LogPosition,
     ) -> Result<(), Reopen>
         requires { (es : List LogEntry)
             × MayTakeAll es made.number made.moment entries.now self.old

@@ -9,14 +9,14 @@ ghost use Rattle.pres_retry.specs.Tables.{row, rows_of, recorded};
 ghost use Rattle.pres_ids.specs.Ids.{ClientId, client_cmp, stamp_of};
 ghost use Rattle.pres_log.specs.declared.entry.Entry.TheVariants as entry;
 ghost use Rattle.pres_server.specs.Streams.{answers};
-ghost use Rattle.pres_server.specs.Heard.{Heard, heard_after_all};
-ghost use Rattle.pres_server.specs.Pushes.{MayPushAll, pushes};
-ghost use Rattle.pres_server.specs.Index.{Indexed, Carries, StepsAt, Takes, MayTake, MayCarry, Tells, answer_on, live_at, session_at};
-ghost use Rattle.pres_server.specs.Invariants.{MayTakeAll};
-ghost use Rattle.pres_server.specs.Places.{moment_at, stamp_at};
-ghost use Rattle.pres_server.specs.Parts.{count_in};
+ghost use Rattle.pres_server.specs.ServerStates.{Heard, heard_after_all};
+ghost use Rattle.pres_server.specs.InternalPushes.{MayPushAll, pushes};
+ghost use Rattle.pres_server.specs.InternalIndex.{Indexed, Carries, StepsAt, TakesEntry, MayTake, MayCarry, Tells, answer_on, live_at, session_at};
+ghost use Rattle.pres_server.specs.InternalInvariants.{MayTakeAll};
+ghost use Rattle.pres_server.specs.InternalSessions.{moment_at, stamp_at};
+ghost use Rattle.pres_server.specs.InternalParts.{count_in};
 
-use crate::places::Places;
+use crate::client_sessions::ClientSessions;
 use crate::push::push_all;
 use crate::reopen::Reopen;
 use pres_fan::{FanFault, Listeners};
@@ -31,7 +31,7 @@ use std::alloc::Global;
 #[derive(Drop)]
 pub(crate) struct Index {
     /// Where each client stands.
-    pub(crate) places: Places,
+    pub(crate) places: ClientSessions,
     /// The answers to the writes of each client.
     pub(crate) retry: RetryTable,
     /// Who listens to what.
@@ -42,7 +42,7 @@ pub(crate) struct Index {
 
 /// Where in the log an entry is made: its number, and the moment of its batch.
 #[derive(Clone, Copy)]
-pub(crate) struct Made {
+pub(crate) struct LogPosition {
     pub(crate) number: Number,
     pub(crate) moment: Moment,
 }
@@ -55,7 +55,7 @@ impl Index {
         ensures ordered { IsOrdered client_cmp result.places.live }
     {
         Index {
-            places: Places::new(alloc),
+            places: ClientSessions::new(alloc),
             retry: RetryTable::new(alloc),
             listeners: Listeners::new(alloc),
             tree: Tree::empty(),
@@ -90,7 +90,12 @@ impl Index {
     }
 
     // Takes in that the session was opened, and answers it.
-    fn open(&mut self, alloc: Global, session: &SessionId, made: Made) -> Result<Down, Reopen>
+    fn open(
+        &mut self,
+        alloc: Global,
+        session: &SessionId,
+        made: LogPosition,
+    ) -> Result<Down, Reopen>
         requires { MayTake self.old (entry.Open session.now) }
         ensures steps { IfOk result
             (λ _. StepsAt made self.old self.new (entry.Open session.now)) }
@@ -162,7 +167,7 @@ impl Index {
         q: Number,
         n: Number,
         outcome: &Outcome,
-        made: Made,
+        made: LogPosition,
     ) -> Result<Down, Reopen>
         requires { (op : Op) × MayTake self.old (entry.Op session.now q n op outcome.now) }
         ensures steps { (op : Op) → IfOk result
@@ -190,7 +195,7 @@ impl Index {
         session: &SessionId,
         q: Number,
         n: Number,
-        made: Made,
+        made: LogPosition,
     ) -> Result<Down, Reopen>
         requires { MayTake self.old (entry.Again session.now q n) }
         ensures steps { IfOk result
@@ -220,7 +225,7 @@ impl Index {
         session: &SessionId,
         q: Number,
         puts: &Puts,
-        made: Made,
+        made: LogPosition,
     ) -> Result<Down, Reopen>
         requires { MayTake self.old (entry.Left session.now q puts.now) }
         ensures steps { IfOk result
@@ -245,7 +250,7 @@ impl Index {
         session: &SessionId,
         q: Number,
         path: &Path,
-        made: Made,
+        made: LogPosition,
     ) -> Result<Down, Reopen>
         requires { MayTake self.old (entry.Cancelled session.now q path.now) }
         ensures steps { IfOk result
@@ -269,7 +274,7 @@ impl Index {
         session: &SessionId,
         q: Number,
         why: Limit,
-        made: Made,
+        made: LogPosition,
     ) -> Result<Down, Reopen>
         requires { MayTake self.old (entry.Denied session.now q why) }
         ensures steps { IfOk result
@@ -294,7 +299,7 @@ impl Index {
         session: &SessionId,
         q: Number,
         path: &Path,
-        made: Made,
+        made: LogPosition,
     ) -> Result<Down, Reopen>
         requires { MayTake self.old (entry.On session.now q path.now) }
         ensures steps { IfOk result
@@ -326,7 +331,7 @@ impl Index {
         session: &SessionId,
         q: Number,
         path: &Path,
-        made: Made,
+        made: LogPosition,
     ) -> Result<Down, Reopen>
         requires { MayTake self.old (entry.Off session.now q path.now) }
         ensures steps { IfOk result
@@ -351,7 +356,7 @@ impl Index {
         session: &SessionId,
         why: Why,
         rows: &[Basic],
-        made: Made,
+        made: LogPosition,
     ) -> Result<Down, Reopen>
         requires { (q : Option ℕ) × MayTake self.old (entry.Ended session.now q why rows.now) }
         ensures steps { (q : Option ℕ) → IfOk result
@@ -370,7 +375,7 @@ impl Index {
     }
 
     // Takes in an entry whose writes were carried out, and answers its own session.
-    fn enter(&mut self, alloc: Global, entry: &Entry, made: Made) -> Result<Down, Reopen>
+    fn enter(&mut self, alloc: Global, entry: &Entry, made: LogPosition) -> Result<Down, Reopen>
         requires { MayTake self.old entry.now }
         ensures steps { IfOk result (λ _. StepsAt made self.old self.new entry.now) }
         ensures answer { IfOk result (λ m. answer_on self.old made entry.now ≡ m ∷ []) }
@@ -407,12 +412,12 @@ impl Index {
         &mut self,
         alloc: Global,
         entry: &Entry,
-        made: Made,
+        made: LogPosition,
         outs: &mut Vec<Down>,
     ) -> Result<(), Reopen>
         requires { MayCarry self.old entry.now }
         ensures { IfOk result
-            (λ _. Takes made entry.now self.old self.new outs.old.items outs.new.items) }
+            (λ _. TakesEntry made entry.now self.old self.new outs.old.items outs.new.items) }
     {
         self.carry_out(alloc, entry.writes(), made.number, outs)?;
         let answer = self.enter(alloc, entry, made)?;
@@ -427,7 +432,7 @@ pub(crate) fn take_all(
     index: &mut Index,
     alloc: Global,
     entries: &[Entry],
-    made: Made,
+    made: LogPosition,
     outs: &mut Vec<Down>,
 ) -> Result<(), Reopen>
     requires { (es : List Entry)
@@ -449,5 +454,5 @@ pub(crate) fn take_all(
         unreachable!()
     };
     index.take(alloc, first, made, outs)?;
-    take_all(index, alloc, rest, Made { number, moment }, outs)
+    take_all(index, alloc, rest, LogPosition { number, moment }, outs)
 }

@@ -7,12 +7,12 @@ ghost use Rattle.pres_log.specs.Logs.{Log};
 ghost use Rattle.pres_log.specs.declared.entry.Batch.{Batch};
 ghost use Rattle.pres_log.specs.declared.entry.Entry.{Entry};
 ghost use Rattle.pres_server.specs.declared.input.Input.{Input};
-ghost use Rattle.pres_server.specs.Heard.{State};
+ghost use Rattle.pres_server.specs.ServerStates.{ServerState};
 ghost use Rattle.pres_server.specs.Laws.{TurnIsLegal, LegalIsSound, StreamSteps, StreamGrows, EndsAreDue, StreamTells, ViewsAreTrue, ListensByOns};
 
 /// A turn on a legal log leaves a legal log.
 pub fn turns_are_legal()
-    ensures { (state : State) (input : Input) (now : ℕ) → TurnIsLegal state input now }
+    ensures { (state : ServerState) (input : Input) (now : ℕ) → TurnIsLegal state input now }
 {}
 
 /// After a legal log a client has at most one open session, and its last one is its newest.

@@ -2,12 +2,12 @@
 //! of entries. The batch is committed by the caller before the turn is done and anything answered.
 #![tactic(auto)]
 
+mod client_sessions;
 mod follow;
 mod grow;
 mod index;
 mod input;
 pub mod laws;
-mod places;
 mod push;
 mod reopen;
 mod replay;

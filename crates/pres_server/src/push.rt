@@ -7,10 +7,10 @@ ghost use Rattle.pres_tree.specs.Paths.{path_cmp};
 ghost use Rattle.pres_tree.specs.Rows.{value_at};
 ghost use Rattle.pres_ids.specs.Ids.{ClientId, client_cmp};
 ghost use Rattle.pres_server.specs.Streams.{shown};
-ghost use Rattle.pres_server.specs.Places.{sent_one};
-ghost use Rattle.pres_server.specs.Pushes.{standing, MayPush, MayPushAll, after_pushes, push_to, pushes};
+ghost use Rattle.pres_server.specs.InternalSessions.{sent_one};
+ghost use Rattle.pres_server.specs.InternalPushes.{standing, MayPush, MayPushAll, after_pushes, push_to, pushes};
 
-use crate::places::Places;
+use crate::client_sessions::ClientSessions;
 use crate::reopen::Reopen;
 use pres_fan::Touched;
 use pres_tree::{Path, Tree};
@@ -44,7 +44,7 @@ fn values_of(alloc: Global, tree: &Tree, paths: Items<Path>) -> Result<Values, A
 
 // The Push of entry number `z` to a session that it touches.
 fn push(
-    places: &mut Places,
+    places: &mut ClientSessions,
     alloc: Global,
     tree: &Tree,
     z: Number,
@@ -70,7 +70,7 @@ fn push(
 
 /// The Pushes of entry number `z` to the sessions that it touches, in their order.
 pub(crate) fn push_all(
-    places: &mut Places,
+    places: &mut ClientSessions,
     alloc: Global,
     tree: &Tree,
     z: Number,
@@ -91,7 +91,7 @@ pub(crate) fn push_all(
 }
 
 /// Counts a Push to each of the sessions. It takes no memory.
-pub(crate) fn count_all(places: &mut Places, touched: Vec<Touched>)
+pub(crate) fn count_all(places: &mut ClientSessions, touched: Vec<Touched>)
     requires { MayPushAll (standing places.old) touched.items }
     ensures live { (c : ClientId) → get client_cmp places.new.live c
         ≡ after_pushes (standing places.old) touched.items c }

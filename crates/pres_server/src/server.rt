@@ -6,18 +6,18 @@ ghost use Rattle.pres_log.specs.Logs.{number, entries, tree};
 ghost use Rattle.pres_log.specs.declared.fault.Fault.TheVariants.{Busy as OutOfMemory};
 ghost use Rattle.pres_ids.specs.Ids.{ClientId};
 ghost use Rattle.pres_server.specs.Sessions.{is_open, count, has_open, open_sessions_of};
-ghost use Rattle.pres_server.specs.Parts.{session_with};
-ghost use Rattle.pres_server.specs.Heard.{heard_last, heard_again, blank, first_client};
+ghost use Rattle.pres_server.specs.InternalParts.{session_with};
+ghost use Rattle.pres_server.specs.ServerStates.{heard_last, heard_again, blank, first_client};
 ghost use Rattle.pres_server.specs.Outcomes.{rows_for};
 ghost use Rattle.pres_server.specs.LegalLog.{IsLegal, MayFollow};
 ghost use Rattle.pres_server.specs.Turns.{turn, batch_of, state_after, IsTurn, IsRefusal};
 ghost use Rattle.pres_server.specs.Streams.{answers};
 ghost use Rattle.pres_server.specs.Replays.{made_from};
 
-use crate::index::{Index, Made, take_all};
+use crate::index::{Index, LogPosition, take_all};
 use crate::input::Input;
 use crate::reopen::Reopen;
-use crate::turn::{Now, Step};
+use crate::turn::{TurnEffect, TurnTime};
 use pres_log::{Batch, Entry, Fault, Log};
 use pres_retry::Row;
 use pres_tree::{Path, Tree};
@@ -49,16 +49,16 @@ impl Drop for Server {
 }
 
 impl Model for Server {
-    ghost use Rattle.pres_server.specs.Heard.{State};
+    ghost use Rattle.pres_server.specs.ServerStates.{ServerState};
 
-    ghost Value = { State };
+    ghost Value = { ServerState };
 
-    ghost use Rattle.pres_server.specs.Index.{heard_in};
-    ghost use Rattle.pres_server.specs.Invariants.{Holds};
+    ghost use Rattle.pres_server.specs.InternalIndex.{heard_in};
+    ghost use Rattle.pres_server.specs.InternalInvariants.{ServerInvariant};
 
     ghost view = { λ s. record { log = s.log; heard = heard_in s.index } };
 
-    ghost invariant = { λ s. Holds s.log s.moment s.index };
+    ghost invariant = { λ s. ServerInvariant s.log s.moment s.index };
 }
 
 /// A turn whose batch waits for its commit. It may not be let go: `done` takes it once the batch is
@@ -70,16 +70,16 @@ pub struct Busy {
 }
 
 impl Model for Busy {
-    ghost use Rattle.pres_server.specs.Heard.{Pending};
+    ghost use Rattle.pres_server.specs.ServerStates.{PendingTurn};
 
-    ghost Value = { Pending };
+    ghost Value = { PendingTurn };
 
-    ghost use Rattle.pres_server.specs.Invariants.{Waits};
+    ghost use Rattle.pres_server.specs.InternalInvariants.{PendingInvariant};
 
     ghost view = { λ b. record
         { state = b.server; moment = b.batch.moment; made = b.batch.entries } };
 
-    ghost invariant = { λ b. Waits b.server.log b.batch };
+    ghost invariant = { λ b. PendingInvariant b.server.log b.batch };
 }
 
 /// What an input did.
@@ -222,13 +222,16 @@ impl Server {
         let moment = self.moment.max(now);
         let number = self.log.len();
         let none = Items::of(Vec::new(self.alloc));
-        match self.index.turn(self.alloc, input, Now { number, moment }) {
-            Ok(Step::Makes(entries)) => Ok(Turn::Busy(self.wait(moment, entries))),
-            Ok(Step::Quiet(Some(session))) => {
+        match self
+            .index
+            .decide(self.alloc, input, TurnTime { number, moment })
+        {
+            Ok(TurnEffect::Makes(entries)) => Ok(Turn::Busy(self.wait(moment, entries))),
+            Ok(TurnEffect::Quiet(Some(session))) => {
                 self.hear(&session.client, moment);
                 Ok(Turn::Quiet(self, none))
             }
-            Ok(Step::Quiet(None)) => Ok(Turn::Quiet(self, none)),
+            Ok(TurnEffect::Quiet(None)) => Ok(Turn::Quiet(self, none)),
             Err(fault) => Err((fault, self)),
         }
     }
@@ -243,7 +246,7 @@ impl Server {
             return Ok(false);
         }
         self.index
-            .may_join(self.alloc, batch.entries(), Now { number, moment })
+            .may_join(self.alloc, batch.entries(), TurnTime { number, moment })
     }
 
     /// The server with a batch behind its log, and the answers of the batch in their order.
@@ -261,7 +264,7 @@ impl Server {
             mut index,
         } = self;
         let moment = batch.moment();
-        let made = Made {
+        let made = LogPosition {
             number: batch.first(),
             moment,
         };
@@ -288,7 +291,7 @@ impl Server {
         ensures unchanged { OnErr result (self.new.log ≡ self.old.log) }
     {
         let moment = batch.moment();
-        let made = Made {
+        let made = LogPosition {
             number: batch.first(),
             moment,
         };

@@ -6,14 +6,14 @@ ghost use Rattle.pres_ids.specs.declared.id.SessionId.{SessionId};
 ghost use Rattle.pres_wire.specs.declared.up.Up.TheVariants as up;
 ghost use Rattle.pres_log.specs.declared.fault.Fault.TheVariants.{Busy};
 ghost use Rattle.pres_server.specs.Turns.{Decision, makes, Makes, Decides};
-ghost use Rattle.pres_server.specs.Parts.{said_by, ends_live, ends_of, end_by, leaves_by, listens_by, is_live, within, checked, said, session_with};
+ghost use Rattle.pres_server.specs.InternalParts.{said_by, ends_live, ends_of, end_by, leaves_by, listens_by, is_live, within, checked, said, session_with};
 ghost use Rattle.pres_server.specs.declared.input.Input.TheVariants as input;
 ghost use Rattle.pres_ids.specs.declared.id.Why.TheVariants as why;
 ghost use Rattle.pres_write.specs.Unconditionals.{puts_of};
 ghost use Rattle.pres_write.specs.Outcomes.{resolved};
 ghost use Rattle.pres_log.specs.declared.entry.Entry.TheVariants as entry;
-ghost use Rattle.pres_server.specs.Places.{open_count, live_part};
-ghost use Rattle.pres_server.specs.Index.{live_at, part_at, paths_at, limited_on, write_on, decision_on, DecidesOn, Ready};
+ghost use Rattle.pres_server.specs.InternalSessions.{open_count, live_part};
+ghost use Rattle.pres_server.specs.InternalIndex.{live_at, part_at, paths_at, limited_on, write_on, decision_on, DecidesOn, Ready};
 
 use crate::index::Index;
 use crate::input::Input;
@@ -35,7 +35,7 @@ pub(crate) const MOST_NUMBERS: u64 = 4503599627370495;
 
 /// What a turn does.
 #[derive(Drop)]
-pub(crate) enum Step {
+pub(crate) enum TurnEffect {
     /// Nothing. A message that was accepted before is one of this session.
     Quiet(Option<SessionId>),
     /// It makes these entries.
@@ -44,7 +44,7 @@ pub(crate) enum Step {
 
 /// When a turn is: after so many entries, at the moment.
 #[derive(Clone, Copy)]
-pub(crate) struct Now {
+pub(crate) struct TurnTime {
     pub(crate) number: u64,
     pub(crate) moment: Moment,
 }
@@ -82,12 +82,12 @@ fn pair(alloc: Global, first: Entry, second: Entry) -> Result<Items<Entry>, Faul
 }
 
 // The step that makes the entries.
-fn making(entries: Result<Items<Entry>, Fault>) -> Result<Step, Fault>
+fn effect_of(entries: Result<Items<Entry>, Fault>) -> Result<TurnEffect, Fault>
     ensures { (from : Option SessionId) (decision : Decision)
         → Makes decision entries → Decides from decision result }
 {
     match entries {
-        Ok(entries) => Ok(Step::Makes(entries)),
+        Ok(entries) => Ok(TurnEffect::Makes(entries)),
         Err(fault) => Err(fault),
     }
 }
@@ -125,14 +125,14 @@ impl Index {
     }
 
     // The entry of the end of an open session, with what is due.
-    fn ended(
+    fn end_entry(
         &self,
         alloc: Global,
         live: &Live<Plan>,
         session: SessionId,
         q: Option<Number>,
         why: Why,
-        now: Now,
+        now: TurnTime,
     ) -> Result<Entry, Fault>
         ensures ok { IfOk result (λ e. e ≡
             end_by (Some (live_part live.now)) self.now.tree now.moment q why session) }
@@ -150,13 +150,13 @@ impl Index {
     }
 
     // The end of an open session.
-    fn ending(
+    fn end_entries(
         &self,
         alloc: Global,
         session: SessionId,
         q: Option<Number>,
         why: Why,
-        now: Now,
+        now: TurnTime,
     ) -> Result<Items<Entry>, Fault>
         requires ready { Ready self.now now }
         requires open { IsSome (live_at self.now session) }
@@ -168,17 +168,17 @@ impl Index {
             unreachable!()
         };
         limits(now.number + 1, self.places.open_count() - 1)?;
-        let ended = self.ended(alloc, live, session, q, why, now)?;
+        let ended = self.end_entry(alloc, live, session, q, why, now)?;
         one(alloc, ended)
     }
 
     // The opening of a session, after the end of the client's open one.
-    fn superseding(
+    fn superseding_entries(
         &self,
         alloc: Global,
         session: SessionId,
         live: &Live<Plan>,
-        now: Now,
+        now: TurnTime,
     ) -> Result<Items<Entry>, Fault>
         requires ready { Ready self.now now }
         requires open { 0 < open_count self.now.places }
@@ -188,12 +188,17 @@ impl Index {
     {
         limits(now.number + 2, self.places.open_count())?;
         let old = SessionId::of(session.client.copy(alloc)?, live.stamp());
-        let ended = self.ended(alloc, live, old, None, Why::Superseded, now)?;
+        let ended = self.end_entry(alloc, live, old, None, Why::Superseded, now)?;
         pair(alloc, ended, Entry::Open { session })
     }
 
     // What a Hello makes.
-    fn hello(&self, alloc: Global, session: SessionId, now: Now) -> Result<Items<Entry>, Fault>
+    fn hello_entries(
+        &self,
+        alloc: Global,
+        session: SessionId,
+        now: TurnTime,
+    ) -> Result<Items<Entry>, Fault>
         requires { Ready self.now now }
         ensures { Makes (decision_on self.now now (input.Up (up.Hello session))) result }
     {
@@ -203,7 +208,7 @@ impl Index {
             }
         }
         if let Some(live) = self.places.session(&session.client) {
-            return self.superseding(alloc, session, live, now);
+            return self.superseding_entries(alloc, session, live, now);
         }
         limits(now.number + 1, self.places.open_count() + 1)?;
         one(alloc, Entry::Open { session })
@@ -239,14 +244,14 @@ impl Index {
     }
 
     // What a write makes that wasn't answered before.
-    fn fresh(
+    fn new_write_entries(
         &self,
         alloc: Global,
         session: SessionId,
         q: Number,
         n: Number,
         op: Op,
-        now: Now,
+        now: TurnTime,
     ) -> Result<Items<Entry>, Fault>
         requires { Ready self.now now }
         ensures { Makes (limited_on self.now now.number (makes
@@ -261,13 +266,13 @@ impl Index {
     }
 
     // What an answered write makes that is sent again.
-    fn repeated(
+    fn repeated_write_entries(
         &self,
         alloc: Global,
         session: SessionId,
         q: Number,
         n: Number,
-        now: Now,
+        now: TurnTime,
     ) -> Result<Items<Entry>, Fault>
         requires { Ready self.now now }
         ensures { Makes (limited_on self.now now.number (makes
@@ -278,24 +283,24 @@ impl Index {
     }
 
     // What an operation makes, which came as the open session's next message.
-    fn operation(
+    fn op_entries(
         &self,
         alloc: Global,
         session: SessionId,
         q: Number,
         n: Number,
         op: Op,
-        now: Now,
+        now: TurnTime,
     ) -> Result<Items<Entry>, Fault>
         requires { Ready self.now now }
         ensures { Makes (limited_on self.now now.number
             (write_on self.now now.moment session q n op)) result }
     {
         match self.retry.find(&session.client, n) {
-            Verdict::New => self.fresh(alloc, session, q, n, op, now),
+            Verdict::New => self.new_write_entries(alloc, session, q, n, op, now),
             Verdict::Again(_) => {
                 drop(op);
-                self.repeated(alloc, session, q, n, now)
+                self.repeated_write_entries(alloc, session, q, n, now)
             }
             Verdict::Gap => {
                 drop(op);
@@ -305,23 +310,23 @@ impl Index {
     }
 
     // What an Op asks for.
-    fn op_message(
+    fn decide_op(
         &self,
         alloc: Global,
         session: SessionId,
         q: Number,
         n: Number,
         op: Op,
-        now: Now,
-    ) -> Result<Step, Fault>
+        now: TurnTime,
+    ) -> Result<TurnEffect, Fault>
         requires { Ready self.now now }
         ensures { DecidesOn self.now now (input.Up (up.Op session q n op)) result }
     {
         match self.is_next(&session, q) {
-            Ok(true) => making(self.operation(alloc, session, q, n, op, now)),
+            Ok(true) => effect_of(self.op_entries(alloc, session, q, n, op, now)),
             Ok(false) => {
                 drop(op);
-                Ok(Step::Quiet(Some(session)))
+                Ok(TurnEffect::Quiet(Some(session)))
             }
             Err(fault) => {
                 drop(op);
@@ -331,20 +336,20 @@ impl Index {
     }
 
     // What a Bye asks for.
-    fn bye_message(
+    fn decide_bye(
         &self,
         alloc: Global,
         session: SessionId,
         q: Number,
-        now: Now,
-    ) -> Result<Step, Fault>
+        now: TurnTime,
+    ) -> Result<TurnEffect, Fault>
         requires { Ready self.now now }
         ensures { DecidesOn self.now now (input.Up (up.Bye session q)) result }
     {
         if !self.is_next(&session, q)? {
-            return Ok(Step::Quiet(Some(session)));
+            return Ok(TurnEffect::Quiet(Some(session)));
         }
-        making(self.ending(alloc, session, Some(q), Why::Bye, now))
+        effect_of(self.end_entries(alloc, session, Some(q), Why::Bye, now))
     }
 
     // The entry of puts that are left, or of their denial.
@@ -364,13 +369,13 @@ impl Index {
     }
 
     // What an operation makes that is left by the open session's next message.
-    fn leaving(
+    fn left_entries(
         &self,
         alloc: Global,
         session: SessionId,
         q: Number,
         op: &Unconditional,
-        now: Now,
+        now: TurnTime,
     ) -> Result<Items<Entry>, Fault>
         requires ready { Ready self.now now }
         requires open { IsSome (live_at self.now session) }
@@ -384,21 +389,21 @@ impl Index {
     }
 
     // What a Left asks for.
-    fn left_message(
+    fn decide_left(
         &self,
         alloc: Global,
         session: SessionId,
         q: Number,
         op: &Unconditional,
-        now: Now,
-    ) -> Result<Step, Fault>
+        now: TurnTime,
+    ) -> Result<TurnEffect, Fault>
         requires { Ready self.now now }
         ensures { DecidesOn self.now now (input.Up (up.Left session q op.now)) result }
     {
         if !self.is_next(&session, q)? {
-            return Ok(Step::Quiet(Some(session)));
+            return Ok(TurnEffect::Quiet(Some(session)));
         }
-        making(self.leaving(alloc, session, q, op, now))
+        effect_of(self.left_entries(alloc, session, q, op, now))
     }
 
     // The entry of a cancel, or of its denial.
@@ -418,13 +423,13 @@ impl Index {
     }
 
     // What a cancel makes that is the open session's next message.
-    fn cancelling(
+    fn cancel_entries(
         &self,
         alloc: Global,
         session: SessionId,
         q: Number,
         path: Path,
-        now: Now,
+        now: TurnTime,
     ) -> Result<Items<Entry>, Fault>
         requires ready { Ready self.now now }
         requires open { IsSome (live_at self.now session) }
@@ -437,25 +442,25 @@ impl Index {
     }
 
     // What a Cancel asks for.
-    fn cancel_message(
+    fn decide_cancel(
         &self,
         alloc: Global,
         session: SessionId,
         q: Number,
         path: Path,
-        now: Now,
-    ) -> Result<Step, Fault>
+        now: TurnTime,
+    ) -> Result<TurnEffect, Fault>
         requires { Ready self.now now }
         ensures { DecidesOn self.now now (input.Up (up.Cancel session q path)) result }
     {
         if !self.is_next(&session, q)? {
-            return Ok(Step::Quiet(Some(session)));
+            return Ok(TurnEffect::Quiet(Some(session)));
         }
-        making(self.cancelling(alloc, session, q, path, now))
+        effect_of(self.cancel_entries(alloc, session, q, path, now))
     }
 
     // The entry of a session that listens, or of its denial.
-    fn listening_entry(&self, session: SessionId, q: Number, path: Path) -> Entry
+    fn on_entry(&self, session: SessionId, q: Number, path: Path) -> Entry
         ensures { makes (result ∷ []) ≡ listens_by (paths_at self.now session) session q path }
     {
         if self.listeners.may_listen(&session, &path) {
@@ -466,49 +471,49 @@ impl Index {
     }
 
     // What an On makes that is the open session's next message.
-    fn listening(
+    fn on_entries(
         &self,
         alloc: Global,
         session: SessionId,
         q: Number,
         path: Path,
-        now: Now,
+        now: TurnTime,
     ) -> Result<Items<Entry>, Fault>
         requires { Ready self.now now }
         ensures { Makes (limited_on self.now now.number
             (listens_by (paths_at self.now session) session q path)) result }
     {
         limits(now.number + 1, self.places.open_count())?;
-        let entry = self.listening_entry(session, q, path);
+        let entry = self.on_entry(session, q, path);
         one(alloc, entry)
     }
 
     // What an On asks for.
-    fn on_message(
+    fn decide_on(
         &self,
         alloc: Global,
         session: SessionId,
         q: Number,
         path: Path,
-        now: Now,
-    ) -> Result<Step, Fault>
+        now: TurnTime,
+    ) -> Result<TurnEffect, Fault>
         requires { Ready self.now now }
         ensures { DecidesOn self.now now (input.Up (up.On session q path)) result }
     {
         if !self.is_next(&session, q)? {
-            return Ok(Step::Quiet(Some(session)));
+            return Ok(TurnEffect::Quiet(Some(session)));
         }
-        making(self.listening(alloc, session, q, path, now))
+        effect_of(self.on_entries(alloc, session, q, path, now))
     }
 
     // What an Off makes that is the open session's next message.
-    fn unlistening(
+    fn off_entries(
         &self,
         alloc: Global,
         session: SessionId,
         q: Number,
         path: Path,
-        now: Now,
+        now: TurnTime,
     ) -> Result<Items<Entry>, Fault>
         requires { Ready self.now now }
         ensures { Makes (limited_on self.now now.number
@@ -519,103 +524,120 @@ impl Index {
     }
 
     // What an Off asks for.
-    fn off_message(
+    fn decide_off(
         &self,
         alloc: Global,
         session: SessionId,
         q: Number,
         path: Path,
-        now: Now,
-    ) -> Result<Step, Fault>
+        now: TurnTime,
+    ) -> Result<TurnEffect, Fault>
         requires { Ready self.now now }
         ensures { DecidesOn self.now now (input.Up (up.Off session q path)) result }
     {
         if !self.is_next(&session, q)? {
-            return Ok(Step::Quiet(Some(session)));
+            return Ok(TurnEffect::Quiet(Some(session)));
         }
-        making(self.unlistening(alloc, session, q, path, now))
+        effect_of(self.off_entries(alloc, session, q, path, now))
     }
 
     // What a Beat asks for: nothing, but its client was heard of.
-    fn beat(&self, session: SessionId, now: Now) -> Result<Step, Fault>
+    fn decide_beat(&self, session: SessionId, now: TurnTime) -> Result<TurnEffect, Fault>
         ensures { DecidesOn self.now now (input.Up (up.Beat session)) result }
     {
         if self.is_live(&session) {
-            return Ok(Step::Quiet(Some(session)));
+            return Ok(TurnEffect::Quiet(Some(session)));
         }
         Err(Fault::Session)
     }
 
     // What a message asks for.
-    fn message(&self, alloc: Global, up: Up, now: Now) -> Result<Step, Fault>
+    fn decide_message(&self, alloc: Global, up: Up, now: TurnTime) -> Result<TurnEffect, Fault>
         requires { Ready self.now now }
         ensures { DecidesOn self.now now (input.Up up) result }
     {
         match up {
-            Up::Hello { session } => making(self.hello(alloc, session, now)),
-            Up::Op { session, q, n, op } => self.op_message(alloc, session, q, n, op, now),
+            Up::Hello { session } => effect_of(self.hello_entries(alloc, session, now)),
+            Up::Op { session, q, n, op } => self.decide_op(alloc, session, q, n, op, now),
             Up::Left { session, q, op } => {
-                let step = self.left_message(alloc, session, q, &op, now);
+                let step = self.decide_left(alloc, session, q, &op, now);
                 drop(op);
                 step
             }
-            Up::Cancel { session, q, path } => self.cancel_message(alloc, session, q, path, now),
-            Up::Bye { session, q } => self.bye_message(alloc, session, q, now),
-            Up::Beat { session } => self.beat(session, now),
-            Up::On { session, q, path } => self.on_message(alloc, session, q, path, now),
-            Up::Off { session, q, path } => self.off_message(alloc, session, q, path, now),
+            Up::Cancel { session, q, path } => self.decide_cancel(alloc, session, q, path, now),
+            Up::Bye { session, q } => self.decide_bye(alloc, session, q, now),
+            Up::Beat { session } => self.decide_beat(session, now),
+            Up::On { session, q, path } => self.decide_on(alloc, session, q, path, now),
+            Up::Off { session, q, path } => self.decide_off(alloc, session, q, path, now),
         }
     }
 
     // The end of the session, where it is open.
-    fn lost(&self, alloc: Global, session: SessionId, why: Why, now: Now) -> Result<Step, Fault>
+    fn decide_lost(
+        &self,
+        alloc: Global,
+        session: SessionId,
+        why: Why,
+        now: TurnTime,
+    ) -> Result<TurnEffect, Fault>
         requires { Ready self.now now }
         ensures { Decides None (limited_on self.now now.number
             (ends_live (live_at self.now session) self.now.tree now.moment why session)) result }
     {
         if !self.is_live(&session) {
-            return Ok(Step::Quiet(None));
+            return Ok(TurnEffect::Quiet(None));
         }
-        making(self.ending(alloc, session, None, why, now))
+        effect_of(self.end_entries(alloc, session, None, why, now))
     }
 
     // The end of the client's open session, where it has one.
-    fn end_of(&self, alloc: Global, client: &ClientId, why: Why, now: Now) -> Result<Step, Fault>
+    fn decide_end(
+        &self,
+        alloc: Global,
+        client: &ClientId,
+        why: Why,
+        now: TurnTime,
+    ) -> Result<TurnEffect, Fault>
         requires { Ready self.now now }
         ensures { Decides None (limited_on self.now now.number (ends_of
             (part_at self.now client.now).live self.now.tree now.moment why client.now)) result }
     {
         let Some(live) = self.places.session(client) else {
-            return Ok(Step::Quiet(None));
+            return Ok(TurnEffect::Quiet(None));
         };
         limits(now.number + 1, self.places.open_count() - 1)?;
         let session = SessionId::of(client.copy(alloc)?, live.stamp());
-        let ended = self.ended(alloc, live, session, None, why, now)?;
-        making(one(alloc, ended))
+        let ended = self.end_entry(alloc, live, session, None, why, now)?;
+        effect_of(one(alloc, ended))
     }
 
     // The end of the first session whose client is silent for longer than its lease.
-    fn tick(&self, alloc: Global, now: Now) -> Result<Step, Fault>
+    fn decide_tick(&self, alloc: Global, now: TurnTime) -> Result<TurnEffect, Fault>
         requires { Ready self.now now }
         ensures { DecidesOn self.now now input.Tick result }
     {
         match self.places.late(now.moment) {
-            Some(client) => self.end_of(alloc, client, Why::Lease, now),
-            None => Ok(Step::Quiet(None)),
+            Some(client) => self.decide_end(alloc, client, Why::Lease, now),
+            None => Ok(TurnEffect::Quiet(None)),
         }
     }
 
     /// What the input asks for. Busy is the last of its refusals.
-    pub(crate) fn turn(&self, alloc: Global, input: Input, now: Now) -> Result<Step, Fault>
+    pub(crate) fn decide(
+        &self,
+        alloc: Global,
+        input: Input,
+        now: TurnTime,
+    ) -> Result<TurnEffect, Fault>
         requires { Ready self.now now }
         ensures { DecidesOn self.now now input result }
     {
         match input {
-            Input::Up(up) => self.message(alloc, up, now),
-            Input::Lost(session) => self.lost(alloc, session, Why::Lost, now),
-            Input::Slow(session) => self.lost(alloc, session, Why::Slow, now),
-            Input::Restart(client) => self.end_of(alloc, &client, Why::Restart, now),
-            Input::Tick => self.tick(alloc, now),
+            Input::Up(up) => self.decide_message(alloc, up, now),
+            Input::Lost(session) => self.decide_lost(alloc, session, Why::Lost, now),
+            Input::Slow(session) => self.decide_lost(alloc, session, Why::Slow, now),
+            Input::Restart(client) => self.decide_end(alloc, &client, Why::Restart, now),
+            Input::Tick => self.decide_tick(alloc, now),
         }
     }
 }

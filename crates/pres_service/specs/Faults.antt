@@ -1,11 +1,13 @@
 -- Why a server or a client ended early: as what a fault below is told, and the exit status.
 use Rattle.std.specs.Prelude.{ℕ}
-use Rattle.pres_table.specs.declared.fault.SavedFault.{SavedFault}
-use Rattle.pres_table.specs.declared.fault.SavedFault.TheVariants as saved
-use Rattle.pres_seats.specs.declared.fault.HubFault.{HubFault}
-use Rattle.pres_seats.specs.declared.fault.HubFault.TheVariants as hub
+use Rattle.pres_faults.specs.declared.saved_fault.SavedFault.{SavedFault}
+use Rattle.pres_faults.specs.declared.saved_fault.SavedFault.TheVariants as saved
+use Rattle.pres_faults.specs.declared.hub_fault.HubFault.{HubFault}
+use Rattle.pres_faults.specs.declared.hub_fault.HubFault.TheVariants as hub
 use Rattle.pres_websocket.specs.declared.fault.SockFault.{SockFault}
 use Rattle.pres_websocket.specs.declared.fault.SockFault.TheVariants as sock
+use Rattle.pres_script.specs.declared.fault.ScriptFault.{ScriptFault}
+use Rattle.pres_script.specs.declared.fault.ScriptFault.TheVariants as script
 use Rattle.pres_service.specs.declared.fault.ServiceFault.{ServiceFault}
 use Rattle.pres_service.specs.declared.fault.ServiceFault.TheVariants as fault
 
@@ -32,3 +34,8 @@ abbrev pub of_sock : SockFault → ServiceFault
 of_sock sock.Memory = fault.Memory
 of_sock (sock.Hub e) = of_hub e
 of_sock e = fault.Sock e
+
+-- what a script refuses
+abbrev pub of_script : ScriptFault → ServiceFault
+of_script script.Memory = fault.Memory
+of_script script.Input = fault.Input

@@ -1,5 +1,3 @@
 pub mod Faults
-pub mod Lines
 pub mod Outputs
-pub mod Reading
-pub mod Visits
+pub mod ClientRuns

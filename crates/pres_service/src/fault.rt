@@ -3,8 +3,8 @@
 ghost use Rattle.std.specs.Prelude.{◌≡◌};
 ghost use Rattle.pres_service.specs.Faults.{status_of};
 
-use pres_net::HubFault;
-use pres_saved::SavedFault;
+use pres_faults::{HubFault, SavedFault};
+use pres_script::ScriptFault;
 use pres_websocket::SockFault;
 use std::alloc::{AllocError, AllocFailed};
 use thiserror::Error;
@@ -106,5 +106,19 @@ impl<T: Drop> From<AllocFailed<T>> for ServiceFault {
 
     fn from(_refused: AllocFailed<T>) -> ServiceFault {
         ServiceFault::Memory
+    }
+}
+
+impl From<ScriptFault> for ServiceFault {
+    ghost use Rattle.std.specs.Prelude.{◌≡◌};
+    ghost use Rattle.pres_service.specs.Faults.{of_script};
+
+    ghost from_gives = { λ fault e. e ≡ of_script fault };
+
+    fn from(fault: ScriptFault) -> ServiceFault {
+        match fault {
+            ScriptFault::Memory => ServiceFault::Memory,
+            ScriptFault::Input => ServiceFault::Input,
+        }
     }
 }

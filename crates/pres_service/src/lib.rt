@@ -4,10 +4,8 @@
 
 mod client;
 mod fault;
-mod lines;
 mod serve;
 
-pub use client::{Visit, bytes_of, client_run, texts_of};
+pub use client::{ClientOptions, client_run};
 pub use fault::ServiceFault;
-pub use lines::{line_of, number_of};
-pub use serve::{Serving, serve_run};
+pub use serve::{ServeOptions, serve_run};

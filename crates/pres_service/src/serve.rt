@@ -2,15 +2,15 @@
 
 ghost use Rattle.std.specs.Prelude.{◌≡◌, ◌≢◌, false, ◌^◌, ◌++◌, ℕ, IfErr, OnOk};
 ghost use Rattle.std.specs.Io.KnownBytes.{Appends};
-ghost use Rattle.pres_file.specs.Found.{HoldsOurs};
+ghost use Rattle.pres_file.specs.FileOpening.{HoldsOurs};
 ghost use Rattle.pres_service.specs.declared.fault.ServiceFault.TheVariants as fault;
 ghost use Rattle.pres_service.specs.Outputs.{listening_line, number_line};
 
 use crate::fault::ServiceFault;
-use pres_engine::{Premise, Supposed};
-use pres_file::{Opened, connect, keeper_for};
-use pres_net::{Core, Hub, Keeper, Moment, OpenGate, StreamBell, WallClock, serve_connections};
+use pres_file::{OpenedFile, connect, keeper_for};
+use pres_keeper::{Premise, Supposed};
 use pres_saved::SqlKeeper;
+use pres_tcp::{Core, Hub, Keeper, Moment, OpenGate, StreamBell, WallClock, serve_connections};
 use sqlite::{Alter, Connection, Unknown};
 use std::alloc::Global;
 use std::io::Write;
@@ -24,7 +24,7 @@ use std::time::{Clock, Instant};
 /// What a server is asked for: where it listens, where it keeps its batches, and how many
 /// connections it serves, none where it goes on.
 #[derive(Clone, Copy)]
-pub struct Serving<'a> {
+pub struct ServeOptions<'a> {
     pub address: &'a str,
     pub file: &'a str,
     pub connections: Option<u32>,
@@ -38,7 +38,7 @@ pub fn serve_run<R, W: Write, F: Write>(
     host: &HostRuntime,
     rt: &R,
     alloc: Global,
-    serving: Serving<'_>,
+    serving: ServeOptions<'_>,
     output: &mut W,
     faults: &mut F,
 ) -> Result<(), ServiceFault>
@@ -63,7 +63,7 @@ fn granted<S: Alter + Drop + Send, R, W: Write, F: Write>(
     rt: &R,
     alloc: Global,
     connection: Connection<S>,
-    serving: Serving<'_>,
+    serving: ServeOptions<'_>,
     output: &mut W,
     faults: &mut F,
 ) -> Result<u64, ServiceFault>
@@ -82,7 +82,7 @@ fn supposing<P: Premise + Send, S: Alter + Drop + Send, R, W: Write, F: Write>(
     rt: &R,
     alloc: Global,
     connection: Connection<S>,
-    serving: Serving<'_>,
+    serving: ServeOptions<'_>,
     output: &mut W,
     faults: &mut F,
 ) -> Result<u64, ServiceFault>
@@ -94,7 +94,7 @@ where
         (listening_line serving.entry.address.now)) }
     ensures silent { IfErr result (λ e. e ≢ fault.Input → output.new ≡ output.old) }
 {
-    let Opened { keeper, is_new } = keeper_for(alloc, connection)?;
+    let OpenedFile { keeper, is_new } = keeper_for(alloc, connection)?;
     let keeper = Supposed::<SqlKeeper<S>, P>::new(keeper);
     counted::<Supposed<SqlKeeper<S>, P>, R, W, F>(
         rt, alloc, keeper, serving, is_new, output, faults,
@@ -106,7 +106,7 @@ fn counted<K: Keeper + Drop + Send, R, W: Write, F: Write>(
     rt: &R,
     alloc: Global,
     keeper: K,
-    serving: Serving<'_>,
+    serving: ServeOptions<'_>,
     is_new: bool,
     output: &mut W,
     faults: &mut F,
@@ -128,7 +128,7 @@ fn served<L: Ledger + Send + Sync, K: Keeper + Drop + Send, R, W: Write, F: Writ
     alloc: Global,
     blank: Blank,
     keeper: K,
-    serving: Serving<'_>,
+    serving: ServeOptions<'_>,
     is_new: bool,
     output: &mut W,
     faults: &mut F,
@@ -144,7 +144,7 @@ where
     ensures silent { IfErr result (λ e. e ≢ fault.Input → output.new ≡ output.old) }
 {
     let start = Instant::now(rt).ok();
-    let now = Moment::at(pres_net::Clock::now(&mut WallClock::new(rt)));
+    let now = Moment::at(pres_tcp::Clock::now(&mut WallClock::new(rt)));
     let core = match Core::<L, K, StreamBell>::start(alloc, blank, keeper, now) {
         Ok(core) => core,
         Err((fault, keeper)) => {

@@ -1,4 +1,4 @@
-pub mod Ends
+pub mod EndedSessions
 pub mod Faults
-pub mod Lives
-pub mod Owed
+pub mod LiveSessions
+pub mod OwedRows

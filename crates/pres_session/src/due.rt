@@ -1,7 +1,7 @@
 //! Sessions that ended and are still to be paid for.
 
 ghost use Rattle.std.specs.Prelude.{◌≡◌};
-ghost use Rattle.pres_session.specs.Owed.{AreOwed};
+ghost use Rattle.pres_session.specs.OwedRows.{AreOwed};
 
 use crate::gone::Gone;
 use crate::live::Live;
@@ -18,9 +18,9 @@ pub struct Due<P> {
 }
 
 impl<P> Model for Due<P> {
-    ghost use Rattle.pres_session.specs.Ends.{Ended};
+    ghost use Rattle.pres_session.specs.EndedSessions.{EndedSession};
 
-    ghost Value = { Ended P };
+    ghost Value = { EndedSession P };
 
     ghost view = { λ d. record { session = d.session; why = d.why } };
 }

@@ -2,7 +2,7 @@
 
 ghost use Rattle.std.specs.Prelude.{◌≡◌, IsTrue, MatchResult, false};
 ghost use Rattle.pres_ids.specs.Ids.{is_earlier};
-ghost use Rattle.pres_session.specs.Lives.{opened};
+ghost use Rattle.pres_session.specs.LiveSessions.{opened};
 ghost use Rattle.pres_session.specs.declared.fault.SessionFault.TheVariants.{Old};
 
 use crate::fault::SessionFault;

@@ -3,7 +3,7 @@
 ghost use Rattle.std.specs.Prelude.{◌≡◌, ◌+◌, IfOk, IfErr, OnErr, max};
 ghost use Rattle.std.specs.Borrow.{sem, Lends};
 ghost use Rattle.pres_ids.specs.Numbers.{greatest_number};
-ghost use Rattle.pres_session.specs.Lives.{opened};
+ghost use Rattle.pres_session.specs.LiveSessions.{opened};
 ghost use Rattle.pres_session.specs.declared.fault.SessionFault.TheVariants.{Spent};
 ghost use Rattle.pres_session.specs.contracts.live.Live.{the_row};
 
@@ -25,9 +25,9 @@ pub struct Live<P> {
 }
 
 impl<P> Model for Live<P> {
-    ghost use Rattle.pres_session.specs.Lives.{Life};
+    ghost use Rattle.pres_session.specs.LiveSessions.{LiveState};
 
-    ghost Value = { Life P };
+    ghost Value = { LiveState P };
 
     ghost view = { λ l. record {
       stamp = l.stamp;

@@ -2,7 +2,7 @@
 use Rattle.std.proofs.Common.{◌≡◌, ◌+◌, ℕ, Bool, true, false, if◌then◌else◌, List, [], ◌∷◌, map, drop, Option, Some, None, Result, Ok, Err, refl, sym, ap, ◌∙◌, Bor, IfSome, IfOk, IfErr, MatchResult}
 use Rattle.std.specs.Str.{is_utf8, IsUtf8}
 use Rattle.std.proofs.lemmas.Str.{IsUtf8-from_is_utf8, is_utf8-from_IsUtf8}
-use Rattle.pres_service.specs.Lines.{first_bad, lines_of}
+use Rattle.pres_script.specs.Lines.{first_bad, lines_of}
 use Rattle.pres_sim.specs.Scripts.{AreSteps, IsScript, script_bytes, script_line}
 
 -- a text is the line that it says

@@ -4,31 +4,31 @@ use Rattle.std.specs.Str.{is_utf8}
 use Rattle.pres_write.specs.Moments.{last_moment}
 use Rattle.pres_ids.specs.Ids.{ClientId}
 use Rattle.pres_ids.specs.Forms.{client_in, is_word}
-use Rattle.pres_drive.specs.declared.drive.Line.TheVariants as line
+use Rattle.pres_script.specs.declared.line.Line.TheVariants as line
 use Rattle.pres_world.specs.declared.event.Ending.{Ending}
 use Rattle.pres_world.specs.declared.event.Ending.TheVariants.{Answered, Stopped, Refused}
 use Rattle.pres_world.specs.declared.event.Event.{Event}
 use Rattle.pres_world.specs.declared.event.Event.TheVariants as event
-use Rattle.pres_sim.specs.declared.script.Step.{Step}
-use Rattle.pres_sim.specs.declared.script.Step.TheVariants as step
-use Rattle.pres_service.specs.Lines.{Text, Said, waits, refused, calls, updates, leaves_updates, said, halves, whole_in, line_in, first_bad, lines_of}
+use Rattle.pres_sim.specs.declared.script.ScriptStep.{ScriptStep}
+use Rattle.pres_sim.specs.declared.script.ScriptStep.TheVariants as step
+use Rattle.pres_script.specs.Lines.{Text, ParsedLine, waits, refused, calls, updates, leaves_updates, as_parsed, halves, whole_in, line_in, first_bad, lines_of}
 
 -- a call whose path or JSON is refused, a client's call by what its line says, or another event
 pub data Scripted : Type 0 where
   is_refused : Scripted
-  asks : ClientId → Said → Scripted
+  asks : ClientId → ParsedLine → Scripted
   happens : Event → Scripted
 
 abbrev pub of_event : Event → Scripted
-of_event (event.Call id c) = asks id (said (line.Call c))
+of_event (event.Call id c) = asks id (as_parsed (line.Call c))
 of_event e = happens e
 
-abbrev pub scripted : Step → Scripted
+abbrev pub scripted : ScriptStep → Scripted
 scripted step.Refused = is_refused
 scripted (step.Event e) = of_event e
 
 -- a wait is no call
-abbrev pub of_said : ClientId → Said → Option Scripted
+abbrev pub of_said : ClientId → ParsedLine → Option Scripted
 of_said id (waits count) = None
 of_said id refused = Some is_refused
 of_said id (calls c) = Some (asks id (calls c))

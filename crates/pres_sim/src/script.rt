@@ -2,19 +2,18 @@
 
 ghost use Rattle.std.specs.Prelude.{◌≡◌, IfOk, option_map};
 ghost use Rattle.pres_ids.specs.Forms.{client_in};
-ghost use Rattle.pres_service.specs.Lines.{whole_in};
+ghost use Rattle.pres_script.specs.Lines.{whole_in};
 ghost use Rattle.pres_sim.specs.Scripts.{scripted, moment_in, call_line, arrival_line, delivery_line, loss_line, tick_line, client_start_line, server_start_line, word_line, script_line, script_bytes};
 
-use pres_drive::Line;
 use pres_ids::{ClientId, IdFault};
-use pres_service::{line_of, number_of};
+use pres_script::{Line, line_of, number_of};
 use pres_world::{Ending, Event};
 use pres_write::Moment;
 use std::alloc::{AllocError, Global};
 
 /// What a line of a script says.
 #[derive(Drop)]
-pub enum Step {
+pub enum ScriptStep {
     /// It is an event.
     Event(Event),
     /// It is a call whose path or JSON is refused.
@@ -22,7 +21,7 @@ pub enum Step {
 }
 
 /// What the bytes of a line say: none where it is no line of a script.
-pub fn step_in(alloc: Global, bytes: &[u8]) -> Result<Option<Step>, AllocError>
+pub fn step_in(alloc: Global, bytes: &[u8]) -> Result<Option<ScriptStep>, AllocError>
     ensures { IfOk result (λ step. option_map scripted step ≡ script_bytes bytes.now) }
 {
     match std::str::from_utf8(bytes) {
@@ -31,7 +30,7 @@ pub fn step_in(alloc: Global, bytes: &[u8]) -> Result<Option<Step>, AllocError>
     }
 }
 
-fn step_of(alloc: Global, text: &str) -> Result<Option<Step>, AllocError>
+fn step_of(alloc: Global, text: &str) -> Result<Option<ScriptStep>, AllocError>
     ensures { IfOk result (λ step. option_map scripted step ≡ script_line text.now) }
 {
     match text.split_once(' ') {
@@ -41,7 +40,7 @@ fn step_of(alloc: Global, text: &str) -> Result<Option<Step>, AllocError>
 }
 
 // The step of a word with what it is given.
-fn step_with(alloc: Global, word: &str, given: &str) -> Result<Option<Step>, AllocError>
+fn step_with(alloc: Global, word: &str, given: &str) -> Result<Option<ScriptStep>, AllocError>
     ensures { IfOk result (λ step. option_map scripted step ≡ word_line word.now given.now) }
 {
     match word {
@@ -59,7 +58,7 @@ fn step_with(alloc: Global, word: &str, given: &str) -> Result<Option<Step>, All
 }
 
 // A client's call.
-fn called(alloc: Global, given: &str) -> Result<Option<Step>, AllocError>
+fn called(alloc: Global, given: &str) -> Result<Option<ScriptStep>, AllocError>
     ensures { IfOk result (λ step. option_map scripted step ≡ call_line given.now) }
 {
     let Some((name, text)) = given.split_once(' ') else {
@@ -69,8 +68,8 @@ fn called(alloc: Global, given: &str) -> Result<Option<Step>, AllocError>
         return Ok(None);
     };
     match line_of(alloc, text)? {
-        Some(Line::Call(call)) => Ok(Some(Step::Event(Event::Call { client, call }))),
-        Some(Line::Refused) => Ok(Some(Step::Refused)),
+        Some(Line::Call(call)) => Ok(Some(ScriptStep::Event(Event::Call { client, call }))),
+        Some(Line::Refused) => Ok(Some(ScriptStep::Refused)),
         Some(Line::Wait(_)) | None => Ok(None),
     }
 }
@@ -93,13 +92,13 @@ fn moment_of(text: &str) -> Option<Moment>
 }
 
 // A packet of a client comes to the server.
-fn arrival(given: &str, ending: Ending) -> Option<Step>
+fn arrival(given: &str, ending: Ending) -> Option<ScriptStep>
     ensures { option_map scripted result ≡ arrival_line ending given.now }
 {
     let (packet, now) = given.split_once(' ')?;
     let packet = number_of(packet)? as usize;
     let now = moment_of(now)?;
-    Some(Step::Event(Event::Up {
+    Some(ScriptStep::Event(Event::Up {
         packet,
         now,
         ending,
@@ -107,15 +106,15 @@ fn arrival(given: &str, ending: Ending) -> Option<Step>
 }
 
 // A packet of the server comes to its client.
-fn delivery(given: &str) -> Option<Step>
+fn delivery(given: &str) -> Option<ScriptStep>
     ensures { option_map scripted result ≡ delivery_line given.now }
 {
     let packet = number_of(given)? as usize;
-    Some(Step::Event(Event::Down { packet }))
+    Some(ScriptStep::Event(Event::Down { packet }))
 }
 
 // A client's connection is lost.
-fn loss(alloc: Global, given: &str) -> Result<Option<Step>, AllocError>
+fn loss(alloc: Global, given: &str) -> Result<Option<ScriptStep>, AllocError>
     ensures { IfOk result (λ step. option_map scripted step ≡ loss_line given.now) }
 {
     let Some((name, now)) = given.split_once(' ') else {
@@ -125,30 +124,30 @@ fn loss(alloc: Global, given: &str) -> Result<Option<Step>, AllocError>
         return Ok(None);
     };
     match moment_of(now) {
-        Some(now) => Ok(Some(Step::Event(Event::Loss { client, now }))),
+        Some(now) => Ok(Some(ScriptStep::Event(Event::Loss { client, now }))),
         None => Ok(None),
     }
 }
 
-fn tick(given: &str) -> Option<Step>
+fn tick(given: &str) -> Option<ScriptStep>
     ensures { option_map scripted result ≡ tick_line given.now }
 {
     let now = moment_of(given)?;
-    Some(Step::Event(Event::Tick { now }))
+    Some(ScriptStep::Event(Event::Tick { now }))
 }
 
-fn client_start(alloc: Global, given: &str) -> Result<Option<Step>, AllocError>
+fn client_start(alloc: Global, given: &str) -> Result<Option<ScriptStep>, AllocError>
     ensures { IfOk result (λ step. option_map scripted step ≡ client_start_line given.now) }
 {
     match client_of(alloc, given)? {
-        Some(client) => Ok(Some(Step::Event(Event::RestartClient { client }))),
+        Some(client) => Ok(Some(ScriptStep::Event(Event::RestartClient { client }))),
         None => Ok(None),
     }
 }
 
-fn server_start(given: &str) -> Option<Step>
+fn server_start(given: &str) -> Option<ScriptStep>
     ensures { option_map scripted result ≡ server_start_line given.now }
 {
     let now = moment_of(given)?;
-    Some(Step::Event(Event::RestartServer { now }))
+    Some(ScriptStep::Event(Event::RestartServer { now }))
 }

@@ -1,15 +1,14 @@
 //! `presence sim`: a script of a world, and what it makes.
 
 ghost use Rattle.std.specs.Prelude.{◌≡◌, ◌⊎◌, None, map, IfErr, IfOk, IfSome, MatchResult};
-ghost use Rattle.pres_service.specs.declared.fault.ServiceFault.TheVariants as fault;
+ghost use Rattle.pres_script.specs.declared.fault.ScriptFault.TheVariants as fault;
 ghost use Rattle.pres_world.specs.Distinct.{AreDistinct};
 ghost use Rattle.pres_sim.specs.Scripts.{AreSteps, IsScript};
 
-use crate::script::{Step, client_of, step_in};
+use crate::script::{ScriptStep, client_of, step_in};
 use pres_client::{Call, Client, ClientFault, Notice};
-use pres_drive::notice_line;
 use pres_ids::ClientId;
-use pres_service::{ServiceFault, bytes_of, texts_of};
+use pres_script::{ScriptFault, bytes_of, notice_line, texts_of};
 use pres_tree::{Path, Tree, TreeJson};
 use pres_wire::{Down, Up};
 use pres_world::{Event, World, WorldFault, distinct};
@@ -30,7 +29,7 @@ pub fn sim_run<I: Read, W: Write>(
     alloc: Global,
     input: &mut I,
     output: &mut W,
-) -> Result<(), ServiceFault>
+) -> Result<(), ScriptFault>
     ensures lines { MatchResult result
         (λ _. IfSome (I.remaining input.old) IsScript)
         (λ e. (e ≡ fault.Memory) ⊎ (e ≡ fault.Input)) }
@@ -49,7 +48,7 @@ fn play_script<W: Write>(
     first: &[u8],
     rest: &[&[u8]],
     output: &mut W,
-) -> Result<(), ServiceFault>
+) -> Result<(), ScriptFault>
     ensures good { IfOk result (λ _. AreSteps (map (λ text. text.now) rest.now)) }
     ensures err { IfErr result (λ e. (e ≡ fault.Memory) ⊎ (e ≡ fault.Input)) }
 {
@@ -65,7 +64,7 @@ fn play_with<W: Write>(
     clients: Vec<ClientId>,
     rest: &[&[u8]],
     output: &mut W,
-) -> Result<(), ServiceFault>
+) -> Result<(), ScriptFault>
     requires { AreDistinct clients.items }
     ensures good { IfOk result (λ _. AreSteps (map (λ text. text.now) rest.now)) }
     ensures err { IfErr result (λ e. (e ≡ fault.Memory) ⊎ (e ≡ fault.Input)) }
@@ -77,11 +76,11 @@ fn play_with<W: Write>(
 }
 
 // Tells of the line that says nothing.
-fn bad_line<W: Write>(output: &mut W, number: u64) -> ServiceFault
+fn bad_line<W: Write>(output: &mut W, number: u64) -> ScriptFault
     ensures { result ≡ fault.Input }
 {
     let _ = write!(output, "bad line {number}\n");
-    ServiceFault::Input
+    ScriptFault::Input
 }
 
 // The clients that the first line names, where it names some and none twice.
@@ -116,7 +115,7 @@ fn in_byte_order(alloc: Global, clients: Vec<ClientId>) -> Result<BTreeSet<Clien
 }
 
 // What the lines say, up to the first that says nothing, and the number of that one.
-fn steps_of(alloc: Global, texts: &[&[u8]]) -> Result<(Vec<Step>, Option<u64>), AllocError>
+fn steps_of(alloc: Global, texts: &[&[u8]]) -> Result<(Vec<ScriptStep>, Option<u64>), AllocError>
     ensures { IfOk result (λ r. r.1 ≡ None → AreSteps (map (λ text. text.now) texts.now)) }
 {
     let mut steps = Vec::new(alloc);
@@ -161,7 +160,7 @@ impl Play {
     }
 
     // Does what each line says, up to the first that says nothing.
-    fn all<W: Write>(&mut self, lines: &[&[u8]], output: &mut W) -> Result<(), ServiceFault>
+    fn all<W: Write>(&mut self, lines: &[&[u8]], output: &mut W) -> Result<(), ScriptFault>
         ensures good { IfOk result (λ _. AreSteps (map (λ text. text.now) lines.now)) }
         ensures err { IfErr result (λ e. (e ≡ fault.Memory) ⊎ (e ≡ fault.Input)) }
     {
@@ -172,10 +171,10 @@ impl Play {
     // Does what each step says, and tells how the world is then, or which line says nothing.
     fn finish<W: Write>(
         &mut self,
-        steps: Vec<Step>,
+        steps: Vec<ScriptStep>,
         bad: Option<u64>,
         output: &mut W,
-    ) -> Result<(), ServiceFault>
+    ) -> Result<(), ScriptFault>
         ensures good { IfOk result (λ _. bad ≡ None) }
         ensures err { IfErr result (λ e. (e ≡ fault.Memory) ⊎ (e ≡ fault.Input)) }
     {
@@ -187,13 +186,13 @@ impl Play {
     }
 
     // Does what each step says.
-    fn run<W: Write>(&mut self, steps: Vec<Step>, output: &mut W) -> Result<(), ServiceFault>
+    fn run<W: Write>(&mut self, steps: Vec<ScriptStep>, output: &mut W) -> Result<(), ScriptFault>
         ensures { IfErr result (λ e. (e ≡ fault.Memory) ⊎ (e ≡ fault.Input)) }
     {
         for step in steps {
             match step {
-                Step::Event(event) => self.step(event, output)?,
-                Step::Refused => tell(output, b"refused 5\n")?,
+                ScriptStep::Event(event) => self.step(event, output)?,
+                ScriptStep::Refused => tell(output, b"refused 5\n")?,
             }
         }
         Ok(())
@@ -212,23 +211,23 @@ impl Play {
     }
 
     // Does the event, and tells what it made, or why it is refused.
-    fn step<W: Write>(&mut self, event: Event, output: &mut W) -> Result<(), ServiceFault>
+    fn step<W: Write>(&mut self, event: Event, output: &mut W) -> Result<(), ScriptFault>
         ensures { IfErr result (λ e. (e ≡ fault.Memory) ⊎ (e ≡ fault.Input)) }
     {
         if self.remember(&event).is_err() {
             drop(event);
-            return Err(ServiceFault::Memory);
+            return Err(ScriptFault::Memory);
         }
         match self.world.step(event) {
             Ok(()) => self.tell_news(output),
-            Err(WorldFault::Memory) => Err(ServiceFault::Memory),
+            Err(WorldFault::Memory) => Err(ScriptFault::Memory),
             Err(WorldFault::NoSuch) => tell(output, b"nosuch\n"),
             Err(WorldFault::Client(fault)) => tell_refusal(self.alloc, output, fault),
         }
     }
 
     // Tells of the packets that are new, and of what clients noted.
-    fn tell_news<W: Write>(&mut self, output: &mut W) -> Result<(), ServiceFault>
+    fn tell_news<W: Write>(&mut self, output: &mut W) -> Result<(), ScriptFault>
         ensures { IfErr result (λ e. (e ≡ fault.Memory) ⊎ (e ≡ fault.Input)) }
     {
         self.tell_ups(output)?;
@@ -237,7 +236,7 @@ impl Play {
     }
 
     // Tells of the packets that clients have sent since.
-    fn tell_ups<W: Write>(&mut self, output: &mut W) -> Result<(), ServiceFault>
+    fn tell_ups<W: Write>(&mut self, output: &mut W) -> Result<(), ScriptFault>
         ensures { IfErr result (λ e. (e ≡ fault.Memory) ⊎ (e ≡ fault.Input)) }
     {
         let packets = self.world.packets_up();
@@ -249,7 +248,7 @@ impl Play {
     }
 
     // Tells of the packets that the server has sent since.
-    fn tell_downs<W: Write>(&mut self, output: &mut W) -> Result<(), ServiceFault>
+    fn tell_downs<W: Write>(&mut self, output: &mut W) -> Result<(), ScriptFault>
         ensures { IfErr result (λ e. (e ≡ fault.Memory) ⊎ (e ≡ fault.Input)) }
     {
         let packets = self.world.packets_down();
@@ -261,7 +260,7 @@ impl Play {
     }
 
     // Tells what clients have noted since.
-    fn tell_notes<W: Write>(&mut self, output: &mut W) -> Result<(), ServiceFault>
+    fn tell_notes<W: Write>(&mut self, output: &mut W) -> Result<(), ScriptFault>
         ensures { IfErr result (λ e. (e ≡ fault.Memory) ⊎ (e ≡ fault.Input)) }
     {
         for client in self.clients.iter() {
@@ -272,7 +271,7 @@ impl Play {
     }
 
     // Tells how the world is at the end.
-    fn end<W: Write>(&self, output: &mut W) -> Result<(), ServiceFault>
+    fn end<W: Write>(&self, output: &mut W) -> Result<(), ScriptFault>
         ensures { IfErr result (λ e. (e ≡ fault.Memory) ⊎ (e ≡ fault.Input)) }
     {
         self.tell_server(output)?;
@@ -285,7 +284,7 @@ impl Play {
     }
 
     // Tells the server's number and its tree.
-    fn tell_server<W: Write>(&self, output: &mut W) -> Result<(), ServiceFault>
+    fn tell_server<W: Write>(&self, output: &mut W) -> Result<(), ScriptFault>
         ensures { IfErr result (λ e. (e ≡ fault.Memory) ⊎ (e ≡ fault.Input)) }
     {
         let Some(server) = self.world.server() else {
@@ -306,7 +305,7 @@ impl Play {
         output: &mut W,
         id: &ClientId,
         client: &Client,
-    ) -> Result<(), ServiceFault>
+    ) -> Result<(), ScriptFault>
         ensures { IfErr result (λ e. (e ≡ fault.Memory) ⊎ (e ≡ fault.Input)) }
     {
         for path in self.paths.iter() {
@@ -320,12 +319,12 @@ impl Play {
 }
 
 // Writes the line.
-fn tell<W: Write>(output: &mut W, line: &[u8]) -> Result<(), ServiceFault>
+fn tell<W: Write>(output: &mut W, line: &[u8]) -> Result<(), ScriptFault>
     ensures { IfErr result (λ e. (e ≡ fault.Memory) ⊎ (e ≡ fault.Input)) }
 {
     match output.write_all(line) {
         Ok(()) => Ok(()),
-        Err(_) => Err(ServiceFault::Input),
+        Err(_) => Err(ScriptFault::Input),
     }
 }
 
@@ -333,7 +332,7 @@ fn tell_refusal<W: Write>(
     alloc: Global,
     output: &mut W,
     refusal: ClientFault,
-) -> Result<(), ServiceFault>
+) -> Result<(), ScriptFault>
     ensures { IfErr result (λ e. (e ≡ fault.Memory) ⊎ (e ≡ fault.Input)) }
 {
     tell(
@@ -347,7 +346,7 @@ fn tell_up<W: Write>(
     output: &mut W,
     number: usize,
     packet: &Up,
-) -> Result<(), ServiceFault>
+) -> Result<(), ScriptFault>
     ensures { IfErr result (λ e. (e ≡ fault.Memory) ⊎ (e ≡ fault.Input)) }
 {
     let text = packet.encode(alloc)?;
@@ -362,7 +361,7 @@ fn tell_down<W: Write>(
     output: &mut W,
     number: usize,
     packet: &Down,
-) -> Result<(), ServiceFault>
+) -> Result<(), ScriptFault>
     ensures { IfErr result (λ e. (e ≡ fault.Memory) ⊎ (e ≡ fault.Input)) }
 {
     let text = packet.encode(alloc)?;
@@ -378,7 +377,7 @@ fn tell_notices<W: Write>(
     output: &mut W,
     client: &ClientId,
     notices: Vec<Notice>,
-) -> Result<(), ServiceFault>
+) -> Result<(), ScriptFault>
     ensures { IfErr result (λ e. (e ≡ fault.Memory) ⊎ (e ≡ fault.Input)) }
 {
     for notice in notices {

@@ -6,13 +6,13 @@ use denote.Ref.{NamedLft}
 use Rattle.std.proofs.Crossing.{crosses, send as global_is, sync as global_shared}
 use Rattle.std.specs.declared.sync.ledger.Ledger as ledger
 use Rattle.tungstenite.proofs.protocol.WebSocket.TheSendSync.{the_send as socket_is}
-use Rattle.pres_seats.proofs.seat.Seat.TheSendSync.{the_send as seat_is}
+use Rattle.pres_accounting.proofs.seat.Seat.TheSendSync.{the_send as seat_is}
 use Rattle.pres_hub.proofs.Crossing.{outbox_send, hub_sync}
 use Rattle.pres_websocket.proofs.fault.SockFault.TheSendSync.{the_send as fault_is}
 use Rattle.pres_websocket.proofs.meter.Metered.TheSendSync.{the_send as metered_is}
-use Rattle.pres_websocket.proofs.socket.Came.TheSendSync.{the_send as came_is}
-use Rattle.pres_sock.specs.contracts.place.Place as place
-use Rattle.pres_sock.specs.contracts.place.Visit as visit
+use Rattle.pres_websocket.proofs.socket.Received.TheSendSync.{the_send as came_is}
+use Rattle.pres_sock.specs.contracts.joined_session.JoinedSession as place
+use Rattle.pres_sock.specs.contracts.joined_session.HubAccess as visit
 use Rattle.pres_sock.specs.contracts.serve.Served as served
 use Rattle.pres_sock.specs.contracts.serve.Arrival as arrival
 use Rattle.pres_sock.specs.contracts.serve.Begun as begun

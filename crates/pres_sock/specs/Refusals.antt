@@ -9,8 +9,8 @@ use Rattle.pres_wire.specs.declared.down.Down.TheVariants as down
 use Rattle.pres_wire.specs.declared.down.Code.{Code}
 use Rattle.pres_wire.specs.declared.down.Code.TheVariants as code
 use Rattle.pres_log.specs.Faults.{code_of as code_of_server}
-use Rattle.pres_seats.specs.declared.fault.HubFault.{HubFault}
-use Rattle.pres_seats.specs.declared.fault.HubFault.TheVariants as hub
+use Rattle.pres_faults.specs.declared.hub_fault.HubFault.{HubFault}
+use Rattle.pres_faults.specs.declared.hub_fault.HubFault.TheVariants as hub
 
 -- the code of a fault message; none where the hub has less than the seat was told of, or more of its session
 abbrev pub code_of : HubFault → Option Code
@@ -34,10 +34,10 @@ IsNoHello (Ok (up.Hello session)) = ⊥
 IsNoHello read = ⊤
 
 -- a fault message that refuses what was asked for: it names the session, or has the code of what is no Hello
-abbrev pub IsRefusal : Result SessionId Code → Down → Type 0
-IsRefusal (Ok session) (down.Fault named code) = named ≡ Some session
-IsRefusal (Err bad) message = message ≡ down.Fault None bad
-IsRefusal asked message = ⊥
+abbrev pub IsHelloRefusal : Result SessionId Code → Down → Type 0
+IsHelloRefusal (Ok session) (down.Fault named code) = named ≡ Some session
+IsHelloRefusal (Err bad) message = message ≡ down.Fault None bad
+IsHelloRefusal asked message = ⊥
 
 -- the connection ends behind it: before a session is open, what is no Hello ends it
 abbrev pub is_last : Down → Bool

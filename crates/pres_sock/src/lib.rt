@@ -1,7 +1,7 @@
 //! Connections over WebSocket (RFC 6455), over any stream: the server's side, with a hub behind it.
 #![tactic(auto)]
 
-mod place;
+mod joined_session;
 mod serve;
 
 pub use serve::{Clock, serve_stream};

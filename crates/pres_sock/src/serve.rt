@@ -10,14 +10,14 @@ ghost use Rattle.pres_wire.specs.UpForms.{decoded};
 ghost use Rattle.pres_wire.specs.declared.down.Code.TheVariants.{Bad, Busy};
 ghost use Rattle.pres_wire.specs.declared.fault.WireFault.{WireFault};
 ghost use Rattle.pres_wire.specs.declared.up.Up.TheVariants.{Hello};
-ghost use Rattle.pres_websocket.specs.Ends.{is_handshake, fails_to_shake};
-ghost use Rattle.pres_websocket.specs.declared.socket.Came.TheVariants.{Binary, Text};
-ghost use Rattle.pres_sock.specs.Refusals.{bad, AnswersBad, IsNoHello, IsRefusal, is_last};
+ghost use Rattle.pres_websocket.specs.ConnectionFaults.{is_handshake, fails_to_shake};
+ghost use Rattle.pres_websocket.specs.declared.socket.Received.TheVariants.{Binary, Text};
+ghost use Rattle.pres_sock.specs.Refusals.{bad, AnswersBad, IsNoHello, IsHelloRefusal, is_last};
 ghost use Rattle.pres_sock.specs.Bells.{left_of};
 
-use crate::place::{Place, Visit, code_of, join, ring};
+use crate::joined_session::{HubAccess, JoinedSession, code_of, join, ring};
 use pres_hub::{Bell, Gate, Hub, Keeper, Moment, Parting, SessionId, Up};
-use pres_websocket::{Came, SockFault, Socket, accept, close, flush, read, write};
+use pres_websocket::{Received, SockFault, Socket, accept, close, flush, read, write};
 use pres_wire::{Code, Down, WireFault};
 use std::alloc::Global;
 use std::io::{Read, Write};
@@ -35,7 +35,7 @@ pub trait Clock {
 
 // Whether the connection goes on, and who ends it else.
 #[derive(Drop)]
-enum Step {
+enum Progress {
     GoOn,
     Closed,
     Close,
@@ -44,16 +44,16 @@ enum Step {
 // A connection whose session was opened, the bells that are to be rung, and whether it goes on.
 struct Served<L: Ledger, B, S> {
     socket: Socket<S, NoMask>,
-    place: Place<L>,
+    place: JoinedSession<L>,
     due: Vec<B>,
-    step: Result<Step, SockFault>,
+    step: Result<Progress, SockFault>,
     ghost joined: { 1 ≤ place.seat.made },
     ghost shaken: { fails_to_shake step ≡ false },
 }
 
 impl<L: Ledger, B, S> Served<L, B, S> {
     fn goes_on(&self) -> bool {
-        matches!(self.step, Ok(Step::GoOn))
+        matches!(self.step, Ok(Progress::GoOn))
     }
 
     // The connection is over for this fault.
@@ -73,8 +73,8 @@ impl<L: Ledger, B, S: Read + Write + Drop> Served<L, B, S> {
     // What this read is answered with, and what waits for the session.
     fn turn<K: Keeper + Drop, G: Gate, R: Wait, C: Clock>(
         &mut self,
-        visit: &Visit<'_, L, K, B, G, R>,
-        came: Came,
+        visit: &HubAccess<'_, L, K, B, G, R>,
+        came: Received,
         clock: &mut C,
     )
     where
@@ -123,7 +123,7 @@ pub fn serve_stream<
     ensures kept { IfNone result.0 (bell.new ≡ bell.old) }
     ensures handshake { IfErr result.1 (λ e. is_handshake e ≡ true → result.0 ≡ None) }
 {
-    let visit = Visit { rt, alloc, hub };
+    let visit = HubAccess { rt, alloc, hub };
     let arrival = Arrival {
         visit: &visit,
         stream,
@@ -147,7 +147,7 @@ pub fn serve_stream<
     let parting = place.leave(&visit, &mut due, Moment::at(clock.now()));
     ring(&mut due);
     let ended = match step {
-        Ok(Step::Close) => {
+        Ok(Progress::Close) => {
             close(&mut socket);
             Ok(())
         }
@@ -178,7 +178,7 @@ fn apart<R: Threads, T: Task<Output = A> + Send + Drop, A: Send>(rt: &R, task: T
 // The first work for a connection: the handshake, a session, and what comes first.
 #[derive(Drop)]
 struct Arrival<'a, L: Ledger, K: Keeper + Drop, B, G: Gate, R, S, C> {
-    visit: &'a Visit<'a, L, K, B, G, R>,
+    visit: &'a HubAccess<'a, L, K, B, G, R>,
     stream: S,
     bell: Option<B>,
     clock: &'a mut C,
@@ -227,7 +227,7 @@ fn open<
     S: Read + Write + Drop,
     C: Clock,
 >(
-    visit: &Visit<'_, L, K, B, G, R>,
+    visit: &HubAccess<'_, L, K, B, G, R>,
     stream: S,
     bell: &mut Option<B>,
     clock: &mut C,
@@ -243,9 +243,9 @@ fn open<
         socket,
         place,
         due,
-        step: Ok(Step::GoOn),
+        step: Ok(Progress::GoOn),
     };
-    turns(visit, &mut served, Came::Nothing, clock);
+    turns(visit, &mut served, Received::Nothing, clock);
     Ok(Some(served))
 }
 
@@ -260,12 +260,12 @@ fn greet<
     S: Read + Write + Drop,
     C: Clock,
 >(
-    visit: &Visit<'_, L, K, B, G, R>,
+    visit: &HubAccess<'_, L, K, B, G, R>,
     socket: &mut Socket<S, NoMask>,
     bell: &mut Option<B>,
     due: &mut Vec<B>,
     clock: &mut C,
-) -> Result<Option<Place<L>>, SockFault>
+) -> Result<Option<JoinedSession<L>>, SockFault>
     ensures joined { IfOk result (λ found. IfSome found (λ place. 1 ≤ place.seat.made)) }
     ensures bell { bell.new ≡ left_of bell.old result }
 {
@@ -292,10 +292,10 @@ fn next_asked<S: Read + Write + Drop>(
 {
     for _ in 0..u64::MAX {
         match read(socket)? {
-            Came::Nothing => {}
-            Came::Text(text) => return Ok(Some(hello_in(alloc, text.as_str()))),
-            Came::Binary => return Ok(Some(Err(Code::Bad))),
-            Came::Close => {
+            Received::Nothing => {}
+            Received::Text(text) => return Ok(Some(hello_in(alloc, text.as_str()))),
+            Received::Binary => return Ok(Some(Err(Code::Bad))),
+            Received::Close => {
                 flush(socket)?;
                 return Ok(None);
             }
@@ -306,15 +306,15 @@ fn next_asked<S: Read + Write + Drop>(
 
 // The place of the session that is asked for, or the fault message that refuses it.
 fn admit<L: Ledger, K: Keeper + Drop, B: Bell + Clone + Drop, G: Gate, R: Wait, C: Clock>(
-    visit: &Visit<'_, L, K, B, G, R>,
+    visit: &HubAccess<'_, L, K, B, G, R>,
     asked: Result<SessionId, Code>,
     bell: &mut Option<B>,
     due: &mut Vec<B>,
     clock: &mut C,
-) -> Result<Result<Place<L>, Down>, SockFault>
+) -> Result<Result<JoinedSession<L>, Down>, SockFault>
     ensures joined { IfOk result (λ found. IfOk found (λ place. place.seat.made ≡ 1)) }
     ensures opened { IfOk result (λ found. IfOk found (λ place. asked ≡ Ok place.seat.session)) }
-    ensures refused { IfOk result (λ found. IfErr found (IsRefusal asked)) }
+    ensures refused { IfOk result (λ found. IfErr found (IsHelloRefusal asked)) }
     ensures taken { IfOk result (λ found. OnOk found (bell.new ≡ None)) }
     ensures kept { IfOk result (λ found. OnErr found (bell.new ≡ bell.old)) }
     ensures failed { OnErr result (bell.new ≡ bell.old) }
@@ -404,13 +404,13 @@ fn serve<
     R: Wait + Threads + Sync,
     S: Read + Write + Drop + Send,
     C: Clock + Send,
->(visit: &Visit<'_, L, K, B, G, R>, served: &mut Served<L, B, S>, clock: &mut C) {
+>(visit: &HubAccess<'_, L, K, B, G, R>, served: &mut Served<L, B, S>, clock: &mut C) {
     for _ in 0..u64::MAX {
         if !served.goes_on() {
             return;
         }
         match read(&mut served.socket) {
-            Ok(Came::Nothing) => served.send(visit.alloc),
+            Ok(Received::Nothing) => served.send(visit.alloc),
             Ok(came) => apart(
                 visit.rt,
                 Waking {
@@ -429,9 +429,9 @@ fn serve<
 // The work for a connection that rested: what came is answered, and what comes behind it.
 #[derive(Drop)]
 struct Waking<'a, L: Ledger, K: Keeper + Drop, B, G: Gate, R, S, C> {
-    visit: &'a Visit<'a, L, K, B, G, R>,
+    visit: &'a HubAccess<'a, L, K, B, G, R>,
     served: &'a mut Served<L, B, S>,
-    came: Came,
+    came: Received,
     clock: &'a mut C,
 }
 
@@ -467,7 +467,12 @@ fn turns<
     R: Wait,
     S: Read + Write + Drop,
     C: Clock,
->(visit: &Visit<'_, L, K, B, G, R>, served: &mut Served<L, B, S>, came: Came, clock: &mut C) {
+>(
+    visit: &HubAccess<'_, L, K, B, G, R>,
+    served: &mut Served<L, B, S>,
+    came: Received,
+    clock: &mut C,
+) {
     let mut idle = 0;
     served.turn(visit, came, &mut *clock);
     for _ in 0..u64::MAX {
@@ -477,7 +482,7 @@ fn turns<
         }
         match read(&mut served.socket) {
             Ok(came) => {
-                idle = if matches!(came, Came::Nothing) {
+                idle = if matches!(came, Received::Nothing) {
                     idle + 1
                 } else {
                     0
@@ -501,19 +506,19 @@ fn turn<
     S: Read + Write + Drop,
     C: Clock,
 >(
-    visit: &Visit<'_, L, K, B, G, R>,
+    visit: &HubAccess<'_, L, K, B, G, R>,
     socket: &mut Socket<S, NoMask>,
-    place: &mut Place<L>,
+    place: &mut JoinedSession<L>,
     due: &mut Vec<B>,
-    came: Came,
+    came: Received,
     clock: &mut C,
-) -> Result<Step, SockFault>
+) -> Result<Progress, SockFault>
     ensures grows { place.old.seat.made ≤ place.new.seat.made }
     ensures err { IfErr result (λ e. is_handshake e ≡ false) }
 {
-    if let Came::Close = came {
+    if let Received::Close = came {
         flush(socket)?;
-        return Ok(Step::Closed);
+        return Ok(Progress::Closed);
     }
     let answer = answer_to(visit, place, due, came, clock)?;
     put_answer(visit.alloc, socket, answer)?;
@@ -522,10 +527,10 @@ fn turn<
 
 // What answers this, where the hub's own messages don't.
 fn answer_to<L: Ledger, K: Keeper + Drop, B: Bell + Clone + Drop, G: Gate, R: Wait, C: Clock>(
-    visit: &Visit<'_, L, K, B, G, R>,
-    place: &mut Place<L>,
+    visit: &HubAccess<'_, L, K, B, G, R>,
+    place: &mut JoinedSession<L>,
     due: &mut Vec<B>,
-    came: Came,
+    came: Received,
     clock: &mut C,
 ) -> Result<Option<Down>, SockFault>
     ensures binary { came ≡ Binary → IfOk result (λ answer. answer ≡ bad place.old.seat.session) }
@@ -535,9 +540,9 @@ fn answer_to<L: Ledger, K: Keeper + Drop, B: Bell + Clone + Drop, G: Gate, R: Wa
     ensures err { IfErr result (λ e. is_handshake e ≡ false) }
 {
     match came {
-        Came::Text(text) => place.hear(visit, due, text.as_str(), Moment::at(clock.now())),
-        Came::Binary => Ok(Some(place.fault(visit.alloc, Code::Bad)?)),
-        Came::Nothing | Came::Close => Ok(None),
+        Received::Text(text) => place.hear(visit, due, text.as_str(), Moment::at(clock.now())),
+        Received::Binary => Ok(Some(place.fault(visit.alloc, Code::Bad)?)),
+        Received::Nothing | Received::Close => Ok(None),
     }
 }
 
@@ -562,18 +567,18 @@ fn put_answer<S: Read + Write + Drop>(
 fn send_all<L: Ledger, S: Read + Write + Drop>(
     alloc: Global,
     socket: &mut Socket<S, NoMask>,
-    place: &mut Place<L>,
-) -> Result<Step, SockFault>
+    place: &mut JoinedSession<L>,
+) -> Result<Progress, SockFault>
     ensures seat { place.new.seat ≡ place.old.seat }
     ensures err { IfErr result (λ e. is_handshake e ≡ false) }
 {
-    let mut step = Step::GoOn;
+    let mut step = Progress::GoOn;
     'messages: for _ in 0..BURST {
         let Some(is_gone) = put_next(alloc, socket, place)? else {
             break;
         };
         if is_gone {
-            step = Step::Close;
+            step = Progress::Close;
         }
     }
     flush(socket)?;
@@ -584,7 +589,7 @@ fn send_all<L: Ledger, S: Read + Write + Drop>(
 fn put_next<L: Ledger, S: Read + Write + Drop>(
     alloc: Global,
     socket: &mut Socket<S, NoMask>,
-    place: &mut Place<L>,
+    place: &mut JoinedSession<L>,
 ) -> Result<Option<bool>, SockFault>
     ensures seat { place.new.seat ≡ place.old.seat }
     ensures err { IfErr result (λ e. is_handshake e ≡ false) }

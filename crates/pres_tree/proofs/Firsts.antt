@@ -7,7 +7,7 @@ use Rattle.std.specs.Cmp.{upto}
 use Rattle.std.specs.Cmp.Lexicographic.{nat_list_cmp_total}
 use Rattle.pres_tree.specs.Keys.{Key, key_cmp}
 use Rattle.pres_tree.specs.declared.fault.TreeFault.{TreeFault}
-use Rattle.pres_tree.specs.Reading.{KeyedFault, first_of}
+use Rattle.pres_tree.specs.JsonReading.{KeyedFault, first_of}
 
 less_of : (o : Ordering) → is_lt o ≡ true → o ≡ Less
 less_of Less h = refl

@@ -9,7 +9,7 @@ use Rattle.pres_tree.specs.Paths.{path_cmp, sorted_by}
 use Rattle.pres_tree.specs.Rows.{Rows}
 use Rattle.pres_tree.specs.Layer.{child_rows}
 use Rattle.pres_tree.specs.declared.fault.TreeFault.{TreeFault}
-use Rattle.pres_tree.specs.Reading.{Reading, KeyedFault, rows_of, items_rows, fault_of, items_fault, fault_at, first_of}
+use Rattle.pres_tree.specs.JsonReading.{Reading, KeyedFault, rows_of, items_rows, fault_of, items_fault, fault_at, first_of}
 use Rattle.pres_tree.proofs.Found.{SetsChild}
 use Rattle.pres_tree.proofs.Firsts.{first_of-assoc}
 use Rattle.pres_tree.proofs.Shallow.{Kid, Kids, Kids-insert}

@@ -16,7 +16,7 @@ use Rattle.serde_json.specs.Read.{of_json, of_members, read, max_depth}
 use Rattle.serde_json.specs.Written.{outline, items_outline, members_outline}
 use Rattle.pres_tree.specs.Keys.{Key, key_cmp}
 use Rattle.pres_tree.specs.Rows.{Rows}
-use Rattle.pres_tree.specs.Printing.{json_of, members_of, IsPlain, MembersArePlain, tokens_of}
+use Rattle.pres_tree.specs.JsonPrinting.{json_of, members_of, IsPlain, MembersArePlain, tokens_of}
 
 -- ---- its text
 

@@ -21,11 +21,11 @@ use Rattle.pres_tree.specs.Paths.{Path, path_cmp, sorted_by}
 use Rattle.pres_tree.specs.Rows.{Rows, InOrder, is_null, height, placed}
 use Rattle.pres_tree.specs.Layer.{Children, child_rows}
 use Rattle.pres_tree.specs.Falls.{height-sorted_by, height-append, height-placed, height-positive}
-use Rattle.pres_tree.specs.Reading.{Reading, branch, leaf, HasKeys, rows_or, fault_or, fault_in, rows_of, fault_of, items_rows, items_fault, members_rows, members_fault}
+use Rattle.pres_tree.specs.JsonReading.{Reading, branch, leaf, HasKeys, rows_or, fault_or, fault_in, rows_of, fault_of, items_rows, items_fault, members_rows, members_fault}
 use Rattle.pres_tree.specs.declared.fault.TreeFault.{TreeFault}
 use Rattle.pres_tree.specs.declared.fault.TreeFault.TheVariants.{TooDeep}
 use Rattle.std.proofs.lemmas.Bool.Decides.{nat_tests}
-use Rattle.pres_tree.specs.Printing.{members_in, with_first, with_row, json_of, members_of, ReadsBack, MembersReadBack, IsPlain}
+use Rattle.pres_tree.specs.JsonPrinting.{members_in, with_first, with_row, json_of, members_of, ReadsBack, MembersReadBack, IsPlain}
 use Rattle.pres_tree.proofs.Plain.{ArePlain}
 use Rattle.pres_tree.proofs.Last.{find-sorted_by}
 use Rattle.pres_tree.proofs.Found.{same_rows, in_order}

@@ -22,7 +22,7 @@ use Rattle.pres_tree.specs.Keys.{Key, is_banned, is_key, key_cmp, same_key}
 use Rattle.pres_tree.specs.declared.fault.TreeFault.TheVariants.{EmptyKey, LongKey, BadKey}
 use Rattle.pres_tree.specs.Paths.{Path, path_cmp, sorted_by}
 use Rattle.pres_tree.specs.Rows.{Rows, placed, leaf_at}
-use Rattle.pres_tree.specs.Reading.{Reading, rows_of, items_rows}
+use Rattle.pres_tree.specs.JsonReading.{Reading, rows_of, items_rows}
 use Rattle.pres_tree.proofs.Last.{find-append, find-placed, find-sorted_by}
 use Rattle.pres_tree.proofs.Found.{key_same, same_rows, in_order, HasChildren, SetsChild, object_root, object_children}
 use Rattle.pres_tree.specs.Layer.{child_rows}

@@ -16,7 +16,7 @@ use Rattle.pres_tree.specs.Keys.{Key, key_cmp, is_key, same_key}
 use Rattle.pres_tree.specs.Paths.{Path, max_depth, path_cmp, sorted_by}
 use Rattle.pres_tree.specs.Rows.{Rows, IsValue, Holds, is_null, leaf_at, placed}
 use Rattle.pres_tree.specs.Layer.{Children, child_rows}
-use Rattle.pres_tree.specs.Reading.{Reading, Shallow, rows_of, items_rows, members_rows}
+use Rattle.pres_tree.specs.JsonReading.{Reading, Shallow, rows_of, items_rows, members_rows}
 use Rattle.pres_tree.proofs.Last.{find-append, find-placed, find-sorted_by}
 use Rattle.pres_tree.proofs.Found.{key_same, in_order, rows_at, object_root, object_children}
 

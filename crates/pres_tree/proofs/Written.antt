@@ -6,7 +6,7 @@ use Rattle.json.specs.Print.{print}
 use Rattle.serde_json.specs.Data.{Data, Members, object}
 use Rattle.serde_json.specs.Written.{compact_text}
 use Rattle.serde_json.proofs.Texts.{print-outline}
-use Rattle.pres_tree.specs.Printing.{tokens_of, tokens_of_members}
+use Rattle.pres_tree.specs.JsonPrinting.{tokens_of, tokens_of_members}
 
 -- the members and the end, after the start
 pub object_written : {E : Type 0} (r : Result (Unit {0}) E) (new start old : List Token) (ms : Members) (d : Data)

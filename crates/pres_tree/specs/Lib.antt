@@ -5,8 +5,8 @@ pub mod Keys
 pub mod Layer
 pub mod Lends
 pub mod Paths
-pub mod Printing
-pub mod Reading
+pub mod JsonPrinting
+pub mod JsonReading
 pub mod Rest
 pub mod Rooms
 pub mod Rows

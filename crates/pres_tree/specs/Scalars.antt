@@ -9,7 +9,7 @@ use Rattle.serde_json.specs.Find.{of_integer}
 use Rattle.pres_tree.specs.declared.fault.TreeFault.TheVariants.{NotWhole, Range}
 use Rattle.pres_tree.specs.declared.scalar.Scalar.{Scalar}
 use Rattle.pres_tree.specs.declared.scalar.Scalar.TheVariants.{Bool as BoolOf, Int, Text}
-use Rattle.pres_tree.specs.Reading.{Reading, branch, leaf, bad}
+use Rattle.pres_tree.specs.JsonReading.{Reading, branch, leaf, bad}
 use Rattle.pres_tree.specs.Rows.{Rows}
 
 abbrev pub number_reading : Num → Reading Scalar

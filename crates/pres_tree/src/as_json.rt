@@ -46,8 +46,8 @@ pub trait TreeJson {
     ghost use Rattle.serde_json.specs.View.{view};
     ghost use Rattle.serde_json.specs.Written.{compact_text};
     ghost use Rattle.pres_tree.specs.Paths.{max_depth};
-    ghost use Rattle.pres_tree.specs.Printing.{json_of, ReadsBack};
-    ghost use Rattle.pres_tree.specs.Reading.{rows_of, fault_of};
+    ghost use Rattle.pres_tree.specs.JsonPrinting.{json_of, ReadsBack};
+    ghost use Rattle.pres_tree.specs.JsonReading.{rows_of, fault_of};
     ghost use Rattle.pres_tree.specs.Rows.{Rows};
     ghost use Rattle.pres_tree.specs.Scalars.{scalar_reading, scalar_printing};
     ghost use Rattle.pres_tree.specs.declared.fault.TreeFault.TheVariants.{Memory};

@@ -24,7 +24,7 @@ pub use key::Key;
 pub use nested::{Change, Leaf, Nested};
 pub use path::{MAX_DEPTH, Path};
 pub use print::{PrintedForm, text_of, to_value, write_value};
-pub use read::{Form, from_value, from_value_below, from_value_under};
+pub use read::{LeafForm, from_value, from_value_below, from_value_under};
 pub use scalar::{Scalar, ScalarForm};
 pub use text::Text;
 

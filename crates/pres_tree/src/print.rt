@@ -5,23 +5,23 @@ ghost use Rattle.serde_json.specs.Data.{Data, depth};
 ghost use Rattle.serde_json.specs.Read.{read, max_depth};
 ghost use Rattle.serde_json.specs.View.{view, members_view};
 ghost use Rattle.serde_json.specs.Written.{compact_text};
-ghost use Rattle.pres_tree.specs.Printing.{json_of, members_of, ReadsBack, MembersReadBack, IsPlain, MembersArePlain, tokens_of, tokens_of_members};
+ghost use Rattle.pres_tree.specs.JsonPrinting.{json_of, members_of, ReadsBack, MembersReadBack, IsPlain, MembersArePlain, tokens_of, tokens_of_members};
 
 use crate::children::Children;
 use crate::nested::{Nested, Node};
-use crate::read::Form;
+use crate::read::LeafForm;
 use json::Writer;
 use serde_json::{Map, Value};
 use std::alloc::{AllocError, Global};
 use std::mem::replace;
 
 /// A form that leaves are printed in too, so that they are read again.
-pub trait PrintedForm<L>: Form<L> {
+pub trait PrintedForm<L>: LeafForm<L> {
     ghost use Rattle.std.specs.Prelude.{◌≡◌, ◌++◌, IfOk, OnOk};
     ghost use Rattle.serde_json.specs.Data.{Data, Members, null, object};
     ghost use Rattle.serde_json.specs.View.{view};
-    ghost use Rattle.pres_tree.specs.Printing.{tokens_of, IsPlain};
-    ghost use Rattle.pres_tree.specs.Reading.{HasKeys, branch, leaf};
+    ghost use Rattle.pres_tree.specs.JsonPrinting.{tokens_of, IsPlain};
+    ghost use Rattle.pres_tree.specs.JsonReading.{HasKeys, branch, leaf};
 
     ghost printing: { L → Data };
 

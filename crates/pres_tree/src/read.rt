@@ -5,7 +5,7 @@ ghost use Rattle.serde_json.specs.View.{view, items_view, members_view};
 ghost use Rattle.pres_tree.specs.declared.fault.TreeFault.TheVariants.{Memory};
 ghost use Rattle.pres_tree.specs.Paths.{max_depth, path_cmp, sorted_by};
 ghost use Rattle.pres_tree.specs.Rows.{Fits};
-ghost use Rattle.pres_tree.specs.Reading.{levels_below, rows_of, fault_of, items_rows, items_fault, members_rows, members_fault, first_of, fault_in, Shallow};
+ghost use Rattle.pres_tree.specs.JsonReading.{levels_below, rows_of, fault_of, items_rows, items_fault, members_rows, members_fault, first_of, fault_in, Shallow};
 
 use crate::children::Children;
 use crate::fault::TreeFault;
@@ -22,11 +22,11 @@ const LEVELS: usize = MAX_DEPTH + 1;
 type KeyedFault = (Key, TreeFault);
 
 /// How JSON tells the leaves of a value. A type of its own stands for each form.
-pub trait Form<L> {
+pub trait LeafForm<L> {
     ghost use Rattle.std.specs.Prelude.{◌≡◌, ◌⊎◌, true, MatchResult};
     ghost use Rattle.serde_json.specs.Data.{Data};
     ghost use Rattle.serde_json.specs.View.{view};
-    ghost use Rattle.pres_tree.specs.Reading.{Reading, leaf, bad, is_leaf};
+    ghost use Rattle.pres_tree.specs.JsonReading.{Reading, leaf, bad, is_leaf};
     ghost use Rattle.pres_tree.specs.declared.fault.TreeFault.TheVariants.{Memory};
 
     ghost reading: { Data → Reading L };
@@ -47,7 +47,10 @@ pub trait Form<L> {
 /// children left out. The first fault of a depth-first walk in byte order of keys is
 /// answered: at a key EmptyKey, LongKey, BadKey, at a leaf TooDeep and then what its form
 /// refuses.
-pub fn from_value<L: Drop, F: Form<L>>(alloc: Global, value: &Value) -> Result<Nested<L>, TreeFault>
+pub fn from_value<L: Drop, F: LeafForm<L>>(
+    alloc: Global,
+    value: &Value,
+) -> Result<Nested<L>, TreeFault>
     ensures { MatchResult result
         (λ t. (fault_of F.reading (max_depth + 1) (view value.now) ≡ None)
         × (t ≡ rows_of F.reading (view value.now)))
@@ -57,7 +60,7 @@ pub fn from_value<L: Drop, F: Form<L>>(alloc: Global, value: &Value) -> Result<N
 }
 
 /// The same for a value that is to stand at the path, whose keys count as depth.
-pub fn from_value_below<L: Drop, F: Form<L>>(
+pub fn from_value_below<L: Drop, F: LeafForm<L>>(
     alloc: Global,
     value: &Value,
     path: &Path,
@@ -73,7 +76,7 @@ pub fn from_value_below<L: Drop, F: Form<L>>(
 }
 
 /// The same for a value that is to stand below so many keys.
-pub fn from_value_under<L: Drop, F: Form<L>>(
+pub fn from_value_under<L: Drop, F: LeafForm<L>>(
     alloc: Global,
     value: &Value,
     depth: usize,
@@ -91,7 +94,7 @@ pub fn from_value_under<L: Drop, F: Form<L>>(
 
 // The value, with so many levels left for its leaves.
 #[cycle(read)]
-fn read_at<L: Drop, F: Form<L>>(
+fn read_at<L: Drop, F: LeafForm<L>>(
     alloc: Global,
     value: &Value,
     left: usize,
@@ -117,7 +120,7 @@ fn read_at<L: Drop, F: Form<L>>(
 }
 
 #[cycle(read)]
-fn read_items<L: Drop, F: Form<L>>(
+fn read_items<L: Drop, F: LeafForm<L>>(
     alloc: Global,
     items: &Vec<Value>,
     left: usize,
@@ -163,7 +166,7 @@ fn earlier(first: Option<KeyedFault>, key: Key, fault: TreeFault) -> KeyedFault
 }
 
 #[cycle(read)]
-fn read_members<L: Drop, F: Form<L>>(
+fn read_members<L: Drop, F: LeafForm<L>>(
     alloc: Global,
     members: &Map<String, Value>,
     left: usize,

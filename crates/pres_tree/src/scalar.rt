@@ -3,7 +3,7 @@
 use crate::fault::TreeFault;
 use crate::nested::Leaf;
 use crate::print::PrintedForm;
-use crate::read::Form;
+use crate::read::LeafForm;
 use crate::text::Text;
 use json::Writer;
 use serde_json::Value;
@@ -39,7 +39,7 @@ impl Leaf for Scalar {
 /// The form of scalars: truths, whole numbers and texts are themselves.
 pub struct ScalarForm {}
 
-impl Form<Scalar> for ScalarForm {
+impl LeafForm<Scalar> for ScalarForm {
     ghost use Rattle.pres_tree.specs.Scalars.{scalar_reading};
 
     ghost reading = { scalar_reading };

@@ -1,4 +1,4 @@
-pub mod Closing
-pub mod Ends
+pub mod CloseHandshake
+pub mod ConnectionFaults
 pub mod Meters
-pub mod Told
+pub mod SocketReads

@@ -1,9 +1,9 @@
 //! Why a connection ended.
 
 ghost use Rattle.std.specs.Prelude.{◌≡◌, false};
-ghost use Rattle.pres_websocket.specs.Ends.{is_handshake, number_of, of_stream};
+ghost use Rattle.pres_websocket.specs.ConnectionFaults.{is_handshake, number_of, of_stream};
 
-use pres_seats::HubFault;
+use pres_faults::HubFault;
 use std::alloc::AllocError;
 use thiserror::Error;
 use tungstenite::Error;

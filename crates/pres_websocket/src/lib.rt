@@ -8,4 +8,4 @@ mod socket;
 
 pub use fault::SockFault;
 pub use meter::{MAX_IDLE_READS, MAX_READS, Metered};
-pub use socket::{Came, Socket, accept, close, connect, flush, read, write};
+pub use socket::{Received, Socket, accept, close, connect, flush, read, write};

@@ -8,9 +8,9 @@ ghost use Rattle.tungstenite.specs.declared.error.Error.{Error as Cause};
 ghost use Rattle.tungstenite.specs.declared.message.Message.{Message as Given};
 ghost use Rattle.tungstenite.specs.Connection.{write_step};
 ghost use Rattle.tungstenite.specs.Content.{text as text_content};
-ghost use Rattle.pres_websocket.specs.Closing.{Closes};
-ghost use Rattle.pres_websocket.specs.Ends.{is_handshake, of_shake, of_stream};
-ghost use Rattle.pres_websocket.specs.Told.{IsTold, IsOfShake};
+ghost use Rattle.pres_websocket.specs.CloseHandshake.{Closes};
+ghost use Rattle.pres_websocket.specs.ConnectionFaults.{is_handshake, of_shake, of_stream};
+ghost use Rattle.pres_websocket.specs.SocketReads.{IsReadAs, IsOfShake};
 ghost use Rattle.pres_websocket.specs.declared.fault.SockFault.TheVariants.{Memory};
 
 use crate::fault::{SockFault, stream_fault};
@@ -114,7 +114,7 @@ pub fn connect<S: Read + Write + Drop, M: MaskKeys + Drop>(
 
 /// What a read brought.
 #[derive(Drop)]
-pub enum Came {
+pub enum Received {
     /// A text message.
     Text(Utf8Bytes),
     /// A binary message.
@@ -126,12 +126,12 @@ pub enum Came {
 }
 
 // What an error of a read is told as: the peer's close, or nothing where the stream would block.
-fn told<S>(stream: &Metered<S>, error: Error) -> Result<Came, SockFault>
-    ensures told { IsTold stream.now (Err error) result }
+fn told<S>(stream: &Metered<S>, error: Error) -> Result<Received, SockFault>
+    ensures told { IsReadAs stream.now (Err error) result }
     ensures shaken { IfErr result (λ e. is_handshake e ≡ false) }
 {
     match error {
-        Error::ConnectionClosed => Ok(Came::Close),
+        Error::ConnectionClosed => Ok(Received::Close),
         Error::Io(error) => {
             if error.kind() != ErrorKind::WouldBlock {
                 return Err(SockFault::Stream(Error::Io(error)));
@@ -139,7 +139,7 @@ fn told<S>(stream: &Metered<S>, error: Error) -> Result<Came, SockFault>
             if stream.is_spent() {
                 return Err(SockFault::Turns);
             }
-            Ok(Came::Nothing)
+            Ok(Received::Nothing)
         }
         other => Err(stream_fault(other)),
     }
@@ -148,17 +148,17 @@ fn told<S>(stream: &Metered<S>, error: Error) -> Result<Came, SockFault>
 /// One read. A ping is answered by the socket itself.
 pub fn read<S: Read + Write + Drop, M: MaskKeys + Drop>(
     socket: &mut Socket<S, M>,
-) -> Result<Came, SockFault>
+) -> Result<Received, SockFault>
     ensures came { (given : Result Given Cause)
         × Reads (λ meter. S.remaining meter.stream) socket.old socket.new given
-        × IsTold socket.new.stream given result }
+        × IsReadAs socket.new.stream given result }
     ensures shaken { IfErr result (λ e. is_handshake e ≡ false) }
 {
     match socket.read() {
-        Ok(Message::Text(text)) => Ok(Came::Text(text)),
-        Ok(Message::Binary(_)) => Ok(Came::Binary),
-        Ok(Message::Ping(_)) | Ok(Message::Pong(_)) => Ok(Came::Nothing),
-        Ok(Message::Close(_)) => Ok(Came::Close),
+        Ok(Message::Text(text)) => Ok(Received::Text(text)),
+        Ok(Message::Binary(_)) => Ok(Received::Binary),
+        Ok(Message::Ping(_)) | Ok(Message::Pong(_)) => Ok(Received::Nothing),
+        Ok(Message::Close(_)) => Ok(Received::Close),
         Err(error) => told(socket.get_ref(), error),
     }
 }

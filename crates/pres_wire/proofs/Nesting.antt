@@ -8,8 +8,8 @@ use Rattle.pres_tree.specs.declared.fault.TreeFault.TheVariants.{TooDeep}
 use Rattle.pres_tree.specs.Keys.{Key, same_key, key_fault}
 use Rattle.pres_tree.specs.Paths.{Path}
 use Rattle.pres_tree.specs.Rows.{Rows}
-use Rattle.pres_tree.specs.Reading.{Reading, branch, leaf, bad, is_leaf, fault_or, fault_of, members_fault}
-use Rattle.pres_tree.specs.Printing.{members_in, with_first, with_row, json_of}
+use Rattle.pres_tree.specs.JsonReading.{Reading, branch, leaf, bad, is_leaf, fault_or, fault_of, members_fault}
+use Rattle.pres_tree.specs.JsonPrinting.{members_in, with_first, with_row, json_of}
 
 -- ---- JSON whose leaves are no nulls and no empty objects
 

@@ -17,11 +17,11 @@ use Rattle.pres_tree.specs.declared.scalar.Scalar.{Scalar}
 use Rattle.pres_tree.specs.declared.scalar.Scalar.TheVariants.{Bool as BoolOf, Int, Text}
 use Rattle.pres_tree.specs.Paths.{Path, path_text, path_fault, segments, sorted_by}
 use Rattle.pres_tree.specs.Rows.{Rows}
-use Rattle.pres_tree.specs.Reading.{Reading, branch, leaf, bad, is_leaf, fault_of}
-use Rattle.pres_tree.specs.Printing.{json_of}
+use Rattle.pres_tree.specs.JsonReading.{Reading, branch, leaf, bad, is_leaf, fault_of}
+use Rattle.pres_tree.specs.JsonPrinting.{json_of}
 use Rattle.pres_tree.specs.Scalars.{scalar_printing, number_reading}
-use Rattle.pres_write.specs.declared.draft.Slot.{Slot}
-use Rattle.pres_write.specs.declared.draft.Slot.TheVariants.{Fixed, Timestamp}
+use Rattle.pres_write.specs.declared.draft.DraftLeaf.{DraftLeaf}
+use Rattle.pres_write.specs.declared.draft.DraftLeaf.TheVariants.{Fixed, Timestamp}
 use Rattle.pres_write.specs.declared.fault.WriteFault.{WriteFault}
 use Rattle.pres_write.specs.declared.fault.WriteFault.TheVariants.{ManyPaths}
 use Rattle.pres_write.specs.declared.op.Op.{Op}
@@ -38,7 +38,7 @@ scalar_solid (BoolOf b) = tt
 scalar_solid (Int z) = tt
 scalar_solid (Text s) = tt
 
-slot_solid : (s : Slot) → Solid (slot_printing s)
+slot_solid : (s : DraftLeaf) → Solid (slot_printing s)
 slot_solid (Fixed s) = scalar_solid s
 slot_solid Timestamp = (tt, (tt, tt))
 
@@ -96,17 +96,17 @@ both : (a b : Bool) → (a && b) ≡ true → (a ≡ true) × (b ≡ true)
 both true b h = (refl, h)
 both false b h = cc
 
-chosen : (b : Bool) (s : Slot) → cond b (leaf Timestamp) (bad Placeholder) ≡ leaf s → b ≡ true
+chosen : (b : Bool) (s : DraftLeaf) → cond b (leaf Timestamp) (bad Placeholder) ≡ leaf s → b ≡ true
 chosen true s h = refl
 chosen false s h = cc
 
-placeholder_low : (ms : Members) (o : Option Data) (s : Slot) → get_member (codes ".sv") ms ≡ o → placeholder ms o ≡ leaf s → depth (object ms) ≤ 1
+placeholder_low : (ms : Members) (o : Option Data) (s : DraftLeaf) → get_member (codes ".sv") ms ≡ o → placeholder ms o ≡ leaf s → depth (object ms) ≤ 1
 placeholder_low ms None s g h = cc
 placeholder_low ms (Some v) s g h =
     let holds = both (is_one ms) (is_timestamp v) (chosen (is_one ms && is_timestamp v) s h) in
     alone_low ms v g holds.0 holds.1
 
-slot_low : (d : Data) (s : Slot) → slot_reading d ≡ leaf s → depth d ≤ 1
+slot_low : (d : Data) (s : DraftLeaf) → slot_reading d ≡ leaf s → depth d ≤ 1
 slot_low null s h = omega arith
 slot_low (boolean b) s h = omega arith
 slot_low (number n) s h = omega arith
@@ -119,7 +119,7 @@ slot_flat = record { low = slot_low; booleans = λ b. refl; numbers = λ x. fixe
 
 -- ---- parts that are read without a fault
 
-pub draft_low : (v : Rows Slot) (n : ℕ) → fault_of slot_reading n (json_of slot_printing v) ≡ None → depth (json_of slot_printing v) ≤ n
+pub draft_low : (v : Rows DraftLeaf) (n : ℕ) → fault_of slot_reading n (json_of slot_printing v) ≡ None → depth (json_of slot_printing v) ≤ n
 draft_low v n h = rows_low slot_reading slot_printing slot_flat slot_solid v n h
 
 value_low : (v : Rows Scalar) (n : ℕ) → fault_of fixed_reading n (json_of scalar_printing v) ≡ None → depth (json_of scalar_printing v) ≤ n
@@ -131,13 +131,13 @@ accepted (Some e) r a h = cc
 
 -- ---- the three forms
 
-put_low : (p : Path) (v : Rows Slot) (op : Op) → set_read (path_text p) (json_of slot_printing v) ≡ Ok op → depth (set_form (path_text p) (json_of slot_printing v)) ≤ 64
+put_low : (p : Path) (v : Rows DraftLeaf) (op : Op) → set_read (path_text p) (json_of slot_printing v) ≡ Ok op → depth (set_form (path_text p) (json_of slot_printing v)) ≤ 64
 put_low p v op read =
     let fault : fault_of slot_reading (33 - length (segments (path_text p))) (json_of slot_printing v) ≡ None = (accepted _ _ _ (accepted _ _ _ read).1).0 in
     let low : depth (json_of slot_printing v) ≤ 33 - length (segments (path_text p)) = draft_low v _ fault in
     omega (arith, low)
 
-tx_low : (p : Path) (expect : Rows Scalar) (new : Rows Slot) (op : Op) → tx_read (path_text p) (json_of scalar_printing expect) (json_of slot_printing new) ≡ Ok op
+tx_low : (p : Path) (expect : Rows Scalar) (new : Rows DraftLeaf) (op : Op) → tx_read (path_text p) (json_of scalar_printing expect) (json_of slot_printing new) ≡ Ok op
     → depth (tx_form (path_text p) (json_of scalar_printing expect) (json_of slot_printing new)) ≤ 64
 tx_low p expect new op read =
     let first : depth (json_of scalar_printing expect) ≤ 33 - length (segments (path_text p)) = value_low expect _ (accepted _ _ _ (accepted _ _ _ read).1).0 in

@@ -11,8 +11,8 @@ use Rattle.pres_tree.specs.declared.scalar.Scalar.{Scalar}
 use Rattle.pres_tree.specs.Falls.{path_total}
 use Rattle.pres_tree.specs.Paths.{Path, path_cmp}
 use Rattle.pres_tree.specs.Rows.{Rows, IsValue, Holds, leaf_at, height}
-use Rattle.pres_tree.specs.Reading.{leaf, fault_of}
-use Rattle.pres_tree.specs.Printing.{json_of, ReadsBack}
+use Rattle.pres_tree.specs.JsonReading.{leaf, fault_of}
+use Rattle.pres_tree.specs.JsonPrinting.{json_of, ReadsBack}
 use Rattle.pres_tree.specs.Scalars.{scalar_printing, scalar_reading}
 use Rattle.pres_wire.specs.DownReads.{value_of}
 use Rattle.pres_wire.proofs.Nesting.{Flat, rows_low}

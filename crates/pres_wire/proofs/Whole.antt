@@ -14,10 +14,10 @@ use Rattle.pres_tree.specs.declared.scalar.Scalar.TheVariants.{Bool as BoolOf, I
 use Rattle.pres_tree.specs.Keys.{Key, same_key}
 use Rattle.pres_tree.specs.Paths.{Path, path_text, sorted_by}
 use Rattle.pres_tree.specs.Rows.{Rows, rows_in}
-use Rattle.pres_tree.specs.Printing.{json_of, with_row, with_first, members_in}
+use Rattle.pres_tree.specs.JsonPrinting.{json_of, with_row, with_first, members_in}
 use Rattle.pres_tree.specs.Scalars.{scalar_printing}
-use Rattle.pres_write.specs.declared.draft.Slot.{Slot}
-use Rattle.pres_write.specs.declared.draft.Slot.TheVariants.{Fixed, Timestamp}
+use Rattle.pres_write.specs.declared.draft.DraftLeaf.{DraftLeaf}
+use Rattle.pres_write.specs.declared.draft.DraftLeaf.TheVariants.{Fixed, Timestamp}
 use Rattle.pres_write.specs.declared.op.Op.{Op}
 use Rattle.pres_write.specs.declared.op.Op.TheVariants.{Set, Update, Tx}
 use Rattle.pres_write.specs.Drafts.{slot_printing}
@@ -88,7 +88,7 @@ whole_scalar (Int (pos n)) = refl
 whole_scalar (Int (negsuc n)) = refl
 whole_scalar (Text s) = refl
 
-pub whole_slot : (s : Slot) → has_float (slot_printing s) ≡ false
+pub whole_slot : (s : DraftLeaf) → has_float (slot_printing s) ≡ false
 whole_slot (Fixed s) = whole_scalar s
 whole_slot Timestamp = refl
 

@@ -3,7 +3,7 @@ use Rattle.std.specs.Prelude.{ℕ, List, [], ◌∷◌, codes, map, Option, Some
 use Rattle.serde_json.specs.Data.{Data, null, string, array, object, no_items, item, no_members, member}
 use Rattle.serde_json.specs.View.{items_of}
 use Rattle.pres_tree.specs.Rows.{rows_in}
-use Rattle.pres_tree.specs.Printing.{json_of}
+use Rattle.pres_tree.specs.JsonPrinting.{json_of}
 use Rattle.pres_tree.specs.Scalars.{scalar_printing}
 use Rattle.pres_write.specs.declared.outcome.Kept.{Kept}
 use Rattle.pres_write.specs.declared.outcome.Kept.TheVariants.{Wrote, Stale}

@@ -5,7 +5,7 @@ use Rattle.serde_json.specs.Find.{get, as_null, as_str, as_array}
 use Rattle.serde_json.specs.Read.{read}
 use Rattle.pres_tree.specs.Paths.{max_depth}
 use Rattle.pres_tree.specs.Rows.{Rows, rows_in, option_of}
-use Rattle.pres_tree.specs.Reading.{rows_of, fault_of}
+use Rattle.pres_tree.specs.JsonReading.{rows_of, fault_of}
 use Rattle.pres_tree.specs.declared.scalar.Scalar.{Scalar}
 use Rattle.pres_tree.specs.Scalars.{scalar_reading}
 use Rattle.pres_write.specs.declared.outcome.Kept.{Kept}

@@ -15,10 +15,10 @@ value_in p [] = None
 value_in p (v ∷ values) = if same_path p v.path then Some v.value else value_in p values
 
 -- the value at the path that a message tells
-abbrev pub told : Path → Down → Option (Rows Scalar)
-told p (Snap s r z q path value) = if same_path p path then Some value else None
-told p (Push s r z values) = value_in p values
-told p _ = None
+abbrev pub value_told : Path → Down → Option (Rows Scalar)
+value_told p (Snap s r z q path value) = if same_path p path then Some value else None
+value_told p (Push s r z values) = value_in p values
+value_told p _ = None
 
 abbrev pub seen : Option Down → Option (Rows Scalar) → Option (ℕ × Rows Scalar)
 seen (Some m) (Some value) = Some (number_in m, value)
@@ -26,4 +26,4 @@ seen _ _ = None
 
 -- what is seen of the path: the number of the last message, and the value that was told last
 abbrev pub seen_in : Path → List Down → Option (ℕ × Rows Scalar)
-seen_in p messages = seen (last_or None messages) (last_or None (filter_map (told p) messages))
+seen_in p messages = seen (last_or None messages) (last_or None (filter_map (value_told p) messages))

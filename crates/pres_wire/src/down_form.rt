@@ -3,7 +3,7 @@
 ghost use Rattle.std.specs.Prelude.{◌≡◌, ◌≤◌, ◌∷◌, [], IfOk, Some, codes};
 ghost use Rattle.serde_json.specs.Data.{depth};
 ghost use Rattle.serde_json.specs.View.{view, members_view};
-ghost use Rattle.pres_tree.specs.Printing.{json_of};
+ghost use Rattle.pres_tree.specs.JsonPrinting.{json_of};
 ghost use Rattle.pres_tree.specs.Scalars.{scalar_printing};
 ghost use Rattle.pres_ids.specs.Forms.{whole, stamp_json, session_json, message_number, session_of, stamp_in};
 ghost use Rattle.pres_wire.specs.Fields.{message, members_of, path_json, path_of};
@@ -11,7 +11,7 @@ ghost use Rattle.pres_wire.specs.DownForms.{out_json, session_or_null, down_json
 ghost use Rattle.pres_wire.specs.DownReads.{session_or_none, one_null, out_of, value_of, HasForm};
 
 use crate::down::{Code, Down, Limit};
-use crate::form::Form;
+use crate::form::MessageForm;
 use crate::part::{held_value, tree_value};
 use crate::values::Values;
 use pres_ids::{Count, Number, SessionId, Stamp, Why, session_value, stamp_value};
@@ -30,7 +30,7 @@ pub(crate) fn welcome_value(
     ensures json { IfOk result (λ made. view made ≡ down_json (Down.Welcome session.now z ops)) }
     ensures form { IfOk result (λ _. HasForm (Down.Welcome session.now z ops)) }
 {
-    let form = Form::new(alloc).value(alloc, "ops", Value::from(ops.get()))?;
+    let form = MessageForm::new(alloc).value(alloc, "ops", Value::from(ops.get()))?;
     let form = form.number(alloc, "z", z)?;
     form.message(alloc, "welcome", session)
 }
@@ -47,7 +47,7 @@ pub(crate) fn gone_value(
     ensures form { IfOk result (λ _. HasForm (Down.Gone session.now r z why)) }
 {
     let word = Value::try_from_str(alloc, why.word())?;
-    let form = Form::new(alloc).value(alloc, "why", word)?;
+    let form = MessageForm::new(alloc).value(alloc, "why", word)?;
     form.sent(alloc, "gone", session, r, z)
 }
 
@@ -73,7 +73,7 @@ pub(crate) fn write_form(
     n: Number,
     done: Number,
     out: &Kept,
-) -> Result<Form, AllocError>
+) -> Result<MessageForm, AllocError>
     ensures fields { IfOk result (λ made. members_view made.members.entries
         ≡ members_of ((codes "q", whole q) ∷ (codes "n", whole n) ∷ (codes "done", whole done)
         ∷ (codes "out", out_json out.now) ∷ [])) }
@@ -84,7 +84,7 @@ pub(crate) fn write_form(
     ensures low { IfOk result (λ _. depth (out_json out.now) ≤ 34) }
 {
     let out = out_value(alloc, out)?;
-    let form = Form::new(alloc).value(alloc, "out", out)?;
+    let form = MessageForm::new(alloc).value(alloc, "out", out)?;
     let form = form.number(alloc, "done", done)?;
     let form = form.number(alloc, "n", n)?;
     form.number(alloc, "q", q)
@@ -111,7 +111,7 @@ fn plain_fault(alloc: Global, session: &Option<SessionId>, number: u8) -> Result
     ensures low { IfOk result (λ _. depth (session_or_null session.now) ≤ 1) }
 {
     let session = session_or_null(alloc, session)?;
-    let form = Form::new(alloc).value(alloc, "s", session)?;
+    let form = MessageForm::new(alloc).value(alloc, "s", session)?;
     let form = form.value(alloc, "code", Value::from(number))?;
     form.done(alloc, "fault")
 }
@@ -132,7 +132,7 @@ fn old_fault(
     ensures last { IfOk result (λ _. stamp_in (stamp_json last) ≡ Some last) }
 {
     let last = stamp_value(alloc, last)?;
-    let form = Form::new(alloc).value(alloc, "last", last)?;
+    let form = MessageForm::new(alloc).value(alloc, "last", last)?;
     let form = form.value(alloc, "code", Value::from(number))?;
     let session = session_or_null(alloc, session)?;
     let form = form.value(alloc, "s", session)?;
@@ -174,7 +174,7 @@ pub(crate) fn answer_value(
     ensures z { IfOk result (λ _. message_number (whole z) ≡ Some z) }
     ensures q { IfOk result (λ _. message_number (whole q) ≡ Some q) }
 {
-    let form = Form::new(alloc).number(alloc, "q", q)?;
+    let form = MessageForm::new(alloc).number(alloc, "q", q)?;
     form.sent(alloc, word, session, r, z)
 }
 
@@ -191,7 +191,7 @@ pub(crate) fn denied_value(
         view made ≡ down_json (Down.Denied session.now r z q why)) }
     ensures form { IfOk result (λ _. HasForm (Down.Denied session.now r z q why)) }
 {
-    let form = Form::new(alloc).value(alloc, "why", Value::from(why.number()))?;
+    let form = MessageForm::new(alloc).value(alloc, "why", Value::from(why.number()))?;
     let form = form.number(alloc, "q", q)?;
     form.sent(alloc, "denied", session, r, z)
 }
@@ -202,7 +202,7 @@ pub(crate) fn place_form(
     q: Number,
     path: &Path,
     value: &Tree,
-) -> Result<Form, AllocError>
+) -> Result<MessageForm, AllocError>
     ensures fields { IfOk result (λ made. members_view made.members.entries
         ≡ members_of ((codes "q", whole q) ∷ (codes "path", path_json path.now)
         ∷ (codes "value", json_of scalar_printing value.now) ∷ [])) }
@@ -213,7 +213,7 @@ pub(crate) fn place_form(
     ensures low { IfOk result (λ _. depth (json_of scalar_printing value.now) ≤ 33) }
 {
     let value = tree_value(alloc, value)?;
-    let form = Form::new(alloc).value(alloc, "value", value)?;
+    let form = MessageForm::new(alloc).value(alloc, "value", value)?;
     let Ok(text) = path.text(alloc) else {
         drop(form);
         return Err(AllocError);
@@ -236,6 +236,6 @@ pub(crate) fn push_value(
     ensures low { IfOk result (λ _. depth (down_json (Down.Push session.now r z values.now)) ≤ 127) }
 {
     let values = values.to_value(alloc)?;
-    let form = Form::new(alloc).value(alloc, "values", values)?;
+    let form = MessageForm::new(alloc).value(alloc, "values", values)?;
     form.sent(alloc, "push", session, r, z)
 }

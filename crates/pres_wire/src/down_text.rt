@@ -5,7 +5,7 @@ ghost use Rattle.json.specs.Token.{key, string};
 ghost use Rattle.serde_json.specs.Data.{depth};
 ghost use Rattle.serde_json.specs.Read.{read};
 ghost use Rattle.serde_json.specs.Written.{compact_text};
-ghost use Rattle.pres_tree.specs.Printing.{json_of, tokens_of, IsPlain};
+ghost use Rattle.pres_tree.specs.JsonPrinting.{json_of, tokens_of, IsPlain};
 ghost use Rattle.pres_tree.specs.Scalars.{scalar_printing};
 ghost use Rattle.pres_ids.specs.Forms.{whole, session_json, message_number, session_of};
 ghost use Rattle.pres_wire.specs.Fields.{path_json, path_of};

@@ -2,7 +2,7 @@
 
 ghost use Rattle.std.specs.Prelude.{◌≡◌, ◌++◌, ◌∷◌, [], Some, codes, OnOk};
 ghost use Rattle.json.specs.Token.{key, string};
-ghost use Rattle.pres_tree.specs.Printing.{tokens_of, IsPlain};
+ghost use Rattle.pres_tree.specs.JsonPrinting.{tokens_of, IsPlain};
 ghost use Rattle.pres_ids.specs.Forms.{whole, session_json, message_number, session_of};
 
 use json::Writer;

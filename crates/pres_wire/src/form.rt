@@ -11,32 +11,37 @@ use std::alloc::{AllocError, Global};
 
 /// The fields of a JSON object so far. A field is put in whatever the order.
 #[derive(Drop)]
-pub struct Form {
+pub struct MessageForm {
     pub members: Map<String, Value>,
 }
 
-impl Form {
+impl MessageForm {
     /// No fields. It takes no memory.
-    pub fn new(alloc: Global) -> Form
+    pub fn new(alloc: Global) -> MessageForm
         ensures { members_view result.members.entries ≡ no_members }
     {
-        Form {
+        MessageForm {
             members: Map::new(alloc),
         }
     }
 
     /// With the value under the name.
-    pub fn value(self, alloc: Global, name: &str, value: Value) -> Result<Form, AllocError>
+    pub fn value(self, alloc: Global, name: &str, value: Value) -> Result<MessageForm, AllocError>
         ensures { IfOk result (λ made. members_view made.members.entries
             ≡ with_member name.now (view value) (members_view self.members.entries)) }
     {
-        let Form { mut members } = self;
+        let MessageForm { mut members } = self;
         serde_json::put(&mut members, alloc, name, value)?;
-        Ok(Form { members })
+        Ok(MessageForm { members })
     }
 
     /// With the number under the name.
-    pub fn number(self, alloc: Global, name: &str, number: Number) -> Result<Form, AllocError>
+    pub fn number(
+        self,
+        alloc: Global,
+        name: &str,
+        number: Number,
+    ) -> Result<MessageForm, AllocError>
         ensures fields { IfOk result (λ made. members_view made.members.entries
             ≡ with_member name.now (whole number) (members_view self.members.entries)) }
         ensures reads_back { message_number (whole number) ≡ Some number }

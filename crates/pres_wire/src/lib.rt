@@ -16,7 +16,7 @@ mod values;
 
 pub use down::{Code, Down, Limit, read_limit};
 pub use fault::{Field, WireFault};
-pub use form::Form;
+pub use form::MessageForm;
 pub use pres_ids::{ClientId, Count, IdFault, Number, SessionId, Stamp, Why};
 pub use up::{MAX_TEXT_BYTES, Up};
 pub use values::{PathValue, Values};

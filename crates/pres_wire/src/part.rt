@@ -5,7 +5,7 @@ ghost use Rattle.serde_json.specs.Find.{as_str};
 ghost use Rattle.serde_json.specs.Data.{depth};
 ghost use Rattle.serde_json.specs.View.{view};
 ghost use Rattle.pres_tree.specs.Rows.{option_of, rows_in};
-ghost use Rattle.pres_tree.specs.Printing.{json_of, tokens_of, IsPlain};
+ghost use Rattle.pres_tree.specs.JsonPrinting.{json_of, tokens_of, IsPlain};
 ghost use Rattle.pres_tree.specs.Scalars.{scalar_printing};
 ghost use Rattle.pres_write.specs.OpForms.{op_json, op_read};
 ghost use Rattle.pres_wire.specs.Fields.{path_in, path_of};

@@ -17,7 +17,7 @@ ghost use Rattle.pres_wire.specs.declared.fault.WireFault.TheVariants.{Memory, T
 
 use crate::fault::{Field, WireFault};
 use crate::field::{left_field, number_field, op_field, path_field, session_field};
-use crate::form::Form;
+use crate::form::MessageForm;
 use crate::part::op_value;
 use pres_ids::{Number, SessionId};
 use pres_tree::Path;
@@ -340,7 +340,7 @@ fn bare_value(alloc: Global, word: &str, session: &SessionId) -> Result<Value, A
     ensures reads_back { IfOk result (λ _.
         session_of (session_json session.now) ≡ Some session.now) }
 {
-    Form::new(alloc).message(alloc, word, session)
+    MessageForm::new(alloc).message(alloc, word, session)
 }
 
 // The JSON value of a Bye.
@@ -349,7 +349,7 @@ fn bye_value(alloc: Global, session: &SessionId, q: Number) -> Result<Value, All
     ensures reads_back { IfOk result (λ _.
         up_read (up_json (Up.Bye session.now q)) ≡ Ok (Up.Bye session.now q)) }
 {
-    let form = Form::new(alloc).number(alloc, "q", q)?;
+    let form = MessageForm::new(alloc).number(alloc, "q", q)?;
     form.message(alloc, "bye", session)
 }
 
@@ -367,7 +367,7 @@ fn operation_value(
     ensures low { IfOk result (λ _. depth (up_json (Up.Op session.now q n op.now)) ≤ 127) }
 {
     let op = op_value(alloc, op)?;
-    let form = Form::new(alloc).value(alloc, "op", op)?;
+    let form = MessageForm::new(alloc).value(alloc, "op", op)?;
     let form = form.number(alloc, "n", n)?.number(alloc, "q", q)?;
     form.message(alloc, "op", session)
 }
@@ -385,7 +385,7 @@ fn left_value(
     ensures low { IfOk result (λ _. depth (up_json (Up.Left session.now q op.now)) ≤ 127) }
 {
     let op = unconditional_value(alloc, op)?;
-    let form = Form::new(alloc).value(alloc, "op", op)?;
+    let form = MessageForm::new(alloc).value(alloc, "op", op)?;
     let form = form.number(alloc, "q", q)?;
     form.message(alloc, "left", session)
 }
@@ -407,7 +407,7 @@ fn path_value(
     ensures path { IfOk result (λ _. path_of (path_json path.now) ≡ Some path.now) }
 {
     let text = Value::String(path.text(alloc)?);
-    let form = Form::new(alloc).value(alloc, "path", text)?;
+    let form = MessageForm::new(alloc).value(alloc, "path", text)?;
     let form = form.number(alloc, "q", q)?;
     form.message(alloc, word, session)
 }

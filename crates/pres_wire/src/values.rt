@@ -6,7 +6,7 @@ ghost use Rattle.std.specs.Ordering.{is_lt};
 ghost use Rattle.serde_json.specs.Data.{depth};
 ghost use Rattle.serde_json.specs.View.{view, items_view};
 ghost use Rattle.pres_tree.specs.Paths.{path_cmp};
-ghost use Rattle.pres_tree.specs.Printing.{tokens_of, IsPlain};
+ghost use Rattle.pres_tree.specs.JsonPrinting.{tokens_of, IsPlain};
 ghost use Rattle.pres_wire.specs.Values.{Rising};
 ghost use Rattle.pres_wire.specs.DownForms.{path_value_json, values_json};
 ghost use Rattle.pres_wire.specs.DownReads.{path_value_of, values_of_items, values_of};

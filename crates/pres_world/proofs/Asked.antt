@@ -13,23 +13,23 @@ use Rattle.pres_write.specs.Transactions.{comparison}
 use Rattle.pres_write.specs.Updates.{update_of}
 use Rattle.pres_wire.specs.declared.up.Up.{Up}
 use Rattle.pres_wire.specs.declared.up.Up.TheVariants as up
-use Rattle.pres_mail.specs.declared.ask.Ask.{Ask}
-use Rattle.pres_mail.specs.declared.queued.Queued.{Queued}
-use Rattle.pres_mail.specs.declared.queued.Queued.TheVariants as queued
-use Rattle.pres_mail.specs.declared.watch.Watch.{Watch}
-use Rattle.pres_mail.specs.Asks.{ask_of}
-use Rattle.pres_mail.specs.Queues.{is_on, message, messages, next_write}
-use Rattle.pres_mail.specs.Watches.{watch_of, fresh}
+use Rattle.pres_client_state.specs.declared.ask.Ask.{Ask}
+use Rattle.pres_client_state.specs.declared.queued.Queued.{Queued}
+use Rattle.pres_client_state.specs.declared.queued.Queued.TheVariants as queued
+use Rattle.pres_client_state.specs.declared.watch.Watch.{Watch}
+use Rattle.pres_client_state.specs.Asks.{ask_of}
+use Rattle.pres_client_state.specs.Queues.{is_on, message, messages, next_write}
+use Rattle.pres_client_state.specs.Watches.{watch_of, fresh}
 use Rattle.pres_client.specs.declared.call.Answer.{Answer}
 use Rattle.pres_client.specs.declared.call.Answer.TheVariants as answer
 use Rattle.pres_client.specs.declared.call.Call.{Call}
 use Rattle.pres_client.specs.declared.call.Call.TheVariants as call
-use Rattle.pres_client.specs.Clients.{State, is_online, session_of, base_of, outstanding}
+use Rattle.pres_client.specs.Clients.{ClientState, is_online, session_of, base_of, outstanding}
 use Rattle.pres_client.specs.Calls.{refusal, after_call, after_answer, after_listen, after_unlisten, enqueue}
-use Rattle.pres_client.specs.Receiving.{is_last}
-use Rattle.pres_client.specs.Sends.{Made, Unnumbered, numbered, op_messages, on_messages, opening, made_one, answered_one, made_by, made_step}
-use Rattle.pres_client.specs.Steps.{Step, calls, receives, hands_out_sends, hands_out_notices, after}
-use Rattle.pres_client.specs.Trails.{takes}
+use Rattle.pres_client.specs.ReceivedMessages.{is_last}
+use Rattle.pres_client.specs.Sends.{SendList, Unnumbered, numbered, op_messages, on_messages, opening, made_one, answered_one, made_by, made_step}
+use Rattle.pres_client.specs.Steps.{ClientStep, calls, receives, hands_out_sends, hands_out_notices, after}
+use Rattle.pres_client.specs.Views.{takes}
 use Rattle.pres_client.proofs.Found.{watch_of-with, watch_of-without}
 use Rattle.pres_client.proofs.SentSteps.{made_messages}
 use Rattle.pres_world.proofs.Hears.{receive_hears, without_fewer}
@@ -65,14 +65,14 @@ Last ms p q = (k : ℕ) (m : Up) → slice_get ms k ≡ Some m → q ≤ k → (
 
 -- ---- one step of a client that is Online before it and after it
 
-abbrev Fewer : Path → State → State → Type 0
+abbrev Fewer : Path → ClientState → ClientState → Type 0
 Fewer p c d = is_some (watch_of p d.watches) ≡ true → is_some (watch_of p c.watches) ≡ true
 
-abbrev More : Made → Made → Unnumbered → Type 0
+abbrev More : SendList → SendList → Unnumbered → Type 0
 More t u f = u.messages ≡ t.messages ++ f (length t.messages + 1) ∷ []
 
 -- the list stays, or has one more: that has nothing to do with the path, or listens to it anew; or it is listened to no more
-abbrev Asks : Path → State → State → Made → Made → Type 0
+abbrev Asks : Path → ClientState → ClientState → SendList → SendList → Type 0
 Asks p c d t u =
     ((u.messages ≡ t.messages) × Fewer p c d)
     ⊎ (((f : Unnumbered) × More t u f × ((q : ℕ) → ons p (f q) ≡ false) × ((q : ℕ) → offs p (f q) ≡ false) × Fewer p c d)
@@ -80,28 +80,28 @@ Asks p c d t u =
     ⊎ (is_some (watch_of p d.watches) ≡ false)))
 
 -- and so many messages were taken
-pub record Steps (p : Path) (c d : State) (t u : Made) (n : ℕ) : Type 0 where
+pub record Steps (p : Path) (c d : ClientState) (t u : SendList) (n : ℕ) : Type 0 where
   pub asks : Asks p c d t u
   pub taken : d.taken ≡ n
 
-same : (p : Path) (c d : State) (t : Made) → d.watches ≡ c.watches → d.taken ≡ c.taken → Steps p c d t t c.taken
+same : (p : Path) (c d : ClientState) (t : SendList) → d.watches ≡ c.watches → d.taken ≡ c.taken → Steps p c d t t c.taken
 same p c d t w n = record { asks = inl (refl, λ h. ap (λ ws. is_some (watch_of p ws)) (sym w) ∙ h); taken = n }
 
-one : (p : Path) (c d : State) (t : Made) (f : Unnumbered) → is_online c.phase ≡ true → ((q : ℕ) → ons p (f q) ≡ false) → ((q : ℕ) → offs p (f q) ≡ false) → d.watches ≡ c.watches → d.taken ≡ c.taken → Steps p c d t (made_one c t f) c.taken
+one : (p : Path) (c d : ClientState) (t : SendList) (f : Unnumbered) → is_online c.phase ≡ true → ((q : ℕ) → ons p (f q) ≡ false) → ((q : ℕ) → offs p (f q) ≡ false) → d.watches ≡ c.watches → d.taken ≡ c.taken → Steps p c d t (made_one c t f) c.taken
 one p c d t f on a b w n = record { asks = inr (inl (f, made_messages c t f on, a, b, λ h. ap (λ ws. is_some (watch_of p ws)) (sym w) ∙ h)); taken = n }
 
-write_steps : (p : Path) (c d : State) (t : Made) (o : Op) → is_online c.phase ≡ true → d.watches ≡ c.watches → d.taken ≡ c.taken → Steps p c d t (made_one c t (λ q. up.Op c.session q (base_of c + length t.writes + 1) o)) c.taken
+write_steps : (p : Path) (c d : ClientState) (t : SendList) (o : Op) → is_online c.phase ≡ true → d.watches ≡ c.watches → d.taken ≡ c.taken → Steps p c d t (made_one c t (λ q. up.Op c.session q (base_of c + length t.writes + 1) o)) c.taken
 write_steps p c d t o on w n = one p c d t (λ q. up.Op c.session q (base_of c + length t.writes + 1) o) on (λ q. refl) (λ q. refl) w n
 
-rewrite_made : (p : Path) (c d : State) (t u v : Made) (n : ℕ) → u.messages ≡ v.messages → Steps p c d t v n → Steps p c d t u n
+rewrite_made : (p : Path) (c d : ClientState) (t u v : SendList) (n : ℕ) → u.messages ≡ v.messages → Steps p c d t v n → Steps p c d t u n
 rewrite_made p c d t u v n e h = record { asks = subst (λ ms. Asks p c d t (record u { messages = ms })) (sym e) h.asks; taken = h.taken }
 
-answer_steps : (p : Path) (c : State) (t : Made) (k : ℕ) (given : Answer) (o : Option Ask) → is_online c.phase ≡ true → Steps p c (after_answer c k given o) t (answered_one c t given o) c.taken
+answer_steps : (p : Path) (c : ClientState) (t : SendList) (k : ℕ) (given : Answer) (o : Option Ask) → is_online c.phase ≡ true → Steps p c (after_answer c k given o) t (answered_one c t given o) c.taken
 answer_steps p c t k given None on = same p c c t refl refl
 answer_steps p c t k answer.Abort (Some a) on = same p c _ t refl refl
 answer_steps p c t k (answer.New new) (Some a) on = rewrite_made p c _ t _ _ _ refl (write_steps p c _ t (op.Tx (comparison a.path a.value new)) on refl refl)
 
-listen_steps : (p : Path) (c : State) (t : Made) (x : Path) (o : Option Watch) → watch_of x c.watches ≡ o → is_online c.phase ≡ true
+listen_steps : (p : Path) (c : ClientState) (t : SendList) (x : Path) (o : Option Watch) → watch_of x c.watches ≡ o → is_online c.phase ≡ true
     → Steps p c (after_listen c x o) t (if is_none o then made_one c t (λ q. up.On c.session q x) else t) c.taken
 listen_steps p c t x (Some w) e on = same p c _ t refl refl
 listen_steps p c t x None e on = record { asks = by (same_path p x) refl; taken = taken (is_online c.phase) } where
@@ -111,7 +111,7 @@ listen_steps p c t x None e on = record { asks = by (same_path p x) refl; taken 
   k : ℕ
   k = c.requests + 1
 
-  d : State
+  d : ClientState
   d = after_listen c x None
 
   taken : (b : Bool) → (if b then enqueue c (queued.On k x) else c).taken ≡ c.taken
@@ -122,14 +122,14 @@ listen_steps p c t x None e on = record { asks = by (same_path p x) refl; taken 
   by true i = inr (inr (inl (f, made_messages c t f on, (λ q. ap (λ y. same_path y p) (sym (path_same p x i)) ∙ path_itself p), ap (λ y. is_some (watch_of y c.watches)) (path_same p x i) ∙ ap is_some e)))
   by false i = inr (inl (f, made_messages c t f on, (λ q. path_flip p x i), (λ q. refl), λ h. ap is_some (sym (watch_of-with p x (fresh k) c.watches ∙ ap (λ b. cond b (Some (fresh k)) (watch_of p c.watches)) i)) ∙ h))
 
-unlisten_steps : (p : Path) (c : State) (t : Made) (x : Path) (o : Option Watch) → is_online c.phase ≡ true
+unlisten_steps : (p : Path) (c : ClientState) (t : SendList) (x : Path) (o : Option Watch) → is_online c.phase ≡ true
     → Steps p c (after_unlisten c x o) t (if is_none o then t else made_one c t (λ q. up.Off c.session q x)) c.taken
 unlisten_steps p c t x None on = same p c c t refl refl
 unlisten_steps p c t x (Some w) on = record { asks = by (same_path x p) refl; taken = taken (is_online c.phase) } where
   f : Unnumbered
   f = λ q. up.Off c.session q x
 
-  d : State
+  d : ClientState
   d = after_unlisten c x (Some w)
 
   taken : (b : Bool) → (if b then enqueue c (queued.Off x) else c).taken ≡ c.taken
@@ -140,15 +140,15 @@ unlisten_steps p c t x (Some w) on = record { asks = by (same_path x p) refl; ta
   by true i = inr (inr (inr (ap is_some (watch_of-without p x c.watches ∙ ap (λ b. cond (not b) (watch_of p c.watches) None) i))))
   by false i = inr (inl (f, made_messages c t f on, (λ q. refl), (λ q. i), without_fewer p x c.watches))
 
-open_still : (p : Path) (c d : State) (t : Made) (b : Bool) → d.watches ≡ c.watches → d.taken ≡ c.taken → Steps p c (if b then c else d) t t c.taken
+open_still : (p : Path) (c d : ClientState) (t : SendList) (b : Bool) → d.watches ≡ c.watches → d.taken ≡ c.taken → Steps p c (if b then c else d) t t c.taken
 open_still p c d t true w n = same p c c t refl refl
 open_still p c d t false w n = same p c d t w n
 
-no_more : (c d e : State) (b : Bool) → is_online d.phase ≡ false → is_online e.phase ≡ false → is_online (if b then d else e).phase ≡ true → ⊥
+no_more : (c d e : ClientState) (b : Bool) → is_online d.phase ≡ false → is_online e.phase ≡ false → is_online (if b then d else e).phase ≡ true → ⊥
 no_more c d e true f g h = true≢false (sym h ∙ f)
 no_more c d e false f g h = true≢false (sym h ∙ g)
 
-call_steps : (p : Path) (c : State) (t : Made) (k : Call) → is_online c.phase ≡ true → is_online (after_call c k).phase ≡ true → Steps p c (after_call c k) t (made_by c t k) c.taken
+call_steps : (p : Path) (c : ClientState) (t : SendList) (k : Call) → is_online c.phase ≡ true → is_online (after_call c k).phase ≡ true → Steps p c (after_call c k) t (made_by c t k) c.taken
 call_steps p c t (call.Set x draft) on still = rewrite_made p c _ t _ _ _ refl (write_steps p c (after_call c (call.Set x draft)) t (op.Set (x, draft)) on refl refl)
 call_steps p c t (call.Update x places) on still = rewrite_made p c _ t _ _ _ refl (write_steps p c (after_call c (call.Update x places)) t (op.Update (update_of x places.items)) on refl refl)
 call_steps p c t (call.Remove x) on still = rewrite_made p c _ t _ _ _ refl (write_steps p c (after_call c (call.Remove x)) t (op.Set (x, [])) on refl refl)
@@ -167,13 +167,13 @@ call_steps p c t call.Beat on still = same p c _ t refl refl
 call_steps p c t call.Resend on still = same p c _ t refl refl
 
 -- how many messages were taken behind a step
-abbrev pub count_after : State → Step → ℕ
+abbrev pub count_after : ClientState → ClientStep → ℕ
 count_after c (receives m) = if takes c m then c.taken + 1 else c.taken
 count_after c (calls k) = c.taken
 count_after c hands_out_sends = c.taken
 count_after c hands_out_notices = c.taken
 
-pub step_steps : (p : Path) (c : State) (t : Made) (s : Step) → is_online c.phase ≡ true → is_online (after c s).phase ≡ true → Steps p c (after c s) t (made_step c t s) (count_after c s)
+pub step_steps : (p : Path) (c : ClientState) (t : SendList) (s : ClientStep) → is_online c.phase ≡ true → is_online (after c s).phase ≡ true → Steps p c (after c s) t (made_step c t s) (count_after c s)
 step_steps p c t (calls k) on still = by (is_none (refusal c k)) still where
   by : (b : Bool) → is_online (if b then after_call c k else c).phase ≡ true → Steps p c (if b then after_call c k else c) t (if b then made_by c t k else t) c.taken
   by true h = call_steps p c t k on h
@@ -187,7 +187,7 @@ step_steps p c t hands_out_notices on still = same p c _ t refl refl
 up_is : (x y : Up) → Some x ≡ Some y → x ≡ y
 up_is x y e = ap (λ o. unwrap_or o x) e
 
-pub asked_step : (p : Path) (c d : State) (t u : Made) (n : ℕ) → Steps p c d t u n → (is_some (watch_of p c.watches) ≡ true → Asked t.messages p) → is_some (watch_of p d.watches) ≡ true → Asked u.messages p
+pub asked_step : (p : Path) (c d : ClientState) (t u : SendList) (n : ℕ) → Steps p c d t u n → (is_some (watch_of p c.watches) ≡ true → Asked t.messages p) → is_some (watch_of p d.watches) ≡ true → Asked u.messages p
 asked_step p c d t u n s h there = by s.asks where
   kept : (f : Unnumbered) → More t u f → ((q : ℕ) → offs p (f q) ≡ false) → ((k : ℕ) (m : Up) → slice_get t.messages k ≡ Some m → offs p m ≡ true → (j : ℕ) × (x : Up) × (k < j) × (slice_get (t.messages ++ f (length t.messages + 1) ∷ []) j ≡ Some x) × (ons p x ≡ true)) → Asked u.messages p
   kept f is plain old = subst (λ l. Asked l p) (sym is) (λ k m get off. by_place k m off (get_push t.messages (f (length t.messages + 1)) k m get)) where
@@ -201,7 +201,7 @@ asked_step p c d t u n s h there = by s.asks where
   by (inr (inr (inl x))) = kept x.0 x.1 (λ q. on_not_off p (x.0 q) (x.2 q)) (λ k m get off. (length t.messages, x.0 (length t.messages + 1), got_small t.messages k m get, get_last t.messages (x.0 (length t.messages + 1)), x.2 (length t.messages + 1)))
   by (inr (inr (inr x))) = absurd (true≢false (sym there ∙ x))
 
-pub last_step : (p : Path) (c d : State) (t u : Made) (n : ℕ) → Steps p c d t u n → is_some (watch_of p c.watches) ≡ true → is_some (watch_of p d.watches) ≡ true → (q : ℕ) → Last t.messages p q → Last u.messages p q
+pub last_step : (p : Path) (c d : ClientState) (t u : SendList) (n : ℕ) → Steps p c d t u n → is_some (watch_of p c.watches) ≡ true → is_some (watch_of p d.watches) ≡ true → (q : ℕ) → Last t.messages p q → Last u.messages p q
 last_step p c d t u n s here there q h = by s.asks where
   by : Asks p c d t u → Last u.messages p q
   by (inl x) = subst (λ l. Last l p q) (sym x.0) h
@@ -227,7 +227,7 @@ ons_on : (p : Path) (s : SessionId) (ps : List Path) (us : List Unnumbered) → 
 ons_on p s [] us h = h
 ons_on p s (x ∷ ps) us h = ((λ q. refl), ons_on p s ps us h)
 
-pub opening_asked : (p : Path) (d : State) (t : Made) → Asked (opening d t).messages p
+pub opening_asked : (p : Path) (d : ClientState) (t : SendList) → Asked (opening d t).messages p
 opening_asked p d t k m get off = absurd (true≢false (sym off ∙ numbered_on p 1 (on_messages d.session (map (λ e. e.0) d.watches) ++ op_messages d.session (base_of d + d.answered + 1) (drop d.answered t.writes)) (ons_on p d.session (map (λ e. e.0) d.watches) _ (ops_on p d.session (base_of d + d.answered + 1) (drop d.answered t.writes))) k m get))
 
 -- ---- the Snap that answers the last listen
@@ -248,7 +248,7 @@ on_waits p s q n (x ∷ ms) (suc j) m get h = or_true (is_on p x) (on_waits p s 
   or_true false e = e
 
 -- behind a message whose answer is the next, and that no other listen to the path waits behind, none names the path
-pub accepted_last : (p : Path) (c : State) (ms : List Up) → drop c.heard ms ≡ outstanding c → is_last p (drop 1 c.queue) ≡ true → Asked ms p → Last ms p (c.heard + 1)
+pub accepted_last : (p : Path) (c : ClientState) (ms : List Up) → drop c.heard ms ≡ outstanding c → is_last p (drop 1 c.queue) ≡ true → Asked ms p → Last ms p (c.heard + 1)
 accepted_last p c ms waits last asked k m get late = (listens, listens_no_more) where
   waiting : (k : ℕ) (m : Up) → slice_get ms k ≡ Some m → c.heard + 1 ≤ k → ons p m ≡ true → ⊥
   waiting k m get late on = by c.queue refl where

@@ -12,7 +12,7 @@ use Rattle.pres_wire.specs.declared.down.Down.{Down}
 use Rattle.pres_wire.specs.declared.down.Down.TheVariants as down
 use Rattle.pres_tree.specs.Paths.{Path}
 use Rattle.pres_tree.specs.Rows.{Rows}
-use Rattle.pres_write.specs.declared.draft.Slot.{Slot}
+use Rattle.pres_write.specs.declared.draft.DraftLeaf.{DraftLeaf}
 use Rattle.pres_log.specs.declared.entry.Entry.{Entry}
 use Rattle.pres_log.specs.declared.entry.Entry.TheVariants as entry
 use Rattle.pres_log.specs.Logs.{Log, entries, item_at}
@@ -155,7 +155,7 @@ rows_front c es (e ∷ more) i row h =
 
 -- message q of the session stands under the number, and left something for its end or took it back
 abbrev pub IsArmed : List Entry → SessionId → ℕ → ℕ → Type 0
-IsArmed es s z q = ((placements : List (Path × Rows Slot)) × (item_at es z ≡ Some (entry.Left s q placements))) ⊎ ((p : Path) × (item_at es z ≡ Some (entry.Cancelled s q p)))
+IsArmed es s z q = ((placements : List (Path × Rows DraftLeaf)) × (item_at es z ≡ Some (entry.Left s q placements))) ⊎ ((p : Path) × (item_at es z ≡ Some (entry.Cancelled s q p)))
 
 armed_front : (es more : List Entry) (s : SessionId) (z q : ℕ) → IsArmed es s z q → IsArmed (es ++ more) s z q
 armed_front es more s z q (inl h) = inl (h.0, item_front es more z _ h.1)

@@ -8,7 +8,7 @@ use Rattle.pres_ids.specs.Ids.{same_session}
 use Rattle.pres_tree.specs.Paths.{Path, is_prefix}
 use Rattle.pres_tree.specs.Rows.{Rows}
 use Rattle.pres_write.specs.declared.basic.Basic.{Basic}
-use Rattle.pres_write.specs.declared.draft.Slot.{Slot}
+use Rattle.pres_write.specs.declared.draft.DraftLeaf.{DraftLeaf}
 use Rattle.pres_plan.specs.declared.row.PlanRow.{PlanRow}
 use Rattle.pres_plan.specs.Plans.{puts, cancels, path_of, is_left, lasting, matters, plan_of}
 use Rattle.pres_plan.proofs.Left.{lasting-append, left_by_cancel}
@@ -16,7 +16,7 @@ use Rattle.pres_log.specs.declared.entry.Entry.{Entry}
 use Rattle.pres_log.specs.declared.entry.Entry.TheVariants as entry
 use Rattle.pres_log.specs.Logs.{Log, entries}
 use Rattle.pres_server.specs.LegalLog.{MayCome, IsLegal}
-use Rattle.pres_server.specs.Parts.{plan_after}
+use Rattle.pres_server.specs.InternalParts.{plan_after}
 use Rattle.pres_server.specs.Sessions.{opens, ends, count, session_of}
 use Rattle.pres_server.specs.SessionPlans.{plan}
 use Rattle.pres_server.proofs.Since.{any-append, session_itself, session_same}
@@ -48,7 +48,7 @@ all_planned : (P : PlanRow → Type 0) (xs : List PlanRow) → AllByRecursion P 
 all_planned P xs h = all_kept P (matters (lasting xs)) (lasting xs) (all_lasting P xs h)
 
 -- puts with a later number are others
-puts_other : (q n : ℕ) (p : Path) (placements : List (Path × Rows Slot)) → q ≤ n → AllByRecursion (IsOther q p) (puts n placements)
+puts_other : (q n : ℕ) (p : Path) (placements : List (Path × Rows DraftLeaf)) → q ≤ n → AllByRecursion (IsOther q p) (puts n placements)
 puts_other q n p [] less = tt
 puts_other q n p (x ∷ placements) less = (λ is. absurd (let before = is.1 in omega (arith, less, before)), puts_other q n p placements less)
 

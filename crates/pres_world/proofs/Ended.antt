@@ -12,9 +12,9 @@ use Rattle.pres_log.specs.declared.fault.Fault.TheVariants as fault
 use Rattle.pres_log.specs.Logs.{Log, entries, number}
 use Rattle.pres_log.proofs.Entries.{entries-push, number-push}
 use Rattle.pres_server.specs.declared.input.Input.TheVariants as input
-use Rattle.pres_server.specs.Heard.{State, first_client}
+use Rattle.pres_server.specs.ServerStates.{ServerState, first_client}
 use Rattle.pres_server.specs.LegalLog.{MayCome, MayFollow, MayComeTogether, IsLegal}
-use Rattle.pres_server.specs.Parts.{Sound, live_in, open_step}
+use Rattle.pres_server.specs.InternalParts.{Sound, live_in, open_step}
 use Rattle.pres_server.specs.Sessions.{is_open, has_open, sessions_of, open_sessions, open_sessions_of}
 use Rattle.pres_server.specs.Turns.{Decision, makes, refused, end_of, ends_first, limited, turn, is_made, moment_of, batch_of}
 use Rattle.pres_server.proofs.AfterEntry.{sound_start, sound_after, open_after, open_counted}
@@ -22,16 +22,16 @@ use Rattle.pres_server.proofs.Parts.{uncounted}
 use Rattle.pres_server.proofs.Since.{session_itself}
 use Rattle.pres_server.proofs.Steps.{in_open}
 use Rattle.pres_server.proofs.Whole.{legal_leaves_room}
-use Rattle.pres_world.specs.Served.{IsEndOf, EndsAll}
+use Rattle.pres_world.specs.ServerSides.{IsEndOf, EndsAll}
 use Rattle.pres_world.proofs.Legal.{last_follows}
 use Rattle.pres_world.proofs.Stands.{entries_rule}
 
 -- one more at the front
-pub ended_by : (now : ℕ) (c : ClientId) (s u t : State) (old new : Log) (cs : List ClientId) → first_client s.heard ≡ Some c → IsEndOf s c now u old new → EndsAll now cs u t → EndsAll now (c ∷ cs) s t
+pub ended_by : (now : ℕ) (c : ClientId) (s u t : ServerState) (old new : Log) (cs : List ClientId) → first_client s.heard ≡ Some c → IsEndOf s c now u old new → EndsAll now cs u t → EndsAll now (c ∷ cs) s t
 ended_by now c s u t old new cs first end h = (end.0, first, end.1, subst (λ x. EndsAll now cs x t) end.2 h)
 
 -- the log grew by its batch
-pub log_by : (now : ℕ) (c : ClientId) (s u : State) (from old new : Log) → IsEndOf s c now u old new → s.log ≡ from ++ old → u.log ≡ from ++ new
+pub log_by : (now : ℕ) (c : ClientId) (s u : ServerState) (from old new : Log) → IsEndOf s c now u old new → s.log ≡ from ++ old → u.log ≡ from ++ new
 log_by now c s u from old new end is =
     let batch = batch_of s.log (moment_of s.log now) end.0 in
     ap (λ x. x.log) end.2 ∙ ap (λ l. l ++ batch ∷ []) is ∙ append_assoc from old (batch ∷ []) ∙ ap (λ l. from ++ l) (sym end.3)
@@ -87,7 +87,7 @@ passes false true x y z h k = absurd (true≢false k)
 passes false false x y z h k = refl
 
 -- a session of the client is open, so a restart ends it: there is a number left for that
-pub restart_makes : (s : State) (c : ClientId) (now : ℕ) → IsLegal s.log → has_open c (entries s.log) ≡ true → (es : List Entry) × (turn s (input.Restart c) now ≡ makes es)
+pub restart_makes : (s : ServerState) (c : ClientId) (now : ℕ) → IsLegal s.log → has_open c (entries s.log) ≡ true → (es : List Entry) × (turn s (input.Restart c) now ≡ makes es)
 restart_makes s c now legal has = by (open_sessions_of c es) refl where
   es : List Entry
   es = entries s.log
@@ -123,7 +123,7 @@ restart_makes s c now legal has = by (open_sessions_of c es) refl where
         (le-ltb 1024 (length (open_sessions (es ++ e ∷ []))) (omega (arith, after, most)))
 
 -- so a turn that refuses it or makes nothing is none
-pub none_unmade : (s : State) (c : ClientId) (now : ℕ) (d : Decision) → IsLegal s.log → has_open c (entries s.log) ≡ true → turn s (input.Restart c) now ≡ d → is_made d ≡ false → ⊥
+pub none_unmade : (s : ServerState) (c : ClientId) (now : ℕ) (d : Decision) → IsLegal s.log → has_open c (entries s.log) ≡ true → turn s (input.Restart c) now ≡ d → is_made d ≡ false → ⊥
 none_unmade s c now d legal has is none =
     let made = restart_makes s c now legal has in
     true≢false (sym (ap is_made made.1) ∙ ap is_made is ∙ none)

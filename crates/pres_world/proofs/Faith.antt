@@ -14,7 +14,7 @@ use Rattle.pres_wire.specs.declared.down.Down.TheVariants as down
 use Rattle.pres_wire.specs.declared.up.Up.{Up}
 use Rattle.pres_wire.specs.declared.up.Up.TheVariants as up
 use Rattle.pres_wire.specs.Messages.{number_in}
-use Rattle.pres_wire.specs.Views.{told, seen, seen_in}
+use Rattle.pres_wire.specs.Views.{value_told, seen, seen_in}
 use Rattle.pres_log.specs.declared.entry.Entry.{Entry}
 use Rattle.pres_log.specs.declared.entry.Entry.TheVariants as entry
 use Rattle.pres_log.specs.Logs.{Log, entries, tree}
@@ -103,7 +103,7 @@ seen_last (Some m) (Some w) z v h = (m, refl, ap (λ (o : Option (ℕ × Rows Sc
 
 seen_small : (p : Path) (ms : List Down) (n z : ℕ) (v : Rows Scalar) → AllByRecursion (λ m. number_in m ≤ n) ms → seen_in p ms ≡ Some (z, v) → z ≤ n
 seen_small p ms n z v h is =
-    let last = seen_last (last_or None ms) (last_or None (filter_map (told p) ms)) z v is in
+    let last = seen_last (last_or None ms) (last_or None (filter_map (value_told p) ms)) z v is in
     let small = last_small n None ms h (λ m e. absurd (none_or_some m e)) last.0 last.1 in
     let same = last.2 in omega (arith, small, same)
 
@@ -112,10 +112,10 @@ last_push o [] x = refl
 last_push o (y ∷ xs) x = last_push (Some y) xs x
 
 -- two last messages that tell the same
-pub seen_alike : (p : Path) (ms : List Down) (a b : Down) → told p a ≡ told p b → number_in a ≡ number_in b → seen_in p (ms ++ a ∷ []) ≡ seen_in p (ms ++ b ∷ [])
-seen_alike p ms a b same number = one a ∙ by (last_or None (filter_map (told p) ms ++ cons_option (told p a) [])) ∙ ap (λ o. seen (Some b) (last_or None (filter_map (told p) ms ++ cons_option o []))) same ∙ sym (one b) where
-  one : (x : Down) → seen_in p (ms ++ x ∷ []) ≡ seen (Some x) (last_or None (filter_map (told p) ms ++ cons_option (told p x) []))
-  one x = ap (λ o. seen o (last_or None (filter_map (told p) (ms ++ x ∷ [])))) (last_push None ms x) ∙ ap (λ l. seen (Some x) (last_or None l)) (filter_map-append (told p) ms (x ∷ []))
+pub seen_alike : (p : Path) (ms : List Down) (a b : Down) → value_told p a ≡ value_told p b → number_in a ≡ number_in b → seen_in p (ms ++ a ∷ []) ≡ seen_in p (ms ++ b ∷ [])
+seen_alike p ms a b same number = one a ∙ by (last_or None (filter_map (value_told p) ms ++ cons_option (value_told p a) [])) ∙ ap (λ o. seen (Some b) (last_or None (filter_map (value_told p) ms ++ cons_option o []))) same ∙ sym (one b) where
+  one : (x : Down) → seen_in p (ms ++ x ∷ []) ≡ seen (Some x) (last_or None (filter_map (value_told p) ms ++ cons_option (value_told p x) []))
+  one x = ap (λ o. seen o (last_or None (filter_map (value_told p) (ms ++ x ∷ [])))) (last_push None ms x) ∙ ap (λ l. seen (Some x) (last_or None l)) (filter_map-append (value_told p) ms (x ∷ []))
 
   by : (o : Option (Rows Scalar)) → seen (Some a) o ≡ seen (Some b) o
   by None = refl

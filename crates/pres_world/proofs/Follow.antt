@@ -13,30 +13,30 @@ use Rattle.pres_wire.specs.declared.down.Down.TheVariants as down
 use Rattle.pres_wire.specs.declared.up.Up.{Up}
 use Rattle.pres_log.specs.declared.entry.Entry.{Entry}
 use Rattle.pres_log.specs.Logs.{Log, entries, item_at}
-use Rattle.pres_mail.specs.declared.queued.Queued.{Queued}
-use Rattle.pres_mail.specs.Watches.{watch_of}
-use Rattle.pres_client.specs.Clients.{State, is_online, outstanding}
-use Rattle.pres_client.specs.Receiving as receiving
+use Rattle.pres_client_state.specs.declared.queued.Queued.{Queued}
+use Rattle.pres_client_state.specs.Watches.{watch_of}
+use Rattle.pres_client.specs.Clients.{ClientState, is_online, outstanding}
+use Rattle.pres_client.specs.ReceivedMessages as receiving
 use Rattle.pres_wire.specs.Views.{seen_in}
-use Rattle.pres_client.specs.Receiving.{is_next, fits, is_last, first_listen, bring, listen_answered, after_receive}
-use Rattle.pres_client.specs.Sends.{Made}
-use Rattle.pres_client.specs.Steps.{Step, after, run}
+use Rattle.pres_client.specs.ReceivedMessages.{is_next, fits, is_last, first_listen, bring, listen_answered, after_receive}
+use Rattle.pres_client.specs.Sends.{SendList}
+use Rattle.pres_client.specs.Steps.{ClientStep, after, run}
 use Rattle.pres_log.specs.Logs.{tree}
 use Rattle.pres_tree.specs.Rows.{value_at}
 use Rattle.pres_server.proofs.StreamSteps.{stream_grows}
 use Rattle.pres_world.proofs.Backed.{get_front}
-use Rattle.pres_client.specs.Trails.{Trail, trail, trail_step, nothing, more, takes, listens_to, is_asked, with_snap, with_taken, kept_for}
+use Rattle.pres_client.specs.Views.{Trail, trail, trail_step, nothing, more, takes, listens_to, is_asked, with_snap, with_taken, kept_for}
 use Rattle.pres_server.specs.LegalLog.{IsLegal}
 use Rattle.pres_server.specs.Streams.{stream}
 use Rattle.pres_server.proofs.Since.{session_same}
-use Rattle.pres_world.specs.Safe.{IsTold}
+use Rattle.pres_world.specs.Safe.{IsInTranscript}
 use Rattle.pres_world.proofs.Stands.{none_or_some, take_within}
 use Rattle.pres_world.proofs.Hears.{Hears}
 use Rattle.pres_world.proofs.Asked.{Asked, Last, Steps, last_step, accepted_last}
 use Rattle.pres_world.proofs.Faith.{SeenTrue, Listed, seen_true, later_snap, seen_alike, shown_more, first_shown}
 
 -- what counts begins with the Snap that answers the last listen to the path
-pub record Live (es : List Entry) (c : State) (ms : List Up) (p : Path) (shown : List Down) : Type 0 where
+pub record Live (es : List Entry) (c : ClientState) (ms : List Up) (p : Path) (shown : List Down) : Type 0 where
   pub session : SessionId
   pub place : ℕ
   pub q : ℕ
@@ -49,21 +49,21 @@ pub record Live (es : List Entry) (c : State) (ms : List Up) (p : Path) (shown :
   pub last : Last ms p q
 
 -- what the trail of the path tells is true
-pub record Faith (es : List Entry) (c : State) (ms : List Up) (p : Path) (t : Trail) : Type 0 where
+pub record Faith (es : List Entry) (c : ClientState) (ms : List Up) (p : Path) (t : Trail) : Type 0 where
   pub seen : SeenTrue es p t.messages
   pub counted : t.counts ≡ true → (is_online c.phase ≡ true) × (is_some (watch_of p c.watches) ≡ true)
   pub live : t.counts ≡ true → Live es c ms p t.messages
   pub asked : is_online c.phase ≡ true → is_some (watch_of p c.watches) ≡ true → Asked ms p
 
 -- before what is of no more use is let go
-pub record Raw (es : List Entry) (d : State) (ms : List Up) (p : Path) (t : Trail) : Type 0 where
+pub record Raw (es : List Entry) (d : ClientState) (ms : List Up) (p : Path) (t : Trail) : Type 0 where
   pub seen : is_some (watch_of p d.watches) ≡ true → SeenTrue es p t.messages
   pub live : t.counts ≡ true → is_online d.phase ≡ true → is_some (watch_of p d.watches) ≡ true → Live es d ms p t.messages
 
 pub seen_nothing : (es : List Entry) (p : Path) → SeenTrue es p []
 seen_nothing es p z v h = absurd (none_or_some (z, v) h)
 
-pub faith_kept : (es : List Entry) (d : State) (ms : List Up) (p : Path) (t : Trail) → Raw es d ms p t → (is_online d.phase ≡ true → is_some (watch_of p d.watches) ≡ true → Asked ms p) → Faith es d ms p (kept_for p d t)
+pub faith_kept : (es : List Entry) (d : ClientState) (ms : List Up) (p : Path) (t : Trail) → Raw es d ms p t → (is_online d.phase ≡ true → is_some (watch_of p d.watches) ≡ true → Asked ms p) → Faith es d ms p (kept_for p d t)
 faith_kept es d ms p t raw asked = by (is_some (watch_of p d.watches)) refl (is_online d.phase) refl where
   by : (a : Bool) → is_some (watch_of p d.watches) ≡ a → (b : Bool) → is_online d.phase ≡ b → Faith es d ms p (if a then (if b then t else record t { counts = false }) else nothing)
   by true e true f = record { seen = raw.seen e; counted = λ g. (f, e); live = λ g. raw.live g f e; asked = asked }
@@ -71,7 +71,7 @@ faith_kept es d ms p t raw asked = by (is_some (watch_of p d.watches)) refl (is_
   by false e b f = record { seen = seen_nothing es p; counted = λ g. absurd (true≢false (sym g)); live = λ g. absurd (true≢false (sym g)); asked = asked }
 
 -- nothing was taken
-pub quiet_raw : (es : List Entry) (c d : State) (t u : Made) (p : Path) (trail : Trail) → Faith es c t.messages p trail → (is_online c.phase ≡ true → is_online d.phase ≡ true → Steps p c d t u c.taken) → (is_online d.phase ≡ true → d.session ≡ c.session) → Raw es d u.messages p trail
+pub quiet_raw : (es : List Entry) (c d : ClientState) (t u : SendList) (p : Path) (trail : Trail) → Faith es c t.messages p trail → (is_online c.phase ≡ true → is_online d.phase ≡ true → Steps p c d t u c.taken) → (is_online d.phase ≡ true → d.session ≡ c.session) → Raw es d u.messages p trail
 quiet_raw es c d t u p trail h steps session = record { seen = λ e. h.seen; live = live } where
   live : trail.counts ≡ true → is_online d.phase ≡ true → is_some (watch_of p d.watches) ≡ true → Live es d u.messages p trail.messages
   live g on there =
@@ -96,7 +96,7 @@ quiet_raw es c d t u p trail h steps session = record { seen = λ e. h.seen; liv
 
 -- ---- the next message of the stream
 
-next_item : (es : List Entry) (c : State) (s : SessionId) (r : ℕ) (m : Down) → is_next c s r ≡ true → item_at (stream s es) r ≡ Some m → slice_get (stream c.session es) c.taken ≡ Some m
+next_item : (es : List Entry) (c : ClientState) (s : SessionId) (r : ℕ) (m : Down) → is_next c s r ≡ true → item_at (stream s es) r ≡ Some m → slice_get (stream c.session es) c.taken ≡ Some m
 next_item es c s r m next item =
     let a = and_parts (is_online c.phase) _ next in
     let b = and_parts (same_session s c.session) _ a.1 in
@@ -104,7 +104,7 @@ next_item es c s r m next item =
     let count : r ≡ suc c.taken = omega (arith, number) in
     ap (λ x. slice_get (stream x es) c.taken) (sym (session_same s c.session b.0)) ∙ sym (ap (item_at (stream s es)) count) ∙ item
 
-pub next_of : (es : List Entry) (c : State) (m : Down) → takes c m ≡ true → IsTold es m → slice_get (stream c.session es) c.taken ≡ Some m
+pub next_of : (es : List Entry) (c : ClientState) (m : Down) → takes c m ≡ true → IsInTranscript es m → slice_get (stream c.session es) c.taken ≡ Some m
 next_of es c (down.Welcome s z ops) h told = absurd (true≢false (sym h))
 next_of es c (down.Reply s r z q n done out) h told = next_item es c s r _ h told
 next_of es c (down.Gone s r z why) h told = next_item es c s r _ h told
@@ -115,10 +115,10 @@ next_of es c (down.Snap s r z q p v) h told = next_item es c s r _ h told
 next_of es c (down.Push s r z values) h told = next_item es c s r _ h told
 next_of es c (down.OffDone s r z q) h told = next_item es c s r _ h told
 
-online_by : (c : State) (s : SessionId) (r : ℕ) → is_next c s r ≡ true → is_online c.phase ≡ true
+online_by : (c : ClientState) (s : SessionId) (r : ℕ) → is_next c s r ≡ true → is_online c.phase ≡ true
 online_by c s r h = (and_parts (is_online c.phase) _ h).0
 
-pub takes_online : (c : State) (m : Down) → takes c m ≡ true → is_online c.phase ≡ true
+pub takes_online : (c : ClientState) (m : Down) → takes c m ≡ true → is_online c.phase ≡ true
 takes_online c (down.Welcome s z ops) h = absurd (true≢false (sym h))
 takes_online c (down.Reply s r z q n done out) h = online_by c s r h
 takes_online c (down.Gone s r z why) h = online_by c s r h
@@ -130,20 +130,20 @@ takes_online c (down.Push s r z values) h = online_by c s r h
 takes_online c (down.OffDone s r z q) h = online_by c s r h
 
 -- a Snap that wasn't asked for ends the session
-unasked_off : (c : State) (z q : ℕ) (x : Path) (v : Rows Scalar) (rest : List Queued) (o : Option (ℕ × Path)) → (fits c q && listens_to x o) ≡ false → is_online (listen_answered (bring c z) rest z q x v o).phase ≡ false
+unasked_off : (c : ClientState) (z q : ℕ) (x : Path) (v : Rows Scalar) (rest : List Queued) (o : Option (ℕ × Path)) → (fits c q && listens_to x o) ≡ false → is_online (listen_answered (bring c z) rest z q x v o).phase ≡ false
 unasked_off c z q x v rest None h = refl
-unasked_off c z q x v rest (Some f) h = ap (λ b. is_online (if b then (let d = receiving.answered (bring c z) rest in if is_last x rest then receiving.told d x z v (watch_of x c.watches) else d) else receiving.unfit (bring c z)).phase) h
+unasked_off c z q x v rest (Some f) h = ap (λ b. is_online (if b then (let d = receiving.answered (bring c z) rest in if is_last x rest then receiving.after_value d x z v (watch_of x c.watches) else d) else receiving.unfit (bring c z)).phase) h
 
-snap_off : (c : State) (s : SessionId) (r z q : ℕ) (x : Path) (v : Rows Scalar) → is_next c s r ≡ true → is_asked c q x ≡ false → is_online (after_receive c (down.Snap s r z q x v)).phase ≡ false
+snap_off : (c : ClientState) (s : SessionId) (r z q : ℕ) (x : Path) (v : Rows Scalar) → is_next c s r ≡ true → is_asked c q x ≡ false → is_online (after_receive c (down.Snap s r z q x v)).phase ≡ false
 snap_off c s r z q x v next h = ap (λ b. is_online (if b then listen_answered (bring c z) (drop 1 c.queue) z q x v (first_listen c.queue) else c).phase) next ∙ unasked_off c z q x v (drop 1 c.queue) (first_listen c.queue) h
 
-pub heard_raw : (log : Log) → IsLegal log → (c : State) (m : Down) (ms : List Up) (p : Path) (t : Trail) → Faith (entries log) c ms p t → Listed (entries log) c.session ms → drop c.heard ms ≡ outstanding c → takes c m ≡ true → IsTold (entries log) m
+pub heard_raw : (log : Log) → IsLegal log → (c : ClientState) (m : Down) (ms : List Up) (p : Path) (t : Trail) → Faith (entries log) c ms p t → Listed (entries log) c.session ms → drop c.heard ms ≡ outstanding c → takes c m ≡ true → IsInTranscript (entries log) m
     → Hears c (c.taken + 1) (after_receive c m) → (after_receive c m).session ≡ c.session → Raw (entries log) (after_receive c m) ms p (with_taken p c t m)
 heard_raw log legal c m ms p t h listed waits takes_it told hears session = by_message m refl where
   es : List Entry
   es = entries log
 
-  d : State
+  d : ClientState
   d = after_receive c m
 
   on : is_online c.phase ≡ true
@@ -268,7 +268,7 @@ heard_raw log legal c m ms p t h listed waits takes_it told hears session = by_m
 
 -- ---- a longer log
 
-pub faith_front : (es more : List Entry) (c : State) (ms : List Up) (p : Path) (t : Trail) → (is_online c.phase ≡ true → c.taken ≤ length (stream c.session es)) → Faith es c ms p t → Faith (es ++ more) c ms p t
+pub faith_front : (es more : List Entry) (c : ClientState) (ms : List Up) (p : Path) (t : Trail) → (is_online c.phase ≡ true → c.taken ≤ length (stream c.session es)) → Faith es c ms p t → Faith (es ++ more) c ms p t
 faith_front es more c ms p t few h = record { seen = seen; counted = h.counted; live = live; asked = h.asked } where
   seen : SeenTrue (es ++ more) p t.messages
   seen z v e =
@@ -294,12 +294,12 @@ faith_front es more c ms p t few h = record { seen = seen; counted = h.counted; 
         last = l.last;
       }
 
-pub faith_handed : (es : List Entry) (d : State) (ms : List Up) (p : Path) (t : Trail) (sends : List Up) → Faith es d ms p t → Faith es (record d { sends = sends }) ms p t
+pub faith_handed : (es : List Entry) (d : ClientState) (ms : List Up) (p : Path) (t : Trail) (sends : List Up) → Faith es d ms p t → Faith es (record d { sends = sends }) ms p t
 faith_handed es d ms p t sends h = record { seen = h.seen; counted = h.counted; live = live; asked = h.asked } where
   live : t.counts ≡ true → Live es (record d { sends = sends }) ms p t.messages
   live g = let l = h.live g in record { session = l.session; place = l.place; q = l.q; r = l.r; z = l.z; value = l.value; snap = l.snap; early = l.early; shows = l.shows; last = l.last }
 
-pub raw_into : (es : List Entry) (d : State) (ms ns : List Up) (p : Path) (t : Trail) → (t.counts ≡ true → is_online d.phase ≡ true → ms ≡ ns) → Raw es d ms p t → Raw es d ns p t
+pub raw_into : (es : List Entry) (d : ClientState) (ms ns : List Up) (p : Path) (t : Trail) → (t.counts ≡ true → is_online d.phase ≡ true → ms ≡ ns) → Raw es d ms p t → Raw es d ns p t
 raw_into es d ms ns p t same h = record { seen = h.seen; live = λ g on w. subst (λ l. Live es d l p t.messages) (same g on) (h.live g on w) }
 
 kept_twice : (a b : Bool) (t : Trail) → (if a then (if b then (if a then (if b then t else record t { counts = false }) else nothing) else record (if a then (if b then t else record t { counts = false }) else nothing) { counts = false }) else nothing) ≡ (if a then (if b then t else record t { counts = false }) else nothing)
@@ -307,14 +307,14 @@ kept_twice true true t = refl
 kept_twice true false t = refl
 kept_twice false b t = refl
 
-pub kept_again : (p : Path) (d : State) (t : Trail) → kept_for p d (kept_for p d t) ≡ kept_for p d t
+pub kept_again : (p : Path) (d : ClientState) (t : Trail) → kept_for p d (kept_for p d t) ≡ kept_for p d t
 kept_again p d t = kept_twice (is_some (watch_of p d.watches)) (is_online d.phase) t
 
-pub trail_then : (p : Path) (c : State) (t : Trail) (xs ys : List Step) → trail p c t (xs ++ ys) ≡ trail p (run c xs) (trail p c t xs) ys
+pub trail_then : (p : Path) (c : ClientState) (t : Trail) (xs ys : List ClientStep) → trail p c t (xs ++ ys) ≡ trail p (run c xs) (trail p c t xs) ys
 trail_then p c t [] ys = refl
 trail_then p c t (s ∷ xs) ys = trail_then p (after c s) (kept_for p (after c s) (trail_step p c t s)) xs ys
 
-pub faith_noted : (es : List Entry) (d : State) (ms : List Up) (p : Path) (t : Trail) → Faith es d ms p t → Faith es (record d { notices = [] }) ms p t
+pub faith_noted : (es : List Entry) (d : ClientState) (ms : List Up) (p : Path) (t : Trail) → Faith es d ms p t → Faith es (record d { notices = [] }) ms p t
 faith_noted es d ms p t h = record { seen = h.seen; counted = h.counted; live = live; asked = h.asked } where
   live : t.counts ≡ true → Live es (record d { notices = [] }) ms p t.messages
   live g = let l = h.live g in record { session = l.session; place = l.place; q = l.q; r = l.r; z = l.z; value = l.value; snap = l.snap; early = l.early; shows = l.shows; last = l.last }

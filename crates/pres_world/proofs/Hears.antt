@@ -17,27 +17,27 @@ use Rattle.pres_wire.specs.declared.down.Down.TheVariants as down
 use Rattle.pres_wire.specs.declared.down.Limit.{Limit}
 use Rattle.pres_wire.specs.declared.down.Limit.TheVariants as limit
 use Rattle.pres_wire.specs.declared.values.PathValue.{PathValue}
-use Rattle.pres_mail.specs.declared.queued.Queued.{Queued}
-use Rattle.pres_mail.specs.declared.queued.Queued.TheVariants as queued
-use Rattle.pres_mail.specs.declared.notice.Notice.{Notice}
-use Rattle.pres_mail.specs.declared.watch.Watch.{Watch}
-use Rattle.pres_mail.specs.Watches.{Watches, watch_of, without_watch, tell, is_live, frozen}
+use Rattle.pres_client_state.specs.declared.queued.Queued.{Queued}
+use Rattle.pres_client_state.specs.declared.queued.Queued.TheVariants as queued
+use Rattle.pres_client_state.specs.declared.notice.Notice.{Notice}
+use Rattle.pres_client_state.specs.declared.watch.Watch.{Watch}
+use Rattle.pres_client_state.specs.Watches.{Watches, watch_of, without_watch, tell, is_live, frozen}
 use Rattle.pres_client.specs.declared.client.Phase.{Phase}
 use Rattle.pres_client.specs.declared.client.Phase.TheVariants as phase
-use Rattle.pres_client.specs.Clients.{State, is_online, is_opening, most_tries}
-use Rattle.pres_client.specs.Receiving.{write_outcome, try_outcome, is_next, bring, fits, fits_write, answered, armed, judge_reply, judge_denied, action_answered, listen_denied, listen_answered, told, tell_live, after_push, is_last, first_action, first_listen, first_is_off, ends_session, own_fault, after_fault, after_welcome, after_receive}
-use Rattle.pres_client.specs.Trails.{takes}
+use Rattle.pres_client.specs.Clients.{ClientState, is_online, is_opening, most_tries}
+use Rattle.pres_client.specs.ReceivedMessages.{write_outcome, try_outcome, is_next, bring, fits, fits_write, answered, armed, judge_reply, judge_denied, action_answered, listen_denied, listen_answered, after_value, tell_live, after_push, is_last, first_action, first_listen, first_is_off, ends_session, own_fault, after_fault, after_welcome, after_receive}
+use Rattle.pres_client.specs.Views.{takes}
 use Rattle.pres_client.proofs.Found.{watch_of-without, watch_of-frozen, left, told_elsewhere}
 
 -- no path more is listened to, and so many messages were taken
-pub record Hears (c : State) (n : ℕ) (d : State) : Type 0 where
+pub record Hears (c : ClientState) (n : ℕ) (d : ClientState) : Type 0 where
   pub fewer : (p : Path) → is_some (watch_of p d.watches) ≡ true → is_some (watch_of p c.watches) ≡ true
   pub taken : is_online d.phase ≡ true → d.taken ≡ n
 
-offline : (d : State) → d.phase ≡ phase.Off → is_online d.phase ≡ true → ⊥
+offline : (d : ClientState) → d.phase ≡ phase.Off → is_online d.phase ≡ true → ⊥
 offline d off on = true≢false (sym on ∙ ap is_online off)
 
-keeps : (c : State) (n : ℕ) (d : State) → d.watches ≡ c.watches → d.taken ≡ n → Hears c n d
+keeps : (c : ClientState) (n : ℕ) (d : ClientState) → d.watches ≡ c.watches → d.taken ≡ n → Hears c n d
 keeps c n d w t = record { fewer = λ p h. ap (λ ws. is_some (watch_of p ws)) (sym w) ∙ h; taken = λ on. t }
 
 frozen_fewer : (p : Path) (seen : ℕ) (ws : Watches) → is_some (watch_of p (frozen seen ws)) ≡ true → is_some (watch_of p ws) ≡ true
@@ -46,16 +46,16 @@ frozen_fewer p seen ws h = by (watch_of p ws) (ap is_some (sym (watch_of-frozen 
   by None k = k
   by (Some w) k = refl
 
-leaves : (c : State) (n : ℕ) (d : State) (seen : ℕ) → d.phase ≡ phase.Off → d.watches ≡ frozen seen c.watches → Hears c n d
+leaves : (c : ClientState) (n : ℕ) (d : ClientState) (seen : ℕ) → d.phase ≡ phase.Off → d.watches ≡ frozen seen c.watches → Hears c n d
 leaves c n d seen off w = record { fewer = λ p h. frozen_fewer p seen c.watches (ap (λ ws. is_some (watch_of p ws)) (sym w) ∙ h); taken = λ on. absurd (offline d off on) }
 
-stops : (c : State) (n : ℕ) (d : State) → d.phase ≡ phase.Off → d.watches ≡ c.watches → Hears c n d
+stops : (c : ClientState) (n : ℕ) (d : ClientState) → d.phase ≡ phase.Off → d.watches ≡ c.watches → Hears c n d
 stops c n d off w = record { fewer = λ p h. ap (λ ws. is_some (watch_of p ws)) (sym w) ∙ h; taken = λ on. absurd (offline d off on) }
 
-changes : (c : State) (n : ℕ) (d : State) → ((p : Path) → is_some (watch_of p d.watches) ≡ true → is_some (watch_of p c.watches) ≡ true) → d.taken ≡ n → Hears c n d
+changes : (c : ClientState) (n : ℕ) (d : ClientState) → ((p : Path) → is_some (watch_of p d.watches) ≡ true → is_some (watch_of p c.watches) ≡ true) → d.taken ≡ n → Hears c n d
 changes c n d f t = record { fewer = f; taken = λ on. t }
 
-choose : (c : State) (n : ℕ) (b : Bool) (x y : State) → (b ≡ true → Hears c n x) → (b ≡ false → Hears c n y) → Hears c n (if b then x else y)
+choose : (c : ClientState) (n : ℕ) (b : Bool) (x y : ClientState) → (b ≡ true → Hears c n x) → (b ≡ false → Hears c n y) → Hears c n (if b then x else y)
 choose c n true x y f g = f refl
 choose c n false x y f g = g refl
 
@@ -89,15 +89,15 @@ without_fewer p x ws h = by (same_path x p) (ap is_some (sym (watch_of-without p
 
 -- ---- messages
 
-write_hears : (c : State) (z k : ℕ) (rest : List Queued) (done : ℕ) (out : Kept) → Hears c (c.taken + 1) (write_outcome (bring c z) k rest done out)
+write_hears : (c : ClientState) (z k : ℕ) (rest : List Queued) (done : ℕ) (out : Kept) → Hears c (c.taken + 1) (write_outcome (bring c z) k rest done out)
 write_hears c z k rest done kept.Wrote = keeps c _ _ refl refl
 write_hears c z k rest done (kept.Stale held) = leaves c _ _ z refl refl
 
-try_hears : (c : State) (z k attempt : ℕ) (t : Comparison) (rest : List Queued) (done : ℕ) (out : Kept) → Hears c (c.taken + 1) (try_outcome (bring c z) k attempt t rest done out)
+try_hears : (c : ClientState) (z k attempt : ℕ) (t : Comparison) (rest : List Queued) (done : ℕ) (out : Kept) → Hears c (c.taken + 1) (try_outcome (bring c z) k attempt t rest done out)
 try_hears c z k attempt t rest done kept.Wrote = keeps c _ _ refl refl
 try_hears c z k attempt t rest done (kept.Stale held) = choose c _ (nat_lt attempt most_tries) _ _ (λ _. keeps c _ _ refl refl) (λ _. keeps c _ _ refl refl)
 
-reply_hears : (c : State) (z : ℕ) (queue : List Queued) (q n done : ℕ) (out : Kept) → Hears c (c.taken + 1) (judge_reply (bring c z) queue q n done out)
+reply_hears : (c : ClientState) (z : ℕ) (queue : List Queued) (q n done : ℕ) (out : Kept) → Hears c (c.taken + 1) (judge_reply (bring c z) queue q n done out)
 reply_hears c z [] q n done out = leaves c _ _ z refl refl
 reply_hears c z (queued.Write k o ∷ rest) q n done out = choose c _ (fits_write (bring c z) q n) _ _ (λ _. write_hears c z k rest done out) (λ _. leaves c _ _ z refl refl)
 reply_hears c z (queued.Try k attempt t ∷ rest) q n done out = choose c _ (fits_write (bring c z) q n) _ _ (λ _. try_hears c z k attempt t rest done out) (λ _. leaves c _ _ z refl refl)
@@ -106,7 +106,7 @@ reply_hears c z (queued.Cancel k p ∷ rest) q n done out = leaves c _ _ z refl 
 reply_hears c z (queued.On k p ∷ rest) q n done out = leaves c _ _ z refl refl
 reply_hears c z (queued.Off p ∷ rest) q n done out = leaves c _ _ z refl refl
 
-action_hears : (c : State) (z : ℕ) (rest : List Queued) (q : ℕ) (note : ℕ → Notice) (k : Option ℕ) → Hears c (c.taken + 1) (action_answered (bring c z) rest q note k)
+action_hears : (c : ClientState) (z : ℕ) (rest : List Queued) (q : ℕ) (note : ℕ → Notice) (k : Option ℕ) → Hears c (c.taken + 1) (action_answered (bring c z) rest q note k)
 action_hears c z rest q note None = leaves c _ _ z refl refl
 action_hears c z rest q note (Some k) = choose c _ (fits (bring c z) q) _ _ (λ _. keeps c _ _ refl refl) (λ _. leaves c _ _ z refl refl)
 
@@ -114,28 +114,28 @@ denied_fewer : (p x : Path) (ws : Watches) (b : Bool) → is_some (watch_of p (i
 denied_fewer p x ws true h = without_fewer p x ws h
 denied_fewer p x ws false h = h
 
-denied_hears : (c : State) (z : ℕ) (rest : List Queued) (q : ℕ) (f : Option (ℕ × Path)) → Hears c (c.taken + 1) (listen_denied (bring c z) rest q f)
+denied_hears : (c : ClientState) (z : ℕ) (rest : List Queued) (q : ℕ) (f : Option (ℕ × Path)) → Hears c (c.taken + 1) (listen_denied (bring c z) rest q f)
 denied_hears c z rest q None = leaves c _ _ z refl refl
 denied_hears c z rest q (Some f) = choose c _ (fits (bring c z) q) _ _ (λ _. changes c _ _ (λ p h. denied_fewer p f.1 c.watches (is_last f.1 rest) h) refl) (λ _. leaves c _ _ z refl refl)
 
-limit_hears : (c : State) (z q : ℕ) (why : Limit) → Hears c (c.taken + 1) (judge_denied (bring c z) c.queue q why)
+limit_hears : (c : ClientState) (z q : ℕ) (why : Limit) → Hears c (c.taken + 1) (judge_denied (bring c z) c.queue q why)
 limit_hears c z q limit.Plan = action_hears c z (drop 1 c.queue) q _ (first_action c.queue)
 limit_hears c z q limit.Listens = denied_hears c z (drop 1 c.queue) q (first_listen c.queue)
 
-told_hears : (c : State) (z : ℕ) (rest : List Queued) (x : Path) (v : Rows Scalar) (w : Option Watch) → Hears c (c.taken + 1) (told (answered (bring c z) rest) x z v w)
+told_hears : (c : ClientState) (z : ℕ) (rest : List Queued) (x : Path) (v : Rows Scalar) (w : Option Watch) → Hears c (c.taken + 1) (after_value (answered (bring c z) rest) x z v w)
 told_hears c z rest x v None = keeps c _ _ refl refl
 told_hears c z rest x v (Some w) = changes c _ _ (λ p h. tell_fewer p x v c.watches h) refl
 
-snap_hears : (c : State) (z : ℕ) (rest : List Queued) (q : ℕ) (p : Path) (v : Rows Scalar) (f : Option (ℕ × Path)) → Hears c (c.taken + 1) (listen_answered (bring c z) rest z q p v f)
+snap_hears : (c : ClientState) (z : ℕ) (rest : List Queued) (q : ℕ) (p : Path) (v : Rows Scalar) (f : Option (ℕ × Path)) → Hears c (c.taken + 1) (listen_answered (bring c z) rest z q p v f)
 snap_hears c z rest q p v None = leaves c _ _ z refl refl
 snap_hears c z rest q p v (Some f) = choose c _ (fits (bring c z) q && same_path f.1 p) _ _ (λ _. choose c _ (is_last p rest) _ _ (λ _. told_hears c z rest p v (watch_of p c.watches)) (λ _. keeps c _ _ refl refl)) (λ _. leaves c _ _ z refl refl)
 
-fault_hears : (c : State) (reason : Code) → Hears c c.taken (own_fault c reason)
+fault_hears : (c : ClientState) (reason : Code) → Hears c c.taken (own_fault c reason)
 fault_hears c reason =
     choose c _ (is_opening c.phase) _ _ (λ _. stops c _ _ refl refl)
     (λ _. choose c _ (is_online c.phase) _ c (λ _. choose c _ (ends_session reason) _ _ (λ _. leaves c _ _ c.seen refl refl) (λ _. keeps c _ _ refl refl)) (λ _. keeps c _ c refl refl))
 
-faulted_hears : (c : State) (s : Option SessionId) (reason : Code) → Hears c c.taken (after_fault c s reason)
+faulted_hears : (c : ClientState) (s : Option SessionId) (reason : Code) → Hears c c.taken (after_fault c s reason)
 faulted_hears c None reason = keeps c _ _ refl refl
 faulted_hears c (Some s) reason = choose c _ (same_session s c.session) (own_fault c reason) c (λ _. fault_hears c reason) (λ _. keeps c _ c refl refl)
 
@@ -144,11 +144,11 @@ both_phases phase.Online e f = true≢false (sym f)
 both_phases phase.Opening e f = true≢false (sym e)
 both_phases phase.Off e f = true≢false (sym e)
 
-next_hears : (c : State) (b : Bool) (d : State) → Hears c (c.taken + 1) d → Hears c (if b then c.taken + 1 else c.taken) (if b then d else c)
+next_hears : (c : ClientState) (b : Bool) (d : ClientState) → Hears c (c.taken + 1) d → Hears c (if b then c.taken + 1 else c.taken) (if b then d else c)
 next_hears c true d h = h
 next_hears c false d h = keeps c _ c refl refl
 
-pub receive_hears : (c : State) (m : Down) → is_online c.phase ≡ true → Hears c (if takes c m then c.taken + 1 else c.taken) (after_receive c m)
+pub receive_hears : (c : ClientState) (m : Down) → is_online c.phase ≡ true → Hears c (if takes c m then c.taken + 1 else c.taken) (after_receive c m)
 receive_hears c (down.Welcome s z ops) on = choose c c.taken (is_opening c.phase && same_session s c.session) (after_welcome c ops) c (λ e. absurd (both_phases c.phase on (and_parts (is_opening c.phase) _ e).0)) (λ _. keeps c _ c refl refl)
 receive_hears c (down.Reply s r z q n done out) on = next_hears c (is_next c s r) _ (reply_hears c z c.queue q n done out)
 receive_hears c (down.Gone s r z why) on = next_hears c (is_next c s r) _ (leaves c _ _ z refl refl)

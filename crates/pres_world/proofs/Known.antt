@@ -15,21 +15,21 @@ use Rattle.pres_wire.specs.declared.up.Up.TheVariants as up
 use Rattle.pres_wire.specs.Messages.{session_in, q_in}
 use Rattle.pres_client.specs.declared.client.Phase.{Phase}
 use Rattle.pres_client.specs.declared.client.Phase.TheVariants as phase
-use Rattle.pres_client.specs.Clients.{State as Client, start, is_online, is_opening, outstanding}
-use Rattle.pres_client.specs.Receiving.{after_receive}
-use Rattle.pres_client.specs.Steps.{Step, calls, receives, hands_out_sends, hands_out_notices, after, run, IsMessage, AreMessages, IsStep as MayHappen}
-use Rattle.pres_client.specs.Trails.{Trail, trail, trail_step, kept_for, nothing, takes, with_taken}
+use Rattle.pres_client.specs.Clients.{ClientState as Client, start, is_online, is_opening, outstanding}
+use Rattle.pres_client.specs.ReceivedMessages.{after_receive}
+use Rattle.pres_client.specs.Steps.{ClientStep, calls, receives, hands_out_sends, hands_out_notices, after, run, IsMessage, AreMessages, IsClientStep as MayHappen}
+use Rattle.pres_client.specs.Views.{Trail, trail, trail_step, kept_for, nothing, takes, with_taken}
 use Rattle.pres_client.proofs.SentSteps.{sends_hold}
 use Rattle.pres_log.specs.declared.entry.Entry.{Entry}
 use Rattle.pres_log.specs.declared.entry.Entry.TheVariants as entry
 use Rattle.pres_log.specs.Logs.{Log, entries}
-use Rattle.pres_mail.specs.Watches.{watch_of}
+use Rattle.pres_client_state.specs.Watches.{watch_of}
 use Rattle.pres_server.specs.LegalLog.{IsLegal}
 use Rattle.pres_server.specs.Streams.{stream}
 use Rattle.pres_tree.specs.Paths.{Path}
 use Rattle.std.specs.Option.{is_some}
 use Rattle.std.proofs.lemmas.List.Elements.{All-append, All-cons, All-nil}
-use Rattle.pres_world.specs.Safe.{IsSent, IsTold}
+use Rattle.pres_world.specs.Safe.{CameFromMessage, IsInTranscript}
 use Rattle.pres_world.proofs.Hears.{Hears, receive_hears}
 use Rattle.pres_world.proofs.Asked.{Asked, Steps, count_after, step_steps, asked_step, opening_asked}
 use Rattle.pres_world.proofs.Faith.{Listed}
@@ -37,10 +37,10 @@ use Rattle.pres_world.proofs.Follow.{Faith, Raw, seen_nothing, faith_kept, quiet
 use Rattle.pres_world.proofs.Opened.{IsWelcomed, step_opened, opened_taken}
 use Rattle.pres_world.proofs.Writes.{AllFit, IsNth, nth_on, opening_fit}
 use Rattle.pres_world.proofs.Written.{IsBase, SomeWritten, Written, base_told, none_written, written_beside}
-use Rattle.pres_client.specs.Sends.{Made, none_made, made, made_step, kept_while, opening, MayGoOut}
+use Rattle.pres_client.specs.Sends.{SendList, none_made, made, made_step, kept_while, opening, MayGoOut}
 use Rattle.pres_client.proofs.SentOut.{steps_send}
-use Rattle.pres_world.specs.Members.{handed_out, started_again}
-use Rattle.pres_world.specs.Safe.{IsPacket}
+use Rattle.pres_world.specs.WorldClients.{handed_out, started_again}
+use Rattle.pres_world.specs.Safe.{WasSent}
 use Rattle.pres_world.proofs.Stands.{none_or_some, got_small}
 use Rattle.pres_world.proofs.Stays.{Begins, Moves, moves_base, receive_stays}
 use Rattle.pres_world.proofs.Lists.{get_contained, HasBase, InList, Grown, Makes, step_makes, grown_in, grown_front, opening_in, run_then, made_then, kept_if, opened_if, listed_of}
@@ -56,17 +56,17 @@ Has m q s = (q_in m ≡ Some q) × (session_in m ≡ s)
 abbrev pub Opens : List Up → Client → SessionId → Type 0
 Opens ups c s = ((m : Up) (q : ℕ) → Contains ups m → Has m q c.session → ⊥) × ((s ≡ c.session → ⊥) × (c.session.attempt ≤ c.attempts))
 
-abbrev pub list_of : ClientId → ℕ → List Step → List Up
+abbrev pub list_of : ClientId → ℕ → List ClientStep → List Up
 list_of id incarnation steps = (made (start id incarnation) none_made steps).messages
 
-abbrev pub writes_of : ClientId → ℕ → List Step → List Op
+abbrev pub writes_of : ClientId → ℕ → List ClientStep → List Op
 writes_of id incarnation steps = (made (start id incarnation) none_made steps).writes
 
 -- The client is an incarnation after steps. Its last list has all that was sent of its session with a number, its writes
 -- all that this incarnation sent of them, and the log tells what it shows.
 pub record Known (log : Log) (ups : List Up) (id : ClientId) (c : Client) : Type 0 where
   pub incarnation : ℕ
-  pub steps : List Step
+  pub steps : List ClientStep
   pub ran : run (start id incarnation) steps ≡ c
   pub none : c.sends ≡ []
   pub its : c.session.client ≡ id
@@ -122,20 +122,20 @@ item_there (x ∷ xs) (suc i) m get = behind (item_there xs i m get) where
 pub nothing_in : (m : Up) → Contains [] m → ⊥
 nothing_in m (k, less, is) = omega (arith, less)
 
-pub packet_there : (ups : List Up) (m : Up) → IsPacket ups m → Contains ups m
+pub packet_there : (ups : List Up) (m : Up) → WasSent ups m → Contains ups m
 packet_there ups m (zero, get) = absurd (none get) where
   none : None ≡ Some m → ⊥
   none e = grind arith
 packet_there ups m (suc i, get) = item_there ups i m get
 
 -- what is received is what the log tells
-abbrev pub Heard : Log → Step → Type 0
-Heard log (receives m) = IsTold (entries log) m × IsMessage m
+abbrev pub Heard : Log → ClientStep → Type 0
+Heard log (receives m) = IsInTranscript (entries log) m × IsMessage m
 Heard log (calls k) = Unit {0}
 Heard log hands_out_sends = Unit {0}
 Heard log hands_out_notices = Unit {0}
 
-its_step : (log : Log) (s : Step) → Heard log s → MayHappen s
+its_step : (log : Log) (s : ClientStep) → Heard log s → MayHappen s
 its_step log (receives m) h = h.1
 its_step log (calls k) h = tt
 its_step log hands_out_sends h = tt
@@ -153,7 +153,7 @@ arrival c d false e b f = inl (λ on. absurd (true≢false (sym on ∙ e)))
 arrival c d true e true f = inl (λ on. f)
 arrival c d true e false f = inr (e, f)
 
-kept_writes : (c d : Client) (t : Made) → (kept_while c d t).writes ≡ t.writes
+kept_writes : (c d : Client) (t : SendList) → (kept_while c d t).writes ≡ t.writes
 kept_writes c d t = by (is_online d.phase) (is_online c.phase) where
   by : (a b : Bool) → (if a then (if b then t else opening d t) else t).writes ≡ t.writes
   by false b = refl
@@ -166,7 +166,7 @@ record NewBase (es : List Entry) (id : ClientId) (incarnation : ℕ) (c d : Clie
   pub base : d.base ≡ Some (unwrap_or c.base count)
   pub told : IsBase es id incarnation count
 
-new_base : (log : Log) (c : Client) (s : Step) (id : ClientId) (incarnation : ℕ) → Heard log s → c.session.client ≡ id → c.session.incarnation ≡ incarnation → IsWelcomed c s (after c s) → NewBase (entries log) id incarnation c (after c s)
+new_base : (log : Log) (c : Client) (s : ClientStep) (id : ClientId) (incarnation : ℕ) → Heard log s → c.session.client ≡ id → c.session.incarnation ≡ incarnation → IsWelcomed c s (after c s) → NewBase (entries log) id incarnation c (after c s)
 new_base log c (receives (down.Welcome s z count)) id incarnation heard its its_start h = record {
   count = count;
   base = h.base;
@@ -184,7 +184,7 @@ new_base log c (calls k) id incarnation heard its its_start h = absurd h
 new_base log c hands_out_sends id incarnation heard its its_start h = absurd h
 new_base log c hands_out_notices id incarnation heard its its_start h = absurd h
 
-pub step_known : (log : Log) → IsLegal log → (ups : List Up) → ((i : ℕ) (e : Entry) → slice_get (entries log) i ≡ Some e → IsSent ups e) → (id : ClientId) (c : Client) (s : Step) → Heard log s → Known log ups id c → Moves c (after c s) → Next log ups id (after c s)
+pub step_known : (log : Log) → IsLegal log → (ups : List Up) → ((i : ℕ) (e : Entry) → slice_get (entries log) i ≡ Some e → CameFromMessage ups e) → (id : ClientId) (c : Client) (s : ClientStep) → Heard log s → Known log ups id c → Moves c (after c s) → Next log ups id (after c s)
 step_known log legal ups came id c s heard k moves = by (is_online d.phase) refl (is_online c.phase) refl where
   d : Client
   d = after c s
@@ -192,16 +192,16 @@ step_known log legal ups came id c s heard k moves = by (is_online d.phase) refl
   c0 : Client
   c0 = start id k.incarnation
 
-  t : Made
+  t : SendList
   t = made c0 none_made k.steps
 
-  u : Made
+  u : SendList
   u = made_step c t s
 
-  v : Made
+  v : SendList
   v = kept_while c d u
 
-  more : List Step
+  more : List ClientStep
   more = s ∷ hands_out_sends ∷ []
 
   ms : List Up
@@ -223,10 +223,10 @@ step_known log legal ups came id c s heard k moves = by (is_online d.phase) refl
   is_made = made_then c0 none_made k.steps more ∙ ap (λ x. made x t more) k.ran ∙ kept
 
   is_list : ms ≡ v.messages
-  is_list = ap (λ (x : Made). x.messages) is_made
+  is_list = ap (λ (x : SendList). x.messages) is_made
 
   is_sent : list_of id k.incarnation (k.steps ++ s ∷ []) ≡ v.messages
-  is_sent = ap (λ (x : Made). x.messages) (made_then c0 none_made k.steps (s ∷ []) ∙ ap (λ x. made x t (s ∷ [])) k.ran)
+  is_sent = ap (λ (x : SendList). x.messages) (made_then c0 none_made k.steps (s ∷ []) ∙ ap (λ x. made x t (s ∷ [])) k.ran)
 
   sent : All (MayGoOut d (list_of id k.incarnation (k.steps ++ s ∷ []))) d.sends
   sent = subst (λ (x : Client). (new : List Up) → (after x s).sends ≡ x.sends ++ new → All (MayGoOut (after x s) (list_of id k.incarnation (k.steps ++ s ∷ []))) new) k.ran
@@ -268,7 +268,7 @@ step_known log legal ups came id c s heard k moves = by (is_online d.phase) refl
   all_messages = All-append MayHappen k.steps more k.messages (All-cons MayHappen s (hands_out_sends ∷ []) (its_step log s heard) (All-cons MayHappen hands_out_sends [] tt (All-nil MayHappen)))
 
   same_list : is_online c.phase ≡ true → is_online d.phase ≡ true → ms ≡ u.messages
-  same_list on still = is_list ∙ ap (λ (x : Made). x.messages) (kept_if c d u (is_online d.phase) refl (λ _. on))
+  same_list on still = is_list ∙ ap (λ (x : SendList). x.messages) (kept_if c d u (is_online d.phase) refl (λ _. on))
 
   in_session : is_online d.phase ≡ true → d.session ≡ c.session
   in_session on = by_move moves where
@@ -278,7 +278,7 @@ step_known log legal ups came id c s heard k moves = by (is_online d.phase) refl
 
   listed_now : is_online c.phase ≡ true → Listed es c.session t.messages
   listed_now on = ((λ i q x get. found (up.Off c.session q x) q refl refl (came i (entry.Off c.session q x) get)), (λ i q x get. found (up.On c.session q x) q refl refl (came i (entry.On c.session q x) get))) where
-    found : (m : Up) (q : ℕ) → q_in m ≡ Some q → session_in m ≡ c.session → IsPacket ups m → (j : ℕ) × (q ≡ j + 1) × (slice_get t.messages j ≡ Some m)
+    found : (m : Up) (q : ℕ) → q_in m ≡ Some q → session_in m ≡ c.session → WasSent ups m → (j : ℕ) × (q ≡ j + 1) × (slice_get t.messages j ≡ Some m)
     found m q has its packet =
         let there = k.complete m q (packet_there ups m packet) (has, its ∙ sym (k.online on)) in
         let at = get_contained t.messages m there in
@@ -290,7 +290,7 @@ step_known log legal ups came id c s heard k moves = by (is_online d.phase) refl
   quiet : (p : Path) → count_after c s ≡ c.taken → Raw es d ms p (tr p)
   quiet p e = raw_into es d u.messages ms p (tr p) (λ g on. sym (same_list ((k.faith p).counted g).0 on)) (quiet_raw es c d t u p (tr p) (k.faith p) (λ on still. subst (Steps p c d t u) e (step_steps p c t s on still)) in_session)
 
-  heard_now : (p : Path) (m : Down) → s ≡ receives m → IsTold es m → (b : Bool) → takes c m ≡ b → Raw es (after_receive c m) ms p (if b then with_taken p c (tr p) m else tr p)
+  heard_now : (p : Path) (m : Down) → s ≡ receives m → IsInTranscript es m → (b : Bool) → takes c m ≡ b → Raw es (after_receive c m) ms p (if b then with_taken p c (tr p) m else tr p)
   heard_now p m is told false h = subst (λ y. Raw es (after c y) ms p (tr p)) is (quiet p (ap (count_after c) is ∙ ap (λ b. if b then c.taken + 1 else c.taken) h))
   heard_now p m is told true h =
       let on = takes_online c m h in
@@ -300,7 +300,7 @@ step_known log legal ups came id c s heard k moves = by (is_online d.phase) refl
 
   raw : (p : Path) → Raw es d ms p (trail_step p c (tr p) s)
   raw p = by_step s refl heard where
-    by_step : (y : Step) → s ≡ y → Heard log y → Raw es (after c y) ms p (trail_step p c (tr p) y)
+    by_step : (y : ClientStep) → s ≡ y → Heard log y → Raw es (after c y) ms p (trail_step p c (tr p) y)
     by_step (receives m) is told = heard_now p m is told.0 (takes c m) refl
     by_step (calls x) is told = subst (λ y. Raw es (after c y) ms p (tr p)) is (quiet p (ap (count_after c) is))
     by_step hands_out_sends is told = subst (λ y. Raw es (after c y) ms p (tr p)) is (quiet p (ap (count_after c) is))
@@ -310,7 +310,7 @@ step_known log legal ups came id c s heard k moves = by (is_online d.phase) refl
   asked_now p on there = by_phase (is_online c.phase) refl where
     by_phase : (b : Bool) → is_online c.phase ≡ b → Asked ms p
     by_phase true o = subst (λ l. Asked l p) (sym (same_list o on)) (asked_step p c d t u (count_after c s) (step_steps p c t s o on) ((k.faith p).asked o) there)
-    by_phase false o = subst (λ l. Asked l p) (sym (is_list ∙ ap (λ (x : Made). x.messages) (opened_if c d u on o))) (opening_asked p d u)
+    by_phase false o = subst (λ l. Asked l p) (sym (is_list ∙ ap (λ (x : SendList). x.messages) (opened_if c d u on o))) (opening_asked p d u)
 
   faith_now : (p : Path) → Faith es (handed_out d) ms p (trail p c0 nothing (k.steps ++ more))
   faith_now p = subst (Faith es (handed_out d) ms p) (sym shape) (faith_handed es d ms p _ [] (faith_kept es d ms p (trail_step p c (tr p) s) (raw p) (asked_now p))) where
@@ -323,7 +323,7 @@ step_known log legal ups came id c s heard k moves = by (is_online d.phase) refl
     small o m told true h = let less = got_small (stream c.session es) c.taken m (next_of es c m h told.0) in omega (arith, less)
     small o m told false h = k.few o
 
-    by_count : is_online c.phase ≡ true → (y : Step) → Heard log y → count_after c y ≤ length (stream c.session es)
+    by_count : is_online c.phase ≡ true → (y : ClientStep) → Heard log y → count_after c y ≤ length (stream c.session es)
     by_count o (receives m) told = small o m told (takes c m) refl
     by_count o (calls x) told = k.few o
     by_count o hands_out_sends told = k.few o
@@ -343,7 +343,7 @@ step_known log legal ups came id c s heard k moves = by (is_online d.phase) refl
   ws = writes_of id k.incarnation (k.steps ++ more)
 
   is_writes : ws ≡ t.writes ++ makes.more
-  is_writes = ap (λ (x : Made). x.writes) is_made ∙ kept_writes c d u ∙ makes.writes
+  is_writes = ap (λ (x : SendList). x.writes) is_made ∙ kept_writes c d u ∙ makes.writes
 
   same_now : d.session.incarnation ≡ k.incarnation
   same_now = by_move moves where
@@ -372,11 +372,11 @@ step_known log legal ups came id c s heard k moves = by (is_online d.phase) refl
   fit_now : AllFit d.base ws ms
   fit_now = by_arrival arrives where
     shape : (b : Option ℕ) → AllFit b u.writes v.messages → AllFit b ws ms
-    shape b h = subst (λ l. AllFit b ws l) (sym is_list) (subst (λ l. AllFit b l v.messages) (sym (ap (λ (x : Made). x.writes) is_made ∙ kept_writes c d u)) h)
+    shape b h = subst (λ l. AllFit b ws l) (sym is_list) (subst (λ l. AllFit b l v.messages) (sym (ap (λ (x : SendList). x.writes) is_made ∙ kept_writes c d u)) h)
 
     by_arrival : Arrives c d → AllFit d.base ws ms
-    by_arrival (inl h) = shape d.base (subst (λ b. AllFit b u.writes v.messages) (sym (moves_base c d moves h)) (subst (λ (x : Made). AllFit c.base u.writes x.messages) (sym (kept_if c d u (is_online d.phase) refl h)) (makes.fit k.has_base k.fit)))
-    by_arrival (inr h) = let b = has_base_now h.0 in shape d.base (subst (λ (x : Made). AllFit d.base u.writes x.messages) (sym (opened_if c d u h.0 h.1)) (opening_fit d u b.0 b.1))
+    by_arrival (inl h) = shape d.base (subst (λ b. AllFit b u.writes v.messages) (sym (moves_base c d moves h)) (subst (λ (x : SendList). AllFit c.base u.writes x.messages) (sym (kept_if c d u (is_online d.phase) refl h)) (makes.fit k.has_base k.fit)))
+    by_arrival (inr h) = let b = has_base_now h.0 in shape d.base (subst (λ (x : SendList). AllFit d.base u.writes x.messages) (sym (opened_if c d u h.0 h.1)) (opening_fit d u b.0 b.1))
 
   based_now : (x : ℕ) → d.base ≡ Some x → IsBase es id k.incarnation x
   based_now x e = by_arrival arrives where
@@ -437,7 +437,7 @@ step_known log legal ups came id c s heard k moves = by (is_online d.phase) refl
     new = λ m q there has. listed_of k.session ms m listed (new_listed m q there has);
   } where
     same : ms ≡ u.messages
-    same = is_list ∙ ap (λ (x : Made). x.messages) (kept_if c d u (is_online d.phase) refl h)
+    same = is_list ∙ ap (λ (x : SendList). x.messages) (kept_if c d u (is_online d.phase) refl h)
 
     listed : InList k.session ms
     listed = subst (InList k.session) (sym same) (grown_in c t u k.session k.online grown k.listed)
@@ -528,7 +528,7 @@ step_known log legal ups came id c s heard k moves = by (is_online d.phase) refl
       was = k.opening was_opening
 
       listed : InList d.session ms
-      listed = subst (InList d.session) (sym (is_list ∙ ap (λ (y : Made). y.messages) (opened_if c d u on off))) (opening_in d u)
+      listed = subst (InList d.session) (sym (is_list ∙ ap (λ (y : SendList). y.messages) (opened_if c d u on off))) (opening_in d u)
 
       within : Within d d.session
       within = inr (refl, early) where
@@ -637,17 +637,17 @@ quieted log ups id c k = record {
   told : (p : Path) → Faith (entries log) (record c { notices = [] }) (list_of id k.incarnation k.steps) p (kept_for p c (tr p))
   told p = let f = k.faith p in faith_noted (entries log) c (list_of id k.incarnation k.steps) p _ (faith_kept (entries log) c (list_of id k.incarnation k.steps) p (tr p) (record { seen = λ w. f.seen; live = λ g on w. f.live g }) f.asked)
 
-  t : Made
+  t : SendList
   t = made (start id k.incarnation) none_made k.steps
 
   all : made (start id k.incarnation) none_made (k.steps ++ hands_out_notices ∷ []) ≡ t
   all = made_then (start id k.incarnation) none_made k.steps (hands_out_notices ∷ []) ∙ ap (λ x. made x t (hands_out_notices ∷ [])) k.ran ∙ kept_if c (record c { notices = [] }) t (is_online c.phase) refl (λ e. e)
 
   same : list_of id k.incarnation (k.steps ++ hands_out_notices ∷ []) ≡ t.messages
-  same = ap (λ (x : Made). x.messages) all
+  same = ap (λ (x : SendList). x.messages) all
 
   writes : writes_of id k.incarnation (k.steps ++ hands_out_notices ∷ []) ≡ t.writes
-  writes = ap (λ (x : Made). x.writes) all
+  writes = ap (λ (x : SendList). x.writes) all
 
 -- what another client sent
 pub others : (log : Log) (ups new : List Up) (id other : ClientId) (c : Client) → ((m : Up) (q : ℕ) → Contains new m → q_in m ≡ Some q → (session_in m).client ≡ id) → (other ≡ id → ⊥) → Known log ups other c → Known log (ups ++ new) other c

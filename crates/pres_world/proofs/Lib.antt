@@ -20,7 +20,7 @@ pub mod SessionOrder
 pub mod Snaps
 pub mod Stands
 pub mod Stays
-pub mod Told
+pub mod Transcripts
 pub mod Twice
 pub mod Whole
 pub mod Writes

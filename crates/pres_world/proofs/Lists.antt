@@ -13,17 +13,17 @@ use Rattle.pres_write.specs.Transactions.{comparison}
 use Rattle.pres_wire.specs.declared.up.Up.{Up}
 use Rattle.pres_wire.specs.declared.up.Up.TheVariants as up
 use Rattle.pres_wire.specs.Messages.{session_in, q_in}
-use Rattle.pres_mail.specs.declared.ask.Ask.{Ask}
-use Rattle.pres_mail.specs.Watches.{watch_of}
-use Rattle.pres_mail.specs.Asks.{ask_of}
+use Rattle.pres_client_state.specs.declared.ask.Ask.{Ask}
+use Rattle.pres_client_state.specs.Watches.{watch_of}
+use Rattle.pres_client_state.specs.Asks.{ask_of}
 use Rattle.pres_client.specs.declared.call.Answer.{Answer}
 use Rattle.pres_client.specs.declared.call.Answer.TheVariants as answer
 use Rattle.pres_client.specs.declared.call.Call.{Call}
 use Rattle.pres_client.specs.declared.call.Call.TheVariants as call
-use Rattle.pres_client.specs.Clients.{State, is_online, base_of}
+use Rattle.pres_client.specs.Clients.{ClientState, is_online, base_of}
 use Rattle.pres_client.specs.Calls.{refusal}
-use Rattle.pres_client.specs.Sends.{Made, Unnumbered, numbered, op_messages, on_messages, opening, made_one, wrote_one, answered_one, made_by, made_step, kept_while, made}
-use Rattle.pres_client.specs.Steps.{Step, calls, receives, hands_out_sends, hands_out_notices, after, run}
+use Rattle.pres_client.specs.Sends.{SendList, Unnumbered, numbered, op_messages, on_messages, opening, made_one, wrote_one, answered_one, made_by, made_step, kept_while, made}
+use Rattle.pres_client.specs.Steps.{ClientStep, calls, receives, hands_out_sends, hands_out_notices, after, run}
 use Rattle.pres_world.proofs.Stands.{none_or_some, get_push}
 use Rattle.pres_world.proofs.Backed.{get_last}
 use Rattle.pres_world.proofs.Writes.{AllFit, Fits, fits_on, pushed_fit}
@@ -60,36 +60,36 @@ ons_in : (s : SessionId) (ps : List Path) (us : List Unnumbered) → AllByRecurs
 ons_in s [] us h = h
 ons_in s (p ∷ ps) us h = ((λ q. (refl, refl)), ons_in s ps us h)
 
-pub opening_in : (d : State) (t : Made) → InList d.session (opening d t).messages
+pub opening_in : (d : ClientState) (t : SendList) → InList d.session (opening d t).messages
 opening_in d t i m get = numbered_in d.session 1 (on_messages d.session (map (λ e. e.0) d.watches) ++ op_messages d.session (base_of d + d.answered + 1) (drop d.answered t.writes)) (ons_in d.session (map (λ e. e.0) d.watches) _ (ops_in d.session (base_of d + d.answered + 1) (drop d.answered t.writes))) i m get
 
 -- the list stays, or the client is Online and it has a message more
-abbrev pub Grown : State → Made → Made → Type 0
+abbrev pub Grown : ClientState → SendList → SendList → Type 0
 Grown c t u = (u.messages ≡ t.messages) ⊎ ((f : Unnumbered) × (is_online c.phase ≡ true) × (u.messages ≡ t.messages ++ f (length t.messages + 1) ∷ []) × IsOf c.session f)
 
 -- an Online client counts its writes on from somewhere
-abbrev pub HasBase : State → Type 0
+abbrev pub HasBase : ClientState → Type 0
 HasBase c = is_online c.phase ≡ true → (x : ℕ) × (c.base ≡ Some x)
 
 -- what a step makes: the list stays or has a message more, there may be writes more, and each message still has the write
 -- with its number
-pub record Makes (c : State) (t u : Made) : Type 0 where
+pub record Makes (c : ClientState) (t u : SendList) : Type 0 where
   pub grown : Grown c t u
   pub more : List Op
   pub writes : u.writes ≡ t.writes ++ more
   pub fit : HasBase c → AllFit c.base t.writes t.messages → AllFit c.base u.writes u.messages
 
-nothing : (c : State) (t : Made) → Makes c t t
+nothing : (c : ClientState) (t : SendList) → Makes c t t
 nothing c t = record { grown = inl refl; more = []; writes = sym (append-nil t.writes); fit = λ has h. h }
 
 -- a message without a write
-plain : (c : State) (t : Made) (f : Unnumbered) → IsOf c.session f → ((q : ℕ) (b : Option ℕ) (ws : List Op) → Fits b ws (f q)) → Makes c t (made_one c t f)
+plain : (c : ClientState) (t : SendList) (f : Unnumbered) → IsOf c.session f → ((q : ℕ) (b : Option ℕ) (ws : List Op) → Fits b ws (f q)) → Makes c t (made_one c t f)
 plain c t f its none = by (is_online c.phase) refl where
   by : (b : Bool) → is_online c.phase ≡ b → Makes c t (if b then record t { messages = t.messages ++ f (length t.messages + 1) ∷ [] } else t)
   by true e = record { grown = inr (f, e, refl, its); more = []; writes = sym (append-nil t.writes); fit = λ has h. pushed_fit c.base t.writes t.messages (f (length t.messages + 1)) h (none (length t.messages + 1) c.base t.writes) }
   by false e = nothing c t
 
-one_write : (c : State) (t : Made) (o : Op) → Makes c t (wrote_one c t o)
+one_write : (c : ClientState) (t : SendList) (o : Op) → Makes c t (wrote_one c t o)
 one_write c t o = record { grown = grown (is_online c.phase) refl; more = o ∷ []; writes = refl; fit = λ has h. fit has h (is_online c.phase) refl } where
   f : Unnumbered
   f = λ q. up.Op c.session q (base_of c + length t.writes + 1) o
@@ -105,20 +105,20 @@ one_write c t o = record { grown = grown (is_online c.phase) refl; more = o ∷ 
       pushed_fit c.base (t.writes ++ o ∷ []) t.messages _ (λ m there. fits_on c.base t.writes (o ∷ []) m (h m there)) (record { base = x.0; known = x.1; place = length t.writes; count = ap (λ b. b + length t.writes + 1) is; write = get_last t.writes o })
   fit has h false on = λ m there. fits_on c.base t.writes (o ∷ []) m (h m there)
 
-answered_makes : (c : State) (t : Made) (given : Answer) (o : Option Ask) → Makes c t (answered_one c t given o)
+answered_makes : (c : ClientState) (t : SendList) (given : Answer) (o : Option Ask) → Makes c t (answered_one c t given o)
 answered_makes c t given None = nothing c t
 answered_makes c t answer.Abort (Some a) = nothing c t
 answered_makes c t (answer.New new) (Some a) = one_write c t (op.Tx (comparison a.path a.value new))
 
-listen_makes : (c : State) (t : Made) (p : Path) (b : Bool) → Makes c t (if b then made_one c t (λ q. up.On c.session q p) else t)
+listen_makes : (c : ClientState) (t : SendList) (p : Path) (b : Bool) → Makes c t (if b then made_one c t (λ q. up.On c.session q p) else t)
 listen_makes c t p true = plain c t (λ q. up.On c.session q p) (λ q. (refl, refl)) (λ q b ws. tt)
 listen_makes c t p false = nothing c t
 
-unlisten_makes : (c : State) (t : Made) (p : Path) (b : Bool) → Makes c t (if b then t else made_one c t (λ q. up.Off c.session q p))
+unlisten_makes : (c : ClientState) (t : SendList) (p : Path) (b : Bool) → Makes c t (if b then t else made_one c t (λ q. up.Off c.session q p))
 unlisten_makes c t p true = nothing c t
 unlisten_makes c t p false = plain c t (λ q. up.Off c.session q p) (λ q. (refl, refl)) (λ q b ws. tt)
 
-call_makes : (c : State) (t : Made) (k : Call) → Makes c t (made_by c t k)
+call_makes : (c : ClientState) (t : SendList) (k : Call) → Makes c t (made_by c t k)
 call_makes c t (call.Set p draft) = one_write c t (op.Set (p, draft))
 call_makes c t (call.Update p places) = one_write c t (op.Update (update_of p places.items))
 call_makes c t (call.Remove p) = one_write c t (op.Set (p, []))
@@ -136,7 +136,7 @@ call_makes c t call.Lost = nothing c t
 call_makes c t call.Beat = nothing c t
 call_makes c t call.Resend = nothing c t
 
-pub step_makes : (c : State) (t : Made) (s : Step) → Makes c t (made_step c t s)
+pub step_makes : (c : ClientState) (t : SendList) (s : ClientStep) → Makes c t (made_step c t s)
 step_makes c t (calls k) = by (is_none (refusal c k)) where
   by : (b : Bool) → Makes c t (if b then made_by c t k else t)
   by true = call_makes c t k
@@ -147,20 +147,20 @@ step_makes c t hands_out_notices = nothing c t
 
 -- ---- what was made, step by step
 
-pub run_then : (c : State) (xs ys : List Step) → run c (xs ++ ys) ≡ run (run c xs) ys
+pub run_then : (c : ClientState) (xs ys : List ClientStep) → run c (xs ++ ys) ≡ run (run c xs) ys
 run_then c [] ys = refl
 run_then c (s ∷ xs) ys = run_then (after c s) xs ys
 
-pub made_then : (c : State) (t : Made) (xs ys : List Step) → made c t (xs ++ ys) ≡ made (run c xs) (made c t xs) ys
+pub made_then : (c : ClientState) (t : SendList) (xs ys : List ClientStep) → made c t (xs ++ ys) ≡ made (run c xs) (made c t xs) ys
 made_then c t [] ys = refl
 made_then c t (s ∷ xs) ys = made_then (after c s) (kept_while c (after c s) (made_step c t s)) xs ys
 
 -- nothing is made where the client isn't Online after the step, or was before it
-pub kept_if : (c d : State) (t : Made) (b : Bool) → is_online d.phase ≡ b → (b ≡ true → is_online c.phase ≡ true) → kept_while c d t ≡ t
+pub kept_if : (c d : ClientState) (t : SendList) (b : Bool) → is_online d.phase ≡ b → (b ≡ true → is_online c.phase ≡ true) → kept_while c d t ≡ t
 kept_if c d t true e was = ap (λ x. if x then (if is_online c.phase then t else opening d t) else t) e ∙ ap (λ x. if x then t else opening d t) (was refl)
 kept_if c d t false e was = ap (λ x. if x then (if is_online c.phase then t else opening d t) else t) e
 
-pub opened_if : (c d : State) (t : Made) → is_online d.phase ≡ true → is_online c.phase ≡ false → kept_while c d t ≡ opening d t
+pub opened_if : (c d : ClientState) (t : SendList) → is_online d.phase ≡ true → is_online c.phase ≡ false → kept_while c d t ≡ opening d t
 opened_if c d t e f = ap (λ x. if x then (if is_online c.phase then t else opening d t) else t) e ∙ ap (λ x. if x then t else opening d t) f
 
 -- ---- lists
@@ -171,13 +171,13 @@ get_contained (y ∷ xs) x (zero, less, is) = (zero, ap Some is)
 get_contained (y ∷ xs) x (suc k, less, is) = let rest = get_contained xs x (k, omega (arith, less), is) in (suc rest.0, rest.1)
 
 -- a longer list of the session
-pub grown_in : (c : State) (t u : Made) (s : SessionId) → (is_online c.phase ≡ true → s ≡ c.session) → Grown c t u → InList s t.messages → InList s u.messages
+pub grown_in : (c : ClientState) (t u : SendList) (s : SessionId) → (is_online c.phase ≡ true → s ≡ c.session) → Grown c t u → InList s t.messages → InList s u.messages
 grown_in c t u s is (inl same) h = subst (InList s) (sym same) h
 grown_in c t u s is (inr x) h =
     let its = is x.1 in
     subst (λ r. InList r u.messages) (sym its) (subst (InList c.session) (sym x.2) (in_push c.session t.messages x.0 (subst (λ r. InList r t.messages) its h) x.3))
 
-pub grown_front : (c : State) (t u : Made) → Grown c t u → (m : Up) → Contains t.messages m → Contains u.messages m
+pub grown_front : (c : ClientState) (t u : SendList) → Grown c t u → (m : Up) → Contains t.messages m → Contains u.messages m
 grown_front c t u (inl same) m h = subst (λ l. Contains l m) (sym same) h
 grown_front c t u (inr x) m h = subst (λ l. Contains l m) (sym x.2) (Contains-append_left t.messages (x.0 (length t.messages + 1) ∷ []) m h)
 

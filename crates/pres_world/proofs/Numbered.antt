@@ -16,10 +16,10 @@ use Rattle.pres_wire.specs.declared.down.Down.TheVariants as down
 use Rattle.pres_wire.specs.declared.up.Up.{Up}
 use Rattle.pres_wire.specs.declared.up.Up.TheVariants as up
 use Rattle.pres_wire.specs.Messages.{session_in, q_in}
-use Rattle.pres_client.specs.Clients.{State as Client, start, is_online, view}
-use Rattle.pres_client.specs.Receiving.{accepts}
-use Rattle.pres_client.specs.Steps.{Step, after, IsStep as MayHappen}
-use Rattle.pres_client.specs.Trails.{trail, nothing}
+use Rattle.pres_client.specs.Clients.{ClientState as Client, start, is_online, view}
+use Rattle.pres_client.specs.ReceivedMessages.{accepts}
+use Rattle.pres_client.specs.Steps.{ClientStep, after, IsClientStep as MayHappen}
+use Rattle.pres_client.specs.Views.{trail, nothing}
 use Rattle.pres_client.proofs.Trails.{views_hold}
 use Rattle.pres_log.specs.declared.entry.Entry.{Entry}
 use Rattle.pres_log.specs.declared.entry.Entry.TheVariants as entry
@@ -32,18 +32,18 @@ use Rattle.pres_tree.specs.declared.scalar.Scalar.{Scalar}
 use Rattle.pres_tree.specs.Paths.{Path}
 use Rattle.pres_tree.specs.Rows.{Rows, value_at}
 use Rattle.std.proofs.lemmas.List.Elements.{All-nil}
-use Rattle.pres_world.specs.Served.{Served}
-use Rattle.pres_world.specs.Safe.{IsSent}
+use Rattle.pres_world.specs.ServerSides.{ServerSideState}
+use Rattle.pres_world.specs.Safe.{CameFromMessage}
 use Rattle.pres_world.proofs.Faith.{stream_longer}
 use Rattle.pres_world.proofs.Follow.{Faith, faith_front}
 use Rattle.pres_world.proofs.Writes.{nth_once}
 use Rattle.pres_world.proofs.Written.{SomeWritten, Written, none_written, not_older, written_front}
 use Rattle.pres_client.specs.Sends.{opening}
 use Rattle.pres_server.proofs.AfterEntry.{clients_total, clients_apart}
-use Rattle.pres_world.specs.Members.{acknowledged, handed_out, is_fault, started_again}
+use Rattle.pres_world.specs.WorldClients.{acknowledged, handed_out, is_fault, started_again}
 use Rattle.pres_world.proofs.Backed.{Backed, IsWrite, all_into, item_front}
 use Rattle.pres_world.specs.Worlds.{World, Clients, joined, new_world, becomes, IsClient}
-use Rattle.pres_world.specs.Safe.{IsPacket, IsNumbered, IsRepeated}
+use Rattle.pres_world.specs.Safe.{WasSent, SameNumberSameMessage, SameNumberSameOp}
 use Rattle.pres_world.proofs.Stands.{none_or_some}
 use Rattle.pres_world.proofs.Stays.{Moves}
 use Rattle.pres_world.proofs.Lists.{listed_once}
@@ -115,7 +115,7 @@ put_there clients id d other h = by (eq_by_cmp client_cmp other id) refl where
   by true e = (d, find-put client_cmp clients_total other id d clients ∙ ap (λ x. cond x (Some d) (find client_cmp other clients)) e)
   by false e = (h.0, find-put client_cmp clients_total other id d clients ∙ ap (λ x. cond x (Some d) (find client_cmp other clients)) e ∙ h.1)
 
-pub becomes_numbered : (w : World) (id : ClientId) (c : Client) (s : Step) → IsLegal w.serving.history → ((i : ℕ) (e : Entry) → slice_get (entries w.serving.history) i ≡ Some e → IsSent w.ups e) → Heard w.serving.history s → Numbered w → IsClient w id c → Moves c (after c s) → Numbered (becomes w id (after c s))
+pub becomes_numbered : (w : World) (id : ClientId) (c : Client) (s : ClientStep) → IsLegal w.serving.history → ((i : ℕ) (e : Entry) → slice_get (entries w.serving.history) i ≡ Some e → CameFromMessage w.ups e) → Heard w.serving.history s → Numbered w → IsClient w id c → Moves c (after c s) → Numbered (becomes w id (after c s))
 becomes_numbered w id c s legal came heard h there moves = record {
   one = one_more w.serving.history w.ups id d h.one n;
   clients = put_known w.serving.history (w.ups ++ d.sends) w.clients id (handed_out d) n.later (λ other x apart found. others w.serving.history w.ups d.sends id other x (λ m q in_new has. ap (λ (y : SessionId). y.client) (n.new m q in_new has) ∙ n.later.owner) apart (h.clients other x found));
@@ -170,7 +170,7 @@ known_front log later more ups id c grown k = record {
   longer : (i : ℕ) (b : Option ℕ) (ws : List Op) → Written (entries log) ups id i b ws → Written (entries later) ups id i b ws
   longer i b ws w = subst (λ l. Written l ups id i b ws) (sym grown) (written_front (entries log) more ups id i b ws w)
 
-pub grown_numbered : (w : World) (v : Served) (more : List Entry) → entries v.history ≡ entries w.serving.history ++ more → Numbered w → Numbered (record w { serving = v })
+pub grown_numbered : (w : World) (v : ServerSideState) (more : List Entry) → entries v.history ≡ entries w.serving.history ++ more → Numbered w → Numbered (record w { serving = v })
 grown_numbered w v more grown h = record {
   one = h.one;
   clients = λ id c there. known_front w.serving.history v.history more w.ups id c grown (h.clients id c there);
@@ -224,7 +224,7 @@ new_numbered ids = record { one = λ m k q x y same mq kq. absurd (nothing_in m 
 
 -- ---- a reply that is taken
 
-early_ack : (log : Log) (ups : List Up) (id : ClientId) (c : Client) (m : Down) → Known log ups id c → ((z : ℕ) (e : Entry) → item_at (entries log) z ≡ Some e → IsSent ups e) → Backed (entries log) m → accepts c m ≡ true → Early (entries log) m
+early_ack : (log : Log) (ups : List Up) (id : ClientId) (c : Client) (m : Down) → Known log ups id c → ((z : ℕ) (e : Entry) → item_at (entries log) z ≡ Some e → CameFromMessage ups e) → Backed (entries log) m → accepts c m ≡ true → Early (entries log) m
 early_ack log ups id c (down.Reply s r z q n done out) k came backed taken = ((entry.Op w.session w.q n w.op w.outcome, w.stands), early) where
   w : IsWrite (entries log) s n done out
   w = backed.0
@@ -249,7 +249,7 @@ early_ack log ups id c (down.Snap s r z q p v) k came backed taken = tt
 early_ack log ups id c (down.Push s r z values) k came backed taken = tt
 early_ack log ups id c (down.OffDone s r z q) k came backed taken = tt
 
-pub early_acks : (log : Log) (ups : List Up) (id : ClientId) (c : Client) (m : Down) → Known log ups id c → ((z : ℕ) (e : Entry) → item_at (entries log) z ≡ Some e → IsSent ups e) → Backed (entries log) m → AllByRecursion (Early (entries log)) (acknowledged c m)
+pub early_acks : (log : Log) (ups : List Up) (id : ClientId) (c : Client) (m : Down) → Known log ups id c → ((z : ℕ) (e : Entry) → item_at (entries log) z ≡ Some e → CameFromMessage ups e) → Backed (entries log) m → AllByRecursion (Early (entries log)) (acknowledged c m)
 early_acks log ups id c m k came backed = by (accepts c m) refl (is_fault m) where
   by : (a : Bool) → accepts c m ≡ a → (b : Bool) → AllByRecursion (Early (entries log)) (if a && not b then m ∷ [] else [])
   by true e true = tt
@@ -270,14 +270,14 @@ all_written w h s q n o there =
     written_of w.serving.history w.ups s.client c.0 s k (k.known (up.Op s q n o) q there refl refl)
 
 -- two packets of one start of a client with one number carry one write
-pub packets_repeat : (w : World) → Numbered w → IsRepeated w.ups
+pub packets_repeat : (w : World) → Numbered w → SameNumberSameOp w.ups
 packets_repeat w h s t q p n o x first second its its_start =
     let there = packet_there w.ups (up.Op s q n o) first in
     let a = all_written w h s q n o there in
     nth_once a.base a.writes n o x (a.all.fits s q n o there refl refl) (a.all.fits t p n x (packet_there w.ups (up.Op t p n x) second) (sym its) (sym its_start))
 
 -- what stands for a write that was asked for is of the start that asked for it, where no later start asked
-pub same_start : (w : World) → Numbered w → IsLegal w.serving.history → (s u : SessionId) (q p n : ℕ) (o x : Op) (r : Outcome) (i : ℕ) → IsPacket w.ups (up.Op s q n o) →
+pub same_start : (w : World) → Numbered w → IsLegal w.serving.history → (s u : SessionId) (q p n : ℕ) (o x : Op) (r : Outcome) (i : ℕ) → WasSent w.ups (up.Op s q n o) →
     slice_get (entries w.serving.history) i ≡ Some (entry.Op u p n x r) → u.client ≡ s.client → u.incarnation ≤ s.incarnation → u.incarnation ≡ s.incarnation
 same_start w h legal s u q p n o x r i first get its early =
     let there = packet_there w.ups (up.Op s q n o) first in
@@ -287,5 +287,5 @@ same_start w h legal s u q p n o x r i first get its early =
     let late = not_older w.serving.history legal s.client s.incarnation asked.base (a.all.based asked.base asked.known) u p n x r i get its (omega (arith, count)) in
     omega (arith, early, late)
 
-pub packets_numbered : (w : World) → Numbered w → IsNumbered w.ups
+pub packets_numbered : (w : World) → Numbered w → SameNumberSameMessage w.ups
 packets_numbered w h m k q x y = h.one m k q (packet_there w.ups m x) (packet_there w.ups k y)

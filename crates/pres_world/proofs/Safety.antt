@@ -13,49 +13,49 @@ use Rattle.pres_log.specs.Logs.{Log, entries, item_at}
 use Rattle.pres_log.proofs.Entries.{entries-push}
 use Rattle.pres_server.specs.declared.input.Input.{Input}
 use Rattle.pres_server.specs.declared.input.Input.TheVariants as input
-use Rattle.pres_server.specs.Heard.{State, heard_from}
+use Rattle.pres_server.specs.ServerStates.{ServerState, heard_from}
 use Rattle.pres_server.specs.LegalLog.{MayFollow, IsLegal}
 use Rattle.pres_server.specs.Replays.{made_from}
 use Rattle.pres_server.specs.Streams.{answers}
 use Rattle.pres_server.specs.Turns.{Decision, refused, quiet, makes, turn, moment_of, batch_of, state_after}
 use Rattle.pres_server.proofs.Whole.{may_follow, legal_after}
-use Rattle.pres_client.specs.Clients.{State as Client}
+use Rattle.pres_client.specs.Clients.{ClientState as Client}
 use Rattle.pres_client.specs.Calls.{after_call}
-use Rattle.pres_client.specs.Receiving.{accepts, after_receive}
+use Rattle.pres_client.specs.ReceivedMessages.{accepts, after_receive}
 use Rattle.pres_world.specs.declared.event.Ending.{Ending}
 use Rattle.pres_world.specs.declared.event.Ending.TheVariants as ending
 use Rattle.pres_world.specs.declared.event.Event.{Event}
 use Rattle.pres_world.specs.declared.event.Event.TheVariants as event
 use Rattle.pres_world.specs.declared.fault.WorldFault.{WorldFault}
 use Rattle.pres_world.specs.declared.fault.WorldFault.TheVariants as fault
-use Rattle.pres_world.specs.Members.{acknowledged, is_fault}
-use Rattle.pres_world.specs.Safe.{IsSent}
-use Rattle.pres_world.specs.Served.{Served, fault_for, turned, served, served_by, lost, EndsAll, IsRestarted}
+use Rattle.pres_world.specs.WorldClients.{acknowledged, is_fault}
+use Rattle.pres_world.specs.Safe.{CameFromMessage}
+use Rattle.pres_world.specs.ServerSides.{ServerSideState, fault_for, turned, served, served_by, lost, EndsAll, IsRestarted}
 use Rattle.pres_world.specs.Worlds.{World, IsStep, IsStop, IsRefused, becomes, new_world}
 use Rattle.pres_world.proofs.Backed.{all_front, all_into, all_at, sure}
-use Rattle.pres_world.proofs.Told.{Vouched, vouched_front, answers_vouched}
+use Rattle.pres_world.proofs.Transcripts.{Vouched, vouched_front, answers_vouched}
 use Rattle.pres_world.proofs.Sent.{ComesFrom, made_sent, sent_front}
 
 -- ---- the server's part
 
 -- the history is legal and the server's, and what went out says of writes and of actions what is so
-pub record Sound (w : Served) : Type 0 where
+pub record Sound (w : ServerSideState) : Type 0 where
   pub legal : IsLegal w.history
-  pub its_log : (s : State) → w.server ≡ Some s → s.log ≡ w.history
+  pub its_log : (s : ServerState) → w.server ≡ Some s → s.log ≡ w.history
   pub downs : AllByRecursion (Vouched (entries w.history)) w.downs
 
 -- it is so afterwards, and the history has more entries, which were made of what was sent
-pub record Grows (ups : List Up) (w v : Served) : Type 0 where
+pub record Grows (ups : List Up) (w v : ServerSideState) : Type 0 where
   pub sound : Sound v
   pub more : List Entry
   pub grown : entries v.history ≡ entries w.history ++ more
-  pub sent : AllByRecursion (IsSent ups) more
+  pub sent : AllByRecursion (CameFromMessage ups) more
 
-same : (ups : List Up) (w : Served) → Sound w → Grows ups w w
+same : (ups : List Up) (w : ServerSideState) → Sound w → Grows ups w w
 same ups w h = record { sound = h; more = []; grown = sym (append-nil (entries w.history)); sent = tt }
 
 -- the history stays, and messages go out
-stays : (ups : List Up) (w v : Served) (out : List Down) → Sound w → v.history ≡ w.history → ((t : State) → v.server ≡ Some t → t.log ≡ v.history) → v.downs ≡ w.downs ++ out → AllByRecursion (Vouched (entries w.history)) out → Grows ups w v
+stays : (ups : List Up) (w v : ServerSideState) (out : List Down) → Sound w → v.history ≡ w.history → ((t : ServerState) → v.server ≡ Some t → t.log ≡ v.history) → v.downs ≡ w.downs ++ out → AllByRecursion (Vouched (entries w.history)) out → Grows ups w v
 stays ups w v out h is log sent backed = record {
   sound = record {
     legal = subst IsLegal (sym is) h.legal;
@@ -68,7 +68,7 @@ stays ups w v out h is log sent backed = record {
 }
 
 -- a batch is committed, and messages go out
-grows : (ups : List Up) (w v : Served) (m : ℕ) (es : List Entry) (out : List Down) → AllByRecursion (IsSent ups) es → Sound w → MayFollow w.history (batch_of w.history m es) → v.history ≡ w.history ++ batch_of w.history m es ∷ [] → ((t : State) → v.server ≡ Some t → t.log ≡ v.history) → v.downs ≡ w.downs ++ out → AllByRecursion (Vouched (entries w.history ++ es)) out → Grows ups w v
+grows : (ups : List Up) (w v : ServerSideState) (m : ℕ) (es : List Entry) (out : List Down) → AllByRecursion (CameFromMessage ups) es → Sound w → MayFollow w.history (batch_of w.history m es) → v.history ≡ w.history ++ batch_of w.history m es ∷ [] → ((t : ServerState) → v.server ≡ Some t → t.log ≡ v.history) → v.downs ≡ w.downs ++ out → AllByRecursion (Vouched (entries w.history ++ es)) out → Grows ups w v
 grows ups w v m es out made h follows is log sent backed = record {
   sound = record {
     legal = subst IsLegal (sym is) (legal_after w.history (batch_of w.history m es) h.legal follows);
@@ -86,13 +86,13 @@ fault_backed : (es : List Entry) (s : Option SessionId) (c : Code) → AllByRecu
 fault_backed es None c = tt
 fault_backed es (Some s) c = ((tt, tt), tt)
 
-none_some : (s : State) → None ≡ Some s → ⊥
+none_some : (s : ServerState) → None ≡ Some s → ⊥
 none_some s e = grind arith
 
-its : (s t : State) → Some s ≡ Some t → t.log ≡ s.log
+its : (s t : ServerState) → Some s ≡ Some t → t.log ≡ s.log
 its s t e = sym (ap (λ o. (unwrap_or o t).log) e)
 
-turned_grows : (ups : List Up) (w : Served) (s : State) (i : Input) (now : ℕ) (e : Ending) → ComesFrom ups i → Sound w → s.log ≡ w.history → Grows ups w (turned e w.downs (turn s i now) s (moment_of s.log now) i)
+turned_grows : (ups : List Up) (w : ServerSideState) (s : ServerState) (i : Input) (now : ℕ) (e : Ending) → ComesFrom ups i → Sound w → s.log ≡ w.history → Grows ups w (turned e w.downs (turn s i now) s (moment_of s.log now) i)
 turned_grows ups w s i now e from h is = by (turn s i now) refl e where
   m : ℕ
   m = moment_of s.log now
@@ -105,7 +105,7 @@ turned_grows ups w s i now e from h is = by (turn s i now) refl e where
     backed : AllByRecursion (Vouched (entries w.history ++ es)) (answers (entries s.log) es)
     backed = subst (λ l. AllByRecursion (Vouched (entries w.history ++ es)) (answers (entries l) es)) (sym is) (answers_vouched (entries w.history) m es (sure w.history h.legal) follows.allowed)
 
-    made : (out : List Down) → ((t : State) → Some (state_after s m es) ≡ Some t → t.log ≡ (state_after s m es).log) → w.downs ++ out ≡ w.downs ++ out → AllByRecursion (Vouched (entries w.history ++ es)) out → Grows ups w (record { server = Some (state_after s m es); history = (state_after s m es).log; downs = w.downs ++ out })
+    made : (out : List Down) → ((t : ServerState) → Some (state_after s m es) ≡ Some t → t.log ≡ (state_after s m es).log) → w.downs ++ out ≡ w.downs ++ out → AllByRecursion (Vouched (entries w.history ++ es)) out → Grows ups w (record { server = Some (state_after s m es); history = (state_after s m es).log; downs = w.downs ++ out })
     made out log sent b = grows ups w _ m es out (made_sent ups s i now es from k) h follows (ap (λ l. l ++ batch_of l m es ∷ []) is) log sent b
   by (makes es) k ending.Stopped = grows ups w _ m es [] (made_sent ups s i now es from k) h follows (ap (λ l. l ++ batch_of l m es ∷ []) is) (λ t x. absurd (none_some t x)) (sym (append-nil w.downs)) tt where
     follows : MayFollow w.history (batch_of w.history m es)
@@ -118,13 +118,13 @@ turned_grows ups w s i now e from h is = by (turn s i now) refl e where
   by (refused f) k ending.Stopped = stays ups w _ [] h is (λ t x. absurd (none_some t x)) (sym (append-nil w.downs)) tt
   by (refused f) k ending.Refused = stays ups w _ (fault_for (heard_from i) (code_of f)) h is (λ t x. its s t x) refl (fault_backed (entries w.history) (heard_from i) (code_of f))
 
-pub served_grows : (ups : List Up) (w : Served) (i : Input) (now : ℕ) (e : Ending) → ComesFrom ups i → Sound w → Grows ups w (served w i now e)
+pub served_grows : (ups : List Up) (w : ServerSideState) (i : Input) (now : ℕ) (e : Ending) → ComesFrom ups i → Sound w → Grows ups w (served w i now e)
 served_grows ups w i now e from h = by w.server refl where
-  by : (o : Option State) → w.server ≡ o → Grows ups w (served_by o w i now e)
+  by : (o : Option ServerState) → w.server ≡ o → Grows ups w (served_by o w i now e)
   by None k = same ups w h
   by (Some s) k = turned_grows ups w s i now e from h (h.its_log s k)
 
-pub lost_grows : (ups : List Up) (found : List SessionId) (w : Served) (now : ℕ) (e : Ending) → Sound w → Grows ups w (lost found w now e)
+pub lost_grows : (ups : List Up) (found : List SessionId) (w : ServerSideState) (now : ℕ) (e : Ending) → Sound w → Grows ups w (lost found w now e)
 lost_grows ups [] w now e h = same ups w h
 lost_grows ups (s ∷ more) w now e h = served_grows ups w (input.Lost s) now e tt h
 
@@ -133,18 +133,18 @@ record Longer (ups : List Up) (old new : Log) : Type 0 where
   pub legal : IsLegal new
   pub more : List Entry
   pub grown : entries new ≡ entries old ++ more
-  pub sent : AllByRecursion (IsSent ups) more
+  pub sent : AllByRecursion (CameFromMessage ups) more
 
-ended_longer : (ups : List Up) (now : ℕ) (cs : List ClientId) (s t : State) → IsLegal s.log → EndsAll now cs s t → Longer ups s.log t.log
+ended_longer : (ups : List Up) (now : ℕ) (cs : List ClientId) (s t : ServerState) → IsLegal s.log → EndsAll now cs s t → Longer ups s.log t.log
 ended_longer ups now [] s t legal h = subst (λ x. Longer ups s.log x.log) (sym h.0) (record { legal = legal; more = []; grown = sym (append-nil (entries s.log)); sent = tt })
 ended_longer ups now (c ∷ cs) s t legal h =
     let m = moment_of s.log now in
     let batch = batch_of s.log m h.0 in
     let follows = may_follow s (input.Restart c) now h.0 legal h.2 in
     let rest = ended_longer ups now cs (state_after s m h.0) t (legal_after s.log batch legal follows) h.3 in
-    record { legal = rest.legal; more = h.0 ++ rest.more; grown = rest.grown ∙ ap (λ l. l ++ rest.more) (entries-push s.log batch) ∙ append_assoc (entries s.log) h.0 rest.more; sent = all_front (IsSent ups) h.0 rest.more (made_sent ups s (input.Restart c) now h.0 tt h.2) rest.sent }
+    record { legal = rest.legal; more = h.0 ++ rest.more; grown = rest.grown ∙ ap (λ l. l ++ rest.more) (entries-push s.log batch) ∙ append_assoc (entries s.log) h.0 rest.more; sent = all_front (CameFromMessage ups) h.0 rest.more (made_sent ups s (input.Restart c) now h.0 tt h.2) rest.sent }
 
-pub restarted_grows : (ups : List Up) (w v : Served) (now : ℕ) → Sound w → IsRestarted w now v → Grows ups w v
+pub restarted_grows : (ups : List Up) (w v : ServerSideState) (now : ℕ) → Sound w → IsRestarted w now v → Grows ups w v
 restarted_grows ups w v now h k =
     let longer = ended_longer ups now k.0 (made_from w.history) k.1 h.legal k.2 in
     subst (Grows ups w) (sym k.3) (record {
@@ -163,18 +163,18 @@ restarted_grows ups w v now h k =
 pub record Honest (w : World) : Type 0 where
   pub sound : Sound w.serving
   pub acks : AllByRecursion (Vouched (entries w.serving.history)) w.acks
-  pub sent : AllByRecursion (IsSent w.ups) (entries w.serving.history)
+  pub sent : AllByRecursion (CameFromMessage w.ups) (entries w.serving.history)
 
-pub honest_by : (w : World) (v : Served) → Honest w → Grows w.ups w.serving v → Honest (record w { serving = v })
+pub honest_by : (w : World) (v : ServerSideState) → Honest w → Grows w.ups w.serving v → Honest (record w { serving = v })
 honest_by w v h g = record {
   sound = g.sound;
   acks = subst (λ l. AllByRecursion (Vouched l) w.acks) (sym g.grown) (all_into (Vouched (entries w.serving.history)) (Vouched (entries w.serving.history ++ g.more)) w.acks (vouched_front (entries w.serving.history) g.more) h.acks);
-  sent = subst (AllByRecursion (IsSent w.ups)) (sym g.grown) (all_front (IsSent w.ups) (entries w.serving.history) g.more h.sent g.sent);
+  sent = subst (AllByRecursion (CameFromMessage w.ups)) (sym g.grown) (all_front (CameFromMessage w.ups) (entries w.serving.history) g.more h.sent g.sent);
 }
 
 -- a client sends more
 becomes_honest : (w : World) (id : ClientId) (c : Client) → Honest w → Honest (becomes w id c)
-becomes_honest w id c h = record { sound = h.sound; acks = h.acks; sent = all_into (IsSent w.ups) (IsSent (w.ups ++ c.sends)) (entries w.serving.history) (sent_front w.ups c.sends) h.sent }
+becomes_honest w id c h = record { sound = h.sound; acks = h.acks; sent = all_into (CameFromMessage w.ups) (CameFromMessage (w.ups ++ c.sends)) (entries w.serving.history) (sent_front w.ups c.sends) h.sent }
 
 pub item_backed : (es : List Entry) (ms : List Down) (k : ℕ) (m : Down) → AllByRecursion (Vouched es) ms → item_at ms k ≡ Some m → Vouched es m
 item_backed es ms zero m h get = absurd (none get) where
@@ -182,11 +182,11 @@ item_backed es ms zero m h get = absurd (none get) where
   none e = grind arith
 item_backed es ms (suc i) m h get = all_at (Vouched es) ms i m h get
 
-pub item_sent : (ups : List Up) (es : List Entry) (k : ℕ) (e : Entry) → AllByRecursion (IsSent ups) es → item_at es k ≡ Some e → IsSent ups e
+pub item_sent : (ups : List Up) (es : List Entry) (k : ℕ) (e : Entry) → AllByRecursion (CameFromMessage ups) es → item_at es k ≡ Some e → CameFromMessage ups e
 item_sent ups es zero e h get = absurd (none get) where
   none : None ≡ Some e → ⊥
   none x = grind arith
-item_sent ups es (suc i) e h get = all_at (IsSent ups) es i e h get
+item_sent ups es (suc i) e h get = all_at (CameFromMessage ups) es i e h get
 
 ack_backed : (es : List Entry) (c : Client) (m : Down) → Vouched es m → AllByRecursion (Vouched es) (acknowledged c m)
 ack_backed es c m h = by (accepts c m && not (is_fault m)) where

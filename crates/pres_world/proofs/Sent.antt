@@ -9,7 +9,7 @@ use Rattle.pres_tree.specs.declared.scalar.Scalar.{Scalar}
 use Rattle.pres_tree.specs.Rows.{Rows}
 use Rattle.pres_write.specs.declared.op.Op.{Op}
 use Rattle.pres_write.specs.Unconditionals.{puts_of}
-use Rattle.pres_retry.specs.Verdicts.{verdict, Told, fresh, again, gap}
+use Rattle.pres_retry.specs.Verdicts.{verdict, WriteStatus, fresh, again, gap}
 use Rattle.pres_plan.specs.Plans.{most_rows}
 use Rattle.pres_fan.specs.Listeners.{most_paths}
 use Rattle.pres_wire.specs.declared.up.Up.{Up}
@@ -21,13 +21,13 @@ use Rattle.pres_log.specs.declared.fault.Fault.TheVariants as fault
 use Rattle.pres_log.specs.Logs.{tree, entries}
 use Rattle.pres_server.specs.declared.input.Input.{Input}
 use Rattle.pres_server.specs.declared.input.Input.TheVariants as input
-use Rattle.pres_server.specs.Heard.{State, late_client}
+use Rattle.pres_server.specs.ServerStates.{ServerState, late_client}
 use Rattle.pres_server.specs.Listening.{listened}
 use Rattle.pres_server.specs.Outcomes.{rows_for}
 use Rattle.pres_server.specs.Sessions.{is_open, is_newest, count, last_of, open_sessions, open_sessions_of}
 use Rattle.pres_server.specs.SessionPlans.{plan}
 use Rattle.pres_server.specs.Turns.{Decision, refused, quiet, makes, moment_of, end_of, opening, ends_if_open, ends_first, ends_late, within_rows, op_by, in_order, if_open, leaves, listens, message, limited, turn}
-use Rattle.pres_world.specs.Safe.{IsPacket, IsSent}
+use Rattle.pres_world.specs.Safe.{WasSent, CameFromMessage}
 use Rattle.pres_world.proofs.Backed.{all_front, item_front}
 
 made_within : (bs : List Entry) (d : Decision) (es : List Entry) → limited bs d ≡ makes es → d ≡ makes es
@@ -41,7 +41,7 @@ made_within bs (makes xs) es e = by (nat_lt (2 ^ 52 - 1) (length (bs ++ xs) + le
 
 -- each entry that is made was made of a message that was sent
 abbrev MakesSent : List Up → Decision → Type 0
-MakesSent ups (makes es) = AllByRecursion (IsSent ups) es
+MakesSent ups (makes es) = AllByRecursion (CameFromMessage ups) es
 MakesSent ups quiet = Unit {0}
 MakesSent ups (refused f) = Unit {0}
 
@@ -61,26 +61,26 @@ ordered_sent ups before s q d h = by (nat_le q (count s before)) (q == count s b
 said_sent : (ups : List Up) (before : List Entry) (s : SessionId) (q : ℕ) (d : Decision) → MakesSent ups d → MakesSent ups (if_open before s (in_order before s q d))
 said_sent ups before s q d h = opened_sent ups before s (in_order before s q d) (ordered_sent ups before s q d h)
 
-op_sent : (ups : List Up) (known : Told) (t : Rows Scalar) (m : ℕ) (s : SessionId) (q n : ℕ) (op : Op) → IsPacket ups (up.Op s q n op) → MakesSent ups (op_by known t m s q n op)
+op_sent : (ups : List Up) (known : WriteStatus) (t : Rows Scalar) (m : ℕ) (s : SessionId) (q n : ℕ) (op : Op) → WasSent ups (up.Op s q n op) → MakesSent ups (op_by known t m s q n op)
 op_sent ups fresh t m s q n op h = (h, tt)
 op_sent ups (again row) t m s q n op h = ((op, h), tt)
 op_sent ups gap t m s q n op h = tt
 
 -- ends that no client asked for
-ended_sent : (ups : List Up) (before : List Entry) (m : ℕ) (w : Why) (ss : List SessionId) → AllByRecursion (IsSent ups) (map (end_of before m None w) ss)
+ended_sent : (ups : List Up) (before : List Entry) (m : ℕ) (w : Why) (ss : List SessionId) → AllByRecursion (CameFromMessage ups) (map (end_of before m None w) ss)
 ended_sent ups before m w [] = tt
 ended_sent ups before m w (s ∷ ss) = (tt, ended_sent ups before m w ss)
 
-rows_sent : (ups : List Up) (rows : ℕ) (e : Entry) (s : SessionId) (q : ℕ) (u : Up) → IsSent ups e → IsSent ups (entry.Denied s q limit.Plan) → MakesSent ups (within_rows rows e s q)
+rows_sent : (ups : List Up) (rows : ℕ) (e : Entry) (s : SessionId) (q : ℕ) (u : Up) → CameFromMessage ups e → CameFromMessage ups (entry.Denied s q limit.Plan) → MakesSent ups (within_rows rows e s q)
 rows_sent ups rows e s q u h k = by (nat_le rows most_rows) where
   by : (b : Bool) → MakesSent ups (makes ((cond b e (entry.Denied s q limit.Plan)) ∷ []))
   by true = (h, tt)
   by false = (k, tt)
 
-message_sent : (ups : List Up) (before : List Entry) (m : ℕ) (u : Up) → IsPacket ups u → MakesSent ups (message before m u)
+message_sent : (ups : List Up) (before : List Entry) (m : ℕ) (u : Up) → WasSent ups u → MakesSent ups (message before m u)
 message_sent ups before m (up.Hello s) h = by (is_newest s before) where
   by : (b : Bool) → MakesSent ups (cond b (opening before m s) (refused (fault.Old (unwrap_or (last_of s.client before) (stamp_of s)))))
-  by true = all_front (IsSent ups) (map (end_of before m None why.Superseded) (open_sessions_of s.client before)) (entry.Open s ∷ []) (ended_sent ups before m why.Superseded (open_sessions_of s.client before)) (h, tt)
+  by true = all_front (CameFromMessage ups) (map (end_of before m None why.Superseded) (open_sessions_of s.client before)) (entry.Open s ∷ []) (ended_sent ups before m why.Superseded (open_sessions_of s.client before)) (h, tt)
   by false = tt
 message_sent ups before m (up.Op s q n op) h = said_sent ups before s q (op_by (verdict n (rows_for s.client before)) (tree before) m s q n op) (op_sent ups (verdict n (rows_for s.client before)) (tree before) m s q n op h)
 message_sent ups before m (up.Left s q op) h = said_sent ups before s q (leaves before (entry.Left s q (puts_of op)) s q) (rows_sent ups (length (plan s (before ++ entry.Left s q (puts_of op) ∷ []))) (entry.Left s q (puts_of op)) s q (up.Left s q op) (op, h, refl) (up.Left s q op, h, refl, refl))
@@ -109,21 +109,21 @@ late_sent ups before m (Some c) = first_sent ups before m why.Lease (open_sessio
 
 -- what comes in was sent, where it is a message
 abbrev pub ComesFrom : List Up → Input → Type 0
-ComesFrom ups (input.Up u) = IsPacket ups u
+ComesFrom ups (input.Up u) = WasSent ups u
 ComesFrom ups _ = Unit {0}
 
-pub made_sent : (ups : List Up) (s : State) (i : Input) (now : ℕ) (es : List Entry) → ComesFrom ups i → turn s i now ≡ makes es → AllByRecursion (IsSent ups) es
+pub made_sent : (ups : List Up) (s : ServerState) (i : Input) (now : ℕ) (es : List Entry) → ComesFrom ups i → turn s i now ≡ makes es → AllByRecursion (CameFromMessage ups) es
 made_sent ups s (input.Up u) now es h k = let m = moment_of s.log now in subst (MakesSent ups) (made_within (entries s.log) (message (entries s.log) m u) es k) (message_sent ups (entries s.log) m u h)
 made_sent ups s (input.Lost t) now es h k = let m = moment_of s.log now in subst (MakesSent ups) (made_within (entries s.log) (ends_if_open (entries s.log) m why.Lost t) es k) (open_sent ups (entries s.log) m why.Lost t)
 made_sent ups s (input.Slow t) now es h k = let m = moment_of s.log now in subst (MakesSent ups) (made_within (entries s.log) (ends_if_open (entries s.log) m why.Slow t) es k) (open_sent ups (entries s.log) m why.Slow t)
 made_sent ups s (input.Restart c) now es h k = let m = moment_of s.log now in subst (MakesSent ups) (made_within (entries s.log) (ends_first (entries s.log) m why.Restart (open_sessions_of c (entries s.log))) es k) (first_sent ups (entries s.log) m why.Restart (open_sessions_of c (entries s.log)))
 made_sent ups s input.Tick now es h k = let m = moment_of s.log now in subst (MakesSent ups) (made_within (entries s.log) (ends_late (entries s.log) m (late_client m s.heard)) es k) (late_sent ups (entries s.log) m (late_client m s.heard))
 
-packet_front : (ups more : List Up) (m : Up) → IsPacket ups m → IsPacket (ups ++ more) m
+packet_front : (ups more : List Up) (m : Up) → WasSent ups m → WasSent (ups ++ more) m
 packet_front ups more m h = (h.0, item_front ups more h.0 m h.1)
 
 -- what was sent stays so
-pub sent_front : (ups more : List Up) (e : Entry) → IsSent ups e → IsSent (ups ++ more) e
+pub sent_front : (ups more : List Up) (e : Entry) → CameFromMessage ups e → CameFromMessage (ups ++ more) e
 sent_front ups more (entry.Open s) h = packet_front ups more _ h
 sent_front ups more (entry.Op s q n op outcome) h = packet_front ups more _ h
 sent_front ups more (entry.Again s q n) h = (h.0, packet_front ups more _ h.1)

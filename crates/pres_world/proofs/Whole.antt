@@ -20,11 +20,11 @@ use Rattle.pres_world.specs.declared.event.Event.{Event}
 use Rattle.pres_world.specs.declared.event.Event.TheVariants as event
 use Rattle.pres_world.specs.declared.fault.WorldFault.{WorldFault}
 use Rattle.pres_world.specs.declared.fault.WorldFault.TheVariants as fault
-use Rattle.pres_world.specs.Members.{acknowledged}
-use Rattle.pres_world.specs.Safe.{Occurrence, happens, hands_out, Occurs, Passes, IsPacket, IsSent, IsEarlierWrite, WritesInOrder, StandsAs, StandsArmed, StaysSafe, IsSafe, IsTold}
-use Rattle.pres_world.specs.Worlds.{World, IsStep, IsStop, IsRefused, Reaches, becomes, new_world}
+use Rattle.pres_world.specs.WorldClients.{acknowledged}
+use Rattle.pres_world.specs.Safe.{Occurrence, happens, hands_out, Occurs, Reaches, WasSent, CameFromMessage, IsEarlierWrite, WritesInOrder, StandsAs, StandsArmed, StaysSafe, IsSafe, IsInTranscript}
+use Rattle.pres_world.specs.Worlds.{World, IsStep, IsStop, IsRefused, RunsTo, becomes, new_world}
 use Rattle.pres_world.proofs.Backed.{IsAsked, IsWrite, IsArmed, all_front, contained}
-use Rattle.pres_world.proofs.Told.{Vouched}
+use Rattle.pres_world.proofs.Transcripts.{Vouched}
 use Rattle.pres_world.proofs.Orderly.{place, writes_stand, sessions_stand, ends_stand, cancels_undone}
 use Rattle.pres_client.specs.Steps.{calls, receives, IsMessage}
 use Rattle.std.specs.Option.{is_none}
@@ -41,11 +41,11 @@ pub record Whole (w : World) : Type 0 where
   pub honest : Honest w
   pub numbered : Numbered w
 
-made_of : (w : World) → Honest w → (i : ℕ) (e : Entry) → slice_get (entries w.serving.history) i ≡ Some e → IsSent w.ups e
+made_of : (w : World) → Honest w → (i : ℕ) (e : Entry) → slice_get (entries w.serving.history) i ≡ Some e → CameFromMessage w.ups e
 made_of w h i e get = item_sent w.ups (entries w.serving.history) (suc i) e h.sent get
 
 -- what the log tells is a message
-told_message : (log : Log) → IsLegal log → (m : Down) → IsTold (entries log) m → IsMessage m
+told_message : (log : Log) → IsLegal log → (m : Down) → IsInTranscript (entries log) m → IsMessage m
 told_message log legal (down.Push s r z values) h = by r h where
   by : (r : ℕ) → item_at (stream s (entries log)) r ≡ Some (down.Push s r z values) → IsMessage (down.Push s r z values)
   by zero k = absurd (none_or_some _ k)
@@ -98,12 +98,12 @@ occurs_whole w (happens e) v h (inr is) = record { honest = refused_honest w e v
 occurs_whole w (hands_out id) v h (inl is) = subst Whole (sym is) h
 occurs_whole w (hands_out id) v h (inr is) = subst Whole (sym is.2) (record { honest = record { sound = h.honest.sound; acks = h.honest.acks; sent = h.honest.sent }; numbered = quiet_numbered w id is.0 h.numbered is.1 })
 
-passes_whole : (w : World) (occurrences : List Occurrence) (v : World) → Whole w → Passes w occurrences v → Whole v
+passes_whole : (w : World) (occurrences : List Occurrence) (v : World) → Whole w → Reaches w occurrences v → Whole v
 passes_whole w [] v h is = subst Whole (sym is) h
 passes_whole w (o ∷ later) v h is = passes_whole is.0 later v (occurs_whole w o is.0 h is.1) is.2
 
 -- the message that asked for the write
-asked_by : (w : World) (s : SessionId) (q n : ℕ) → Honest w → IsAsked (entries w.serving.history) s q n → (o : Op) × IsPacket w.ups (up.Op s q n o)
+asked_by : (w : World) (s : SessionId) (q n : ℕ) → Honest w → IsAsked (entries w.serving.history) s q n → (o : Op) × WasSent w.ups (up.Op s q n o)
 asked_by w s q n honest (z, inl h) = (h.0, item_sent w.ups (entries w.serving.history) z (entry.Op s q n h.0 h.1) honest.sent h.2)
 asked_by w s q n honest (z, inr h) = item_sent w.ups (entries w.serving.history) z (entry.Again s q n) honest.sent h
 
@@ -117,13 +117,13 @@ stands_as w s r z q n done out whole h asks early = record {
   sent = sent;
   client = h.client;
   start = start;
-  asked = subst (λ o. IsPacket w.ups (up.Op s q n o)) (packets_repeat w whole.numbered s h.session q h.q n asked.0 h.op asked.1 sent (sym h.client) (sym start)) asked.1;
+  asked = subst (λ o. WasSent w.ups (up.Op s q n o)) (packets_repeat w whole.numbered s h.session q h.q n asked.0 h.op asked.1 sent (sym h.client) (sym start)) asked.1;
   kept = h.kept;
 } where
-  sent : IsPacket w.ups (up.Op h.session h.q n h.op)
+  sent : WasSent w.ups (up.Op h.session h.q n h.op)
   sent = item_sent w.ups (entries w.serving.history) done (entry.Op h.session h.q n h.op h.outcome) whole.honest.sent h.stands
 
-  asked : (o : Op) × IsPacket w.ups (up.Op s q n o)
+  asked : (o : Op) × WasSent w.ups (up.Op s q n o)
   asked = asked_by w s q n whole.honest asks
 
   at : (i : ℕ) × (done ≡ suc i) × (slice_get (entries w.serving.history) i ≡ Some (entry.Op h.session h.q n h.op h.outcome))
@@ -187,20 +187,20 @@ stays_safe ids occurrences v passes =
 
 -- ---- runs
 
-passes_then : (u w v : World) (xs ys : List Occurrence) → Passes u xs w → Passes w ys v → Passes u (xs ++ ys) v
-passes_then u w v [] ys h k = subst (λ x. Passes x ys v) h k
+passes_then : (u w v : World) (xs ys : List Occurrence) → Reaches u xs w → Reaches w ys v → Reaches u (xs ++ ys) v
+passes_then u w v [] ys h k = subst (λ x. Reaches x ys v) h k
 passes_then u w v (o ∷ xs) ys h k = (h.0, h.1, passes_then h.0 w v xs ys h.2 k)
 
-reaches_passes : (w v : World) (events : List Event) → Reaches w events v → Passes w (map happens events) v
+reaches_passes : (w v : World) (events : List Event) → RunsTo w events v → Reaches w (map happens events) v
 reaches_passes w v [] h = h
 reaches_passes w v (e ∷ later) h = (h.0, inl h.1, reaches_passes h.0 v later h.2)
 
 -- events that happen one after the other leave a world safe
-pub safe_behind : (ids : List ClientId) (before : List Occurrence) (done : List Event) (w v : World) → Passes (new_world ids) before w → Reaches w done v → IsSafe v
+pub safe_behind : (ids : List ClientId) (before : List Occurrence) (done : List Event) (w v : World) → Reaches (new_world ids) before w → RunsTo w done v → IsSafe v
 safe_behind ids before done w v h k = stays_safe ids (before ++ map happens done) v (passes_then (new_world ids) w v before (map happens done) h (reaches_passes w v done k))
 
 -- and so does one more that is refused
-pub safe_refused : (ids : List ClientId) (before : List Occurrence) (done : List Event) (w u v : World) (e : Event) (f : WorldFault) → Passes (new_world ids) before w → Reaches w done u → IsRefused u e v f → IsSafe v
+pub safe_refused : (ids : List ClientId) (before : List Occurrence) (done : List Event) (w u v : World) (e : Event) (f : WorldFault) → Reaches (new_world ids) before w → RunsTo w done u → IsRefused u e v f → IsSafe v
 safe_refused ids before done w u v e f h k r =
     stays_safe ids (before ++ (map happens done ++ happens e ∷ [])) v
     (passes_then (new_world ids) w v before (map happens done ++ happens e ∷ []) h (passes_then w u v (map happens done) (happens e ∷ []) (reaches_passes w u done k) (v, inr (f, r), refl)))

@@ -7,8 +7,8 @@ use Rattle.pres_tree.specs.Paths.{Path}
 use Rattle.pres_write.specs.declared.op.Op.{Op}
 use Rattle.pres_wire.specs.declared.up.Up.{Up}
 use Rattle.pres_wire.specs.declared.up.Up.TheVariants as up
-use Rattle.pres_client.specs.Clients.{State, base_of}
-use Rattle.pres_client.specs.Sends.{Made, Unnumbered, numbered, op_messages, on_messages, opening}
+use Rattle.pres_client.specs.Clients.{ClientState, base_of}
+use Rattle.pres_client.specs.Sends.{SendList, Unnumbered, numbered, op_messages, on_messages, opening}
 use Rattle.pres_world.proofs.Stands.{get_dropped}
 use Rattle.pres_world.proofs.Backed.{get_front}
 
@@ -86,7 +86,7 @@ ops_fit b ws s x a n (o ∷ os) known count f = ((λ q. record { base = x; known
   later : (j : ℕ) (p : Op) → slice_get os j ≡ Some p → slice_get ws (a + 1 + j) ≡ Some p
   later j p get = let place : a + 1 + j ≡ a + suc j = omega arith in ap (slice_get ws) place ∙ f (suc j) p get
 
-pub opening_fit : (d : State) (t : Made) (x : ℕ) → d.base ≡ Some x → AllFit d.base t.writes (opening d t).messages
+pub opening_fit : (d : ClientState) (t : SendList) (x : ℕ) → d.base ≡ Some x → AllFit d.base t.writes (opening d t).messages
 opening_fit d t x known =
     let is : base_of d ≡ x = ap (λ b. unwrap_or b 0) known in
     numbered_fit d.base t.writes 1 (on_messages d.session (map (λ e. e.0) d.watches) ++ op_messages d.session (base_of d + d.answered + 1) (drop d.answered t.writes))

@@ -17,7 +17,7 @@ use Rattle.pres_server.specs.LegalLog.{IsLegal}
 use Rattle.pres_server.specs.Outcomes.{ops}
 use Rattle.pres_server.specs.Sessions.{opens}
 use Rattle.pres_server.proofs.Since.{session_itself}
-use Rattle.pres_world.specs.Safe.{IsTold}
+use Rattle.pres_world.specs.Safe.{IsInTranscript}
 use Rattle.pres_world.proofs.Stands.{none_or_some, stands_may, got_small, take_within, take_whole, among, ops-append, op_counts, found_before}
 use Rattle.pres_world.proofs.SessionOrder.{open_is_newest}
 use Rattle.pres_world.proofs.Backed.{here}
@@ -51,7 +51,7 @@ ops_in (down.Welcome s z count) = count
 ops_in _ = 0
 
 -- it is what the session's Welcome says
-pub base_told : (es : List Entry) (s : SessionId) (z x : ℕ) → IsTold es (down.Welcome s z x) → IsBase es s.client s.incarnation x
+pub base_told : (es : List Entry) (s : SessionId) (z x : ℕ) → IsInTranscript es (down.Welcome s z x) → IsBase es s.client s.incarnation x
 base_told es s z x h = record {
   session = s;
   before = h.0;

@@ -1,7 +1,7 @@
 pub mod Distinct
 pub mod Faults
-pub mod Members
+pub mod WorldClients
 pub mod Orderly
 pub mod Safe
-pub mod Served
+pub mod ServerSides
 pub mod Worlds

@@ -20,7 +20,7 @@ use Rattle.pres_server.specs.Streams.{stream, welcome}
 use Rattle.pres_log.specs.declared.entry.Entry.{Entry}
 use Rattle.pres_log.specs.declared.entry.Entry.TheVariants as entry
 use Rattle.pres_log.specs.Logs.{Stands, entries, item_at, tree}
-use Rattle.pres_client.specs.Clients.{State as Client, view}
+use Rattle.pres_client.specs.Clients.{ClientState as Client, view}
 use Rattle.pres_tree.specs.declared.scalar.Scalar.{Scalar}
 use Rattle.pres_tree.specs.Rows.{Rows, value_at}
 use Rattle.pres_world.specs.declared.event.Event.{Event}
@@ -42,26 +42,26 @@ Occurs w (happens e) v = IsStep w e v ⊎ ((f : WorldFault) × IsRefused w e v f
 Occurs w (hands_out id) v = HandsOut w id v
 
 -- all of it, one after the other
-abbrev pub Passes : World → List Occurrence → World → Type 0
-Passes w [] v = v ≡ w
-Passes w (o ∷ later) v = (u : World) × Occurs w o u × Passes u later v
+abbrev pub Reaches : World → List Occurrence → World → Type 0
+Reaches w [] v = v ≡ w
+Reaches w (o ∷ later) v = (u : World) × Occurs w o u × Reaches u later v
 
 -- a client sent the message
-abbrev pub IsPacket : List Up → Up → Type 0
-IsPacket ups m = (packet : ℕ) × (item_at ups packet ≡ Some m)
+abbrev pub WasSent : List Up → Up → Type 0
+WasSent ups m = (packet : ℕ) × (item_at ups packet ≡ Some m)
 
 -- the entry was made of a message that a client sent, but for an end that no client asked for
-abbrev pub IsSent : List Up → Entry → Type 0
-IsSent ups (entry.Open s) = IsPacket ups (up.Hello s)
-IsSent ups (entry.Op s q n op outcome) = IsPacket ups (up.Op s q n op)
-IsSent ups (entry.Again s q n) = (op : Op) × IsPacket ups (up.Op s q n op)
-IsSent ups (entry.Left s q placements) = (op : Unconditional) × IsPacket ups (up.Left s q op) × (placements ≡ puts_of op)
-IsSent ups (entry.Cancelled s q p) = IsPacket ups (up.Cancel s q p)
-IsSent ups (entry.Denied s q why) = (m : Up) × IsPacket ups m × (session_in m ≡ s) × (q_in m ≡ Some q)
-IsSent ups (entry.On s q p) = IsPacket ups (up.On s q p)
-IsSent ups (entry.Off s q p) = IsPacket ups (up.Off s q p)
-IsSent ups (entry.Ended s None why rows) = Unit {0}
-IsSent ups (entry.Ended s (Some q) why rows) = IsPacket ups (up.Bye s q)
+abbrev pub CameFromMessage : List Up → Entry → Type 0
+CameFromMessage ups (entry.Open s) = WasSent ups (up.Hello s)
+CameFromMessage ups (entry.Op s q n op outcome) = WasSent ups (up.Op s q n op)
+CameFromMessage ups (entry.Again s q n) = (op : Op) × WasSent ups (up.Op s q n op)
+CameFromMessage ups (entry.Left s q placements) = (op : Unconditional) × WasSent ups (up.Left s q op) × (placements ≡ puts_of op)
+CameFromMessage ups (entry.Cancelled s q p) = WasSent ups (up.Cancel s q p)
+CameFromMessage ups (entry.Denied s q why) = (m : Up) × WasSent ups m × (session_in m ≡ s) × (q_in m ≡ Some q)
+CameFromMessage ups (entry.On s q p) = WasSent ups (up.On s q p)
+CameFromMessage ups (entry.Off s q p) = WasSent ups (up.Off s q p)
+CameFromMessage ups (entry.Ended s None why rows) = Unit {0}
+CameFromMessage ups (entry.Ended s (Some q) why rows) = WasSent ups (up.Bye s q)
 
 -- Write n of the client of s, which it asked for by message q of the session, stands under this number as it was sent, and
 -- came out so. Where it was sent again, the message that the entry was made of is another one with the same write, of the
@@ -72,10 +72,10 @@ pub record StandsAs (w : World) (s : SessionId) (q n done : ℕ) (out : Kept) : 
   pub op : Op
   pub outcome : Outcome
   pub stands : Stands w.serving.history done (entry.Op session first_q n op outcome)
-  pub sent : IsPacket w.ups (up.Op session first_q n op)
+  pub sent : WasSent w.ups (up.Op session first_q n op)
   pub client : session.client ≡ s.client
   pub start : session.incarnation ≡ s.incarnation
-  pub asked : IsPacket w.ups (up.Op s q n op)
+  pub asked : WasSent w.ups (up.Op s q n op)
   pub kept : kept_of outcome ≡ out
 
 -- Write n, which a client asked for in session s, got its number before write m, which it asked for in session t: an
@@ -90,32 +90,32 @@ WritesInOrder w = (s t : SessionId) (r r' z z' q p n m j k : ℕ) (out out' : Ke
 -- what was sent as message q of the session, for its end or to take such back, stands under the number
 abbrev pub StandsArmed : World → SessionId → ℕ → ℕ → Type 0
 StandsArmed w s z q =
-    ((op : Unconditional) × IsPacket w.ups (up.Left s q op) × Stands w.serving.history z (entry.Left s q (puts_of op)))
-    ⊎ ((p : Path) × IsPacket w.ups (up.Cancel s q p) × Stands w.serving.history z (entry.Cancelled s q p))
+    ((op : Unconditional) × WasSent w.ups (up.Left s q op) × Stands w.serving.history z (entry.Left s q (puts_of op)))
+    ⊎ ((p : Path) × WasSent w.ups (up.Cancel s q p) × Stands w.serving.history z (entry.Cancelled s q p))
 
 -- two packets of one session with one number are one message
-abbrev pub IsNumbered : List Up → Type 0
-IsNumbered ups = (m k : Up) (q : ℕ) → IsPacket ups m → IsPacket ups k → session_in m ≡ session_in k → q_in m ≡ Some q → q_in k ≡ Some q → m ≡ k
+abbrev pub SameNumberSameMessage : List Up → Type 0
+SameNumberSameMessage ups = (m k : Up) (q : ℕ) → WasSent ups m → WasSent ups k → session_in m ≡ session_in k → q_in m ≡ Some q → q_in k ≡ Some q → m ≡ k
 
 -- two packets of one start of a client with one number of a write carry one operation
-abbrev pub IsRepeated : List Up → Type 0
-IsRepeated ups = (s t : SessionId) (q p n : ℕ) (o x : Op) → IsPacket ups (up.Op s q n o) → IsPacket ups (up.Op t p n x) → s.client ≡ t.client → s.incarnation ≡ t.incarnation → o ≡ x
+abbrev pub SameNumberSameOp : List Up → Type 0
+SameNumberSameOp ups = (s t : SessionId) (q p n : ℕ) (o x : Op) → WasSent ups (up.Op s q n o) → WasSent ups (up.Op t p n x) → s.client ≡ t.client → s.incarnation ≡ t.incarnation → o ≡ x
 
 -- the entries tell it to its session: the Welcome behind the session's opening, or the message of its stream with this number
-abbrev pub IsTold : List Entry → Down → Type 0
-IsTold es (Welcome s z ops) = (before : List Entry) × (later : List Entry) × (es ≡ before ++ entry.Open s ∷ later) × (Welcome s z ops ≡ welcome s (before ++ entry.Open s ∷ []))
-IsTold es (Reply s r z q n done out) = item_at (stream s es) r ≡ Some (Reply s r z q n done out)
-IsTold es (Gone s r z why) = item_at (stream s es) r ≡ Some (Gone s r z why)
-IsTold es (Armed s r z q) = item_at (stream s es) r ≡ Some (Armed s r z q)
-IsTold es (Denied s r z q why) = item_at (stream s es) r ≡ Some (Denied s r z q why)
-IsTold es (Snap s r z q p v) = item_at (stream s es) r ≡ Some (Snap s r z q p v)
-IsTold es (Push s r z values) = item_at (stream s es) r ≡ Some (Push s r z values)
-IsTold es (OffDone s r z q) = item_at (stream s es) r ≡ Some (OffDone s r z q)
-IsTold es (Fault session code) = Unit {0}
+abbrev pub IsInTranscript : List Entry → Down → Type 0
+IsInTranscript es (Welcome s z ops) = (before : List Entry) × (later : List Entry) × (es ≡ before ++ entry.Open s ∷ later) × (Welcome s z ops ≡ welcome s (before ++ entry.Open s ∷ []))
+IsInTranscript es (Reply s r z q n done out) = item_at (stream s es) r ≡ Some (Reply s r z q n done out)
+IsInTranscript es (Gone s r z why) = item_at (stream s es) r ≡ Some (Gone s r z why)
+IsInTranscript es (Armed s r z q) = item_at (stream s es) r ≡ Some (Armed s r z q)
+IsInTranscript es (Denied s r z q why) = item_at (stream s es) r ≡ Some (Denied s r z q why)
+IsInTranscript es (Snap s r z q p v) = item_at (stream s es) r ≡ Some (Snap s r z q p v)
+IsInTranscript es (Push s r z values) = item_at (stream s es) r ≡ Some (Push s r z values)
+IsInTranscript es (OffDone s r z q) = item_at (stream s es) r ≡ Some (OffDone s r z q)
+IsInTranscript es (Fault session code) = Unit {0}
 
 -- what a client shows of a path, at the server's number z, is what stood there after z entries
-abbrev pub ViewsAreTrue : World → Type 0
-ViewsAreTrue w = (id : ClientId) (c : Client) → IsClient w id c → (p : Path) (z : ℕ) (v : Rows Scalar) → view p c ≡ Some (z, v) → (z ≤ length (entries w.serving.history)) × (v ≡ value_at p (tree (take z (entries w.serving.history))))
+abbrev pub ViewsShowHistory : World → Type 0
+ViewsShowHistory w = (id : ClientId) (c : Client) → IsClient w id c → (p : Path) (z : ℕ) (v : Rows Scalar) → view p c ≡ Some (z, v) → (z ≤ length (entries w.serving.history)) × (v ≡ value_at p (tree (take z (entries w.serving.history))))
 
 -- two clients' values of one path with the same number are equal
 abbrev pub ViewsAgree : World → Type 0
@@ -133,11 +133,11 @@ pub record IsSafe (w : World) : Type 0 where
   pub acknowledged : (s : SessionId) (r z q n done : ℕ) (out : Kept) → Contains w.acks (Reply s r z q n done out) → StandsAs w s q n done out
   pub in_order : WritesInOrder w
   pub armed : (s : SessionId) (r z q : ℕ) → Contains w.acks (Armed s r z q) → StandsArmed w s z q
-  pub told : (m : Down) → Contains w.acks m → IsTold (entries w.serving.history) m
-  pub sent : (k : ℕ) (e : Entry) → Stands w.serving.history k e → IsSent w.ups e
-  pub numbered : IsNumbered w.ups
-  pub repeats : IsRepeated w.ups
-  pub views : ViewsAreTrue w
+  pub told : (m : Down) → Contains w.acks m → IsInTranscript (entries w.serving.history) m
+  pub sent : (k : ℕ) (e : Entry) → Stands w.serving.history k e → CameFromMessage w.ups e
+  pub numbered : SameNumberSameMessage w.ups
+  pub repeats : SameNumberSameOp w.ups
+  pub views : ViewsShowHistory w
   pub agree : ViewsAgree w
   pub writes : WritesStand w.serving.history
   pub sessions : SessionsStand w.serving.history
@@ -146,4 +146,4 @@ pub record IsSafe (w : World) : Type 0 where
 
 -- whatever happened to a new world, it is safe
 abbrev pub StaysSafe : List ClientId → List Occurrence → World → Type 0
-StaysSafe ids occurrences v = Passes (new_world ids) occurrences v → IsSafe v
+StaysSafe ids occurrences v = Reaches (new_world ids) occurrences v → IsSafe v

@@ -9,20 +9,20 @@ use Rattle.pres_wire.specs.declared.down.Down.{Down}
 use Rattle.pres_wire.specs.Messages.{session_for}
 use Rattle.pres_log.specs.Logs.{item_at}
 use Rattle.pres_server.specs.declared.input.Input.TheVariants as input
-use Rattle.pres_server.specs.Heard.{blank}
+use Rattle.pres_server.specs.ServerStates.{blank}
 use Rattle.pres_client.specs.declared.call.Call.{Call}
 use Rattle.pres_client.specs.declared.fault.ClientFault.{ClientFault}
 use Rattle.pres_client.specs.Calls.{refusal, after_call}
-use Rattle.pres_client.specs.Clients.{State as Client, start}
-use Rattle.pres_client.specs.Receiving.{after_receive}
+use Rattle.pres_client.specs.Clients.{ClientState as Client, start}
+use Rattle.pres_client.specs.ReceivedMessages.{after_receive}
 use Rattle.pres_world.specs.declared.event.Event.{Event}
 use Rattle.pres_world.specs.declared.event.Event.TheVariants as event
 use Rattle.pres_world.specs.declared.event.Ending.{Ending}
 use Rattle.pres_world.specs.declared.event.Ending.TheVariants as ending
 use Rattle.pres_world.specs.declared.fault.WorldFault.{WorldFault}
 use Rattle.pres_world.specs.declared.fault.WorldFault.TheVariants as fault
-use Rattle.pres_world.specs.Members.{handed_out, acknowledged, started_again}
-use Rattle.pres_world.specs.Served.{Served, served, lost, open_on, IsRestarted}
+use Rattle.pres_world.specs.WorldClients.{handed_out, acknowledged, started_again}
+use Rattle.pres_world.specs.ServerSides.{ServerSideState, served, lost, open_on, IsRestarted}
 
 -- the clients behind their ids, in byte order
 abbrev pub Clients : Type 0
@@ -30,7 +30,7 @@ Clients = List (ClientId × Client)
 
 -- the server and what it sent, the clients, what these sent, and what they took: Welcomes and messages of their streams
 pub record World : Type 0 where
-  pub serving : Served
+  pub serving : ServerSideState
   pub clients : Clients
   pub ups : List Up
   pub acks : List Down
@@ -84,7 +84,7 @@ IsLoss w id now e v = (find client_cmp id w.clients ≢ None) × (v ≡ record w
 
 -- the server starts again
 abbrev pub IsRestart : World → ℕ → World → Type 0
-IsRestart w now v = (s : Served) × IsRestarted w.serving now s × (v ≡ record w { serving = s })
+IsRestart w now v = (s : ServerSideState) × IsRestarted w.serving now s × (v ≡ record w { serving = s })
 
 -- the event takes the world w to v
 abbrev pub IsStep : World → Event → World → Type 0
@@ -125,9 +125,9 @@ IsRefused w e v fault.NoSuch = (v ≡ w) × Lacks w e
 IsRefused w e v (fault.Client f) = (v ≡ w) × Refuses w e f
 
 -- the events take the world w to v, one after the other
-abbrev pub Reaches : World → List Event → World → Type 0
-Reaches w [] v = v ≡ w
-Reaches w (e ∷ later) v = (u : World) × IsStep w e u × Reaches u later v
+abbrev pub RunsTo : World → List Event → World → Type 0
+RunsTo w [] v = v ≡ w
+RunsTo w (e ∷ later) v = (u : World) × IsStep w e u × RunsTo u later v
 
 -- the events up to one take the world w to u, and that one is refused
 pub record IsCutShort (w : World) (events : List Event) (v : World) (f : WorldFault) : Type 0 where
@@ -136,5 +136,5 @@ pub record IsCutShort (w : World) (events : List Event) (v : World) (f : WorldFa
   pub later : List Event
   pub parts : events ≡ done ++ refused ∷ later
   pub reached : World
-  pub reaches : Reaches w done reached
+  pub reaches : RunsTo w done reached
   pub refusal : IsRefused reached refused v f

@@ -9,7 +9,7 @@ pub mod laws;
 mod member;
 mod members;
 mod room;
-mod serving;
+mod server_side;
 mod world;
 
 pub use event::{Ending, Event};

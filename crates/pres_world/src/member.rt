@@ -3,9 +3,9 @@
 ghost use Rattle.std.specs.Prelude.{◌≡◌, ◌⊎◌, ◌++◌, [], Some, None, IfOk, IfErr, OnOk, OnErr};
 ghost use Rattle.pres_client.specs.Calls.{refusal, after_call};
 ghost use Rattle.pres_client.specs.Clients.{start};
-ghost use Rattle.pres_client.specs.Receiving.{after_receive};
+ghost use Rattle.pres_client.specs.ReceivedMessages.{after_receive};
 ghost use Rattle.pres_world.specs.Faults.{fault_of};
-ghost use Rattle.pres_world.specs.Members.{acknowledged, handed_out, is_fault, started_again};
+ghost use Rattle.pres_world.specs.WorldClients.{acknowledged, handed_out, is_fault, started_again};
 ghost use Rattle.pres_world.specs.declared.fault.WorldFault.TheVariants.{Memory};
 
 use crate::fault::WorldFault;
@@ -23,9 +23,9 @@ pub(crate) struct Member {
 
 impl Model for Member {
     ghost use Rattle.std.specs.Prelude.{◌≡◌, []};
-    ghost use Rattle.pres_client.specs.Clients.{State};
+    ghost use Rattle.pres_client.specs.Clients.{ClientState};
 
-    ghost Value = { State };
+    ghost Value = { ClientState };
 
     ghost view = { λ m. m.client };
 

@@ -4,10 +4,10 @@ ghost use Rattle.std.specs.Prelude.{◌≡◌, ◌⊎◌, ◌++◌, [], Some, No
 ghost use Rattle.std.specs.FinMap.Entries.{find, put};
 ghost use Rattle.pres_ids.specs.Ids.{client_cmp};
 ghost use Rattle.pres_client.specs.Calls.{refusal, after_call};
-ghost use Rattle.pres_client.specs.Clients.{State};
-ghost use Rattle.pres_client.specs.Receiving.{after_receive};
+ghost use Rattle.pres_client.specs.Clients.{ClientState};
+ghost use Rattle.pres_client.specs.ReceivedMessages.{after_receive};
 ghost use Rattle.pres_world.specs.Faults.{fault_of};
-ghost use Rattle.pres_world.specs.Members.{acknowledged, handed_out, started_again};
+ghost use Rattle.pres_world.specs.WorldClients.{acknowledged, handed_out, started_again};
 ghost use Rattle.pres_world.specs.Worlds.{joined};
 ghost use Rattle.pres_world.specs.declared.fault.WorldFault.TheVariants.{Memory, NoSuch};
 
@@ -72,9 +72,9 @@ impl Members {
 
     /// What the client noted since the last time: nothing where there is no such client.
     pub(crate) fn take_notices(&mut self, id: &ClientId) -> Vec<Notice>
-        ensures given { (c : State) → find client_cmp id.now self.old ≡ Some c
+        ensures given { (c : ClientState) → find client_cmp id.now self.old ≡ Some c
             → result.items ≡ c.notices }
-        ensures left { (c : State) → find client_cmp id.now self.old ≡ Some c
+        ensures left { (c : ClientState) → find client_cmp id.now self.old ≡ Some c
             → self.new ≡ put client_cmp id.now (record c { notices = [] }) self.old }
         ensures stranger { find client_cmp id.now self.old ≡ None
             → (result.items ≡ []) × (self.new ≡ self.old) }
@@ -92,13 +92,13 @@ impl Members {
         call: Call,
         ups: &mut Vec<Up>,
     ) -> Result<(), WorldFault>
-        ensures ok { OnOk result ((c : State) × (find client_cmp id.now self.old ≡ Some c)
+        ensures ok { OnOk result ((c : ClientState) × (find client_cmp id.now self.old ≡ Some c)
             × (refusal c call ≡ None)
             × (self.new ≡ put client_cmp id.now (handed_out (after_call c call)) self.old)
             × (ups.new.items ≡ ups.old.items ++ (after_call c call).sends)) }
         ensures refused { IfErr result (λ e. (e ≡ Memory)
             ⊎ (((e ≡ NoSuch) × (find client_cmp id.now self.old ≡ None))
-            ⊎ ((c : State) × (f : _) × (find client_cmp id.now self.old ≡ Some c)
+            ⊎ ((c : ClientState) × (f : _) × (find client_cmp id.now self.old ≡ Some c)
             × (refusal c call ≡ Some f) × (e ≡ fault_of f)))) }
         ensures stays { OnErr result ((self.new ≡ self.old) × (ups.new.items ≡ ups.old.items)) }
     {
@@ -118,7 +118,7 @@ impl Members {
         ups: &mut Vec<Up>,
         acks: &mut Vec<Down>,
     ) -> Result<(), WorldFault>
-        ensures ok { OnOk result ((c : State) × (find client_cmp id.now self.old ≡ Some c)
+        ensures ok { OnOk result ((c : ClientState) × (find client_cmp id.now self.old ≡ Some c)
             × (self.new ≡ put client_cmp id.now (handed_out (after_receive c message.now)) self.old)
             × (ups.new.items ≡ ups.old.items ++ (after_receive c message.now).sends)
             × (acks.new.items ≡ acks.old.items ++ acknowledged c message.now)) }
@@ -135,7 +135,7 @@ impl Members {
 
     /// The client's program starts again.
     pub(crate) fn start_again(&mut self, id: &ClientId) -> Result<(), WorldFault>
-        ensures ok { OnOk result ((c : State) × (find client_cmp id.now self.old ≡ Some c)
+        ensures ok { OnOk result ((c : ClientState) × (find client_cmp id.now self.old ≡ Some c)
             × (self.new ≡ put client_cmp id.now (started_again id.now c) self.old)) }
         ensures refused { IfErr result (λ e. (e ≡ Memory)
             ⊎ ((e ≡ NoSuch) × (find client_cmp id.now self.old ≡ None))) }

@@ -3,14 +3,14 @@
 ghost use Rattle.std.specs.Prelude.{◌≡◌, List, [], None, IfOk, IfErr, OnOk, OnErr, option_copied};
 ghost use Rattle.std.specs.FinMap.Entries.{find, put};
 ghost use Rattle.pres_ids.specs.Ids.{ClientId, client_cmp};
-ghost use Rattle.pres_client.specs.Clients.{State};
+ghost use Rattle.pres_client.specs.Clients.{ClientState};
 ghost use Rattle.pres_log.specs.Logs.{item_at};
 ghost use Rattle.pres_server.specs.LegalLog.{IsLegal};
 ghost use Rattle.pres_world.specs.Distinct.{AreDistinct};
 ghost use Rattle.pres_world.specs.Orderly.{CancelsStand, EndsStand, SessionsStand, WritesStand};
-ghost use Rattle.pres_world.specs.Safe.{IsSafe, Occurrence, Passes};
-ghost use Rattle.pres_world.specs.Served.{Serves};
-ghost use Rattle.pres_world.specs.Worlds.{IsCall, IsClient, IsArrival, IsDelivery, IsLoss, IsStart, IsRestart, IsStep, IsStop, IsRefused, IsCutShort, Lacks, Reaches, new_world};
+ghost use Rattle.pres_world.specs.Safe.{IsSafe, Occurrence, Reaches};
+ghost use Rattle.pres_world.specs.ServerSides.{ServerSideInvariant};
+ghost use Rattle.pres_world.specs.Worlds.{IsCall, IsClient, IsArrival, IsDelivery, IsLoss, IsStart, IsRestart, IsStep, IsStop, IsRefused, IsCutShort, Lacks, RunsTo, new_world};
 ghost use Rattle.pres_world.specs.declared.event.Ending.TheVariants as ending;
 ghost use Rattle.pres_world.specs.declared.event.Event.TheVariants as event;
 ghost use Rattle.pres_world.specs.declared.fault.WorldFault.TheVariants.{Memory};
@@ -19,7 +19,7 @@ use crate::event::{Ending, Event};
 use crate::fault::WorldFault;
 use crate::laws::legal_logs_are_orderly;
 use crate::members::Members;
-use crate::serving::Serving;
+use crate::server_side::ServerSide;
 use pres_client::{Client, Notice};
 use pres_server::{Batch, ClientId, Down, Input, Moment, Server, Up};
 use std::alloc::{AllocError, Global};
@@ -28,7 +28,7 @@ use std::marker::Model;
 /// A server, its clients and the packets between them. Contracts see it as plain data.
 pub struct World {
     alloc: Global,
-    serving: Serving,
+    serving: ServerSide,
     members: Members,
     ups: Vec<Up>,
     acks: Vec<Down>,
@@ -74,7 +74,7 @@ impl World {
         }
         Ok(World {
             alloc,
-            serving: Serving::new(alloc),
+            serving: ServerSide::new(alloc),
             members,
             ups: Vec::new(alloc),
             acks: Vec::new(alloc),
@@ -84,7 +84,7 @@ impl World {
     /// The server, while it runs.
     pub fn server(&self) -> Option<&Server>
         ensures server { option_copied result ≡ self.now.serving.server }
-        ensures serves { Serves self.now.serving }
+        ensures serves { ServerSideInvariant self.now.serving }
     {
         self.serving.server()
     }
@@ -135,8 +135,8 @@ impl World {
 
     /// What the client noted since the last time: nothing where there is no such client.
     pub fn take_notices(&mut self, id: &ClientId) -> Vec<Notice>
-        ensures given { (c : State) → IsClient self.old id.now c → result.items ≡ c.notices }
-        ensures left { (c : State) → IsClient self.old id.now c → self.new ≡ record self.old {
+        ensures given { (c : ClientState) → IsClient self.old id.now c → result.items ≡ c.notices }
+        ensures left { (c : ClientState) → IsClient self.old id.now c → self.new ≡ record self.old {
           clients = put client_cmp id.now (record c { notices = [] }) self.old.clients;
         } }
         ensures stranger { find client_cmp id.now self.old.clients ≡ None
@@ -212,10 +212,10 @@ impl World {
     /// stands there as it was sent; and each session that ended did so once, by all that was due and
     /// nothing that was cancelled, before any entry of a later session of its client.
     pub fn run(&mut self, events: Vec<Event>) -> Result<(), WorldFault>
-        ensures ok { OnOk result (Reaches self.old events.items self.new) }
+        ensures ok { OnOk result (RunsTo self.old events.items self.new) }
         ensures err { IfErr result (IsCutShort self.old events.items self.new) }
         ensures safe { (ids : List ClientId) (before : List Occurrence)
-            → Passes (new_world ids) before self.old → IsSafe self.new }
+            → Reaches (new_world ids) before self.old → IsSafe self.new }
     {
         for event in events {
             self.step(event)?;

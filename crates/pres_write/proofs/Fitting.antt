@@ -4,7 +4,7 @@ use Rattle.std.specs.Option.{option_map}
 use Rattle.std.specs.Ordering.{eq_by_cmp}
 use Rattle.pres_tree.specs.Paths.{Path, path_cmp}
 use Rattle.pres_tree.specs.Rows.{Rows, Fits, leaf_at, with_leaves}
-use Rattle.pres_write.specs.declared.draft.Slot.{Slot}
+use Rattle.pres_write.specs.declared.draft.DraftLeaf.{DraftLeaf}
 use Rattle.pres_write.specs.Drafts.{settled, settled_slot}
 
 cond_some : {A B : Type 0} (f : A → B) (b : Bool) (a : A) (o : Option A) (q : Option B) → q ≡ option_map f o → cond b (Some (f a)) q ≡ option_map f (cond b (Some a) o)
@@ -19,5 +19,5 @@ was_some : {A B : Type 0} (f : A → B) (o : Option A) → is_some (option_map f
 was_some f None = refl
 was_some f (Some a) = refl
 
-pub fits_settled : (p : Path) (d : Rows Slot) (moment : ℕ) → Fits p d → Fits p (settled moment d)
+pub fits_settled : (p : Path) (d : Rows DraftLeaf) (moment : ℕ) → Fits p d → Fits p (settled moment d)
 fits_settled p d moment h x k = h x (sym (ap is_some (leaf_at-with_leaves (settled_slot moment) d x) ∙ was_some (settled_slot moment) (leaf_at d x)) ∙ k)

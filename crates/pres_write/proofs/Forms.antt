@@ -8,9 +8,9 @@ use Rattle.pres_tree.specs.declared.scalar.Scalar.{Scalar}
 use Rattle.pres_tree.specs.declared.fault.TreeFault.{TreeFault}
 use Rattle.pres_tree.specs.Keys.{Key, key_cmp, key_fault}
 use Rattle.pres_tree.specs.Paths.{path_cmp, sorted_by}
-use Rattle.pres_tree.specs.Reading.{HasKeys, KeyedFault, rows_or, fault_or, fault_at, fault_in, first_of, rows_of, fault_of, items_rows, items_fault, members_rows, members_fault}
+use Rattle.pres_tree.specs.JsonReading.{HasKeys, KeyedFault, rows_or, fault_or, fault_at, fault_in, first_of, rows_of, fault_of, items_rows, items_fault, members_rows, members_fault}
 use Rattle.pres_tree.specs.Rows.{Rows, height, placed}
-use Rattle.pres_tree.specs.Printing.{ReadsBack}
+use Rattle.pres_tree.specs.JsonPrinting.{ReadsBack}
 use Rattle.pres_tree.specs.Scalars.{scalar_reading}
 use Rattle.pres_write.specs.Drafts.{fixed_reading, unless_placeholder}
 use Rattle.pres_write.specs.Placeholders.{no_placeholder}

@@ -21,9 +21,9 @@ use Rattle.serde_json.specs.Data.{Data, Members, no_members, member}
 use Rattle.pres_tree.specs.declared.fault.TreeFault.{TreeFault}
 use Rattle.pres_tree.specs.Falls.{path_total, path_same}
 use Rattle.pres_tree.specs.Paths.{Path, path_cmp, segments, meet, overlap, sorted_by}
-use Rattle.pres_tree.specs.Reading.{rows_of}
+use Rattle.pres_tree.specs.JsonReading.{rows_of}
 use Rattle.pres_tree.specs.Rows.{Rows}
-use Rattle.pres_write.specs.declared.draft.Slot.{Slot}
+use Rattle.pres_write.specs.declared.draft.DraftLeaf.{DraftLeaf}
 use Rattle.pres_write.specs.Drafts.{slot_reading}
 use Rattle.pres_write.specs.OpForms.{unless, below_read, place_fault, places_fault, places_read}
 use Rattle.pres_write.specs.Updates.{Places, FitsBelow, most_places}
@@ -44,11 +44,11 @@ pub record Read (p : Path) (all left : Members) (twice : Bool) (es : Places) : T
 pub read_start : (p : Path) (all : Members) → Read p all all false []
 read_start p all = record { done = []; is = refl; fault = refl; few = omega arith; fit = All-nil (FitsBelow p); same_keys = λ f. refl; meets = refl; sorted = λ h. refl }
 
-keys-append : (es : Places) (e : Path × Rows Slot) → keys_of (es ++ e ∷ []) ≡ keys_of es ++ e.0 ∷ []
+keys-append : (es : Places) (e : Path × Rows DraftLeaf) → keys_of (es ++ e ∷ []) ≡ keys_of es ++ e.0 ∷ []
 keys-append [] e = refl
 keys-append (f ∷ es) e = ap (λ ks. f.0 ∷ ks) (keys-append es e)
 
-pub fit-put : (p : Path) (k : Path) (v : Rows Slot) (es : Places) → FitsBelow p (k, v) → All (FitsBelow p) es → All (FitsBelow p) (insert_entry path_cmp es k v)
+pub fit-put : (p : Path) (k : Path) (v : Rows DraftLeaf) (es : Places) → FitsBelow p (k, v) → All (FitsBelow p) es → All (FitsBelow p) (insert_entry path_cmp es k v)
 fit-put p k v [] here h = All-cons (FitsBelow p) (k, v) [] here h
 fit-put p k v (e ∷ es) here h = elim (path_cmp k e.0) as (λ r. path_cmp k e.0 ≡ r → All (FitsBelow p) (match_ordering r ((k, v) ∷ e ∷ es) ((e.0, v) ∷ es) (e ∷ insert_entry path_cmp es k v))) [
   | Less ↦ λ t. All-cons (FitsBelow p) (k, v) (e ∷ es) here h
@@ -64,7 +64,7 @@ found-meets q (e ∷ es) h = elim (eq_by_cmp path_cmp q e.0) as (λ b. eq_by_cmp
   | false ↦ λ t g. ap (λ b. meet q e.0 || b) (found-meets q es g) ∙ or_swap (meet q e.0) true
 ] refl h
 
-module _ (p : Path) (all left : Members) (name : List ℕ) (d : Data) (twice : Bool) (es : Places) (r : Read p all (member name d left) twice es) (q : Path) (v : Rows Slot) (place : ◌≡◌ {A = Path × Rows Slot} (q, v) (segments name, rows_of slot_reading d)) (good : place_fault p name d ≡ None) (fits : FitsBelow p (q, v)) where
+module _ (p : Path) (all left : Members) (name : List ℕ) (d : Data) (twice : Bool) (es : Places) (r : Read p all (member name d left) twice es) (q : Path) (v : Rows DraftLeaf) (place : ◌≡◌ {A = Path × Rows DraftLeaf} (q, v) (segments name, rows_of slot_reading d)) (good : place_fault p name d ≡ None) (fits : FitsBelow p (q, v)) where
   abbrev pub now : Places
   now = insert_entry path_cmp es q v
 

@@ -23,11 +23,11 @@ use Rattle.pres_tree.specs.declared.fault.TreeFault.TheVariants.{TooDeep}
 use Rattle.pres_tree.specs.Falls.{path_total, path_same}
 use Rattle.pres_tree.specs.Keys.{Key, key_cmp}
 use Rattle.pres_tree.specs.Paths.{Path, IsPath, path_cmp, path_text, segments, meet, overlap, sorted_by}
-use Rattle.pres_tree.specs.Printing.{json_of, ReadsBack}
-use Rattle.pres_tree.specs.Reading.{rows_of}
+use Rattle.pres_tree.specs.JsonPrinting.{json_of, ReadsBack}
+use Rattle.pres_tree.specs.JsonReading.{rows_of}
 use Rattle.pres_tree.specs.Rows.{Rows, height}
 use Rattle.pres_tree.proofs.Texts.{segments-name, path_fault-name, path_rest}
-use Rattle.pres_write.specs.declared.draft.Slot.{Slot}
+use Rattle.pres_write.specs.declared.draft.DraftLeaf.{DraftLeaf}
 use Rattle.pres_write.specs.declared.fault.WriteFault.TheVariants.{Overlap, ManyPaths}
 use Rattle.pres_write.specs.Drafts.{slot_reading, slot_printing}
 use Rattle.pres_write.specs.OpForms.{unless, below_read, place_fault, places_fault, places_read, named, members_from, values_json}
@@ -46,7 +46,7 @@ Named = List (List ℕ × Data)
 abbrev name_of : Path → List ℕ
 name_of p = drop 1 (path_text p)
 
-abbrev named_place : Path × Rows Slot → List ℕ × Data
+abbrev named_place : Path × Rows DraftLeaf → List ℕ × Data
 named_place e = (name_of e.0, json_of slot_printing e.1)
 
 -- ---- the members that are made
@@ -66,22 +66,22 @@ pairs-insert (m ∷ ms) name v = elim (key_cmp (string_bytes name) (string_bytes
   | Greater ↦ ap (λ es. (string_bytes m.0, view m.1) ∷ es) (pairs-insert ms name v)
 ]
 
-named-append : (done : Places) (e : Path × Rows Slot) → named (done ++ e ∷ []) ≡ named done ++ named_place e ∷ []
+named-append : (done : Places) (e : Path × Rows DraftLeaf) → named (done ++ e ∷ []) ≡ named done ++ named_place e ∷ []
 named-append [] e = refl
 named-append (f ∷ done) e = ap (λ es. named_place f ∷ es) (named-append done e)
 
-fits_path : (p q : Path) (v : Rows Slot) → FitsBelow p (q, v) → IsPath q
+fits_path : (p q : Path) (v : Rows DraftLeaf) → FitsBelow p (q, v) → IsPath q
 fits_path p q v h = path_rest p q h.0
 
 -- different places have different names
-same_names : (p q r : Path) (v w : Rows Slot) → FitsBelow p (q, v) → FitsBelow p (r, w) → name_of q ≡ name_of r → q ≡ r
+same_names : (p q r : Path) (v w : Rows DraftLeaf) → FitsBelow p (q, v) → FitsBelow p (r, w) → name_of q ≡ name_of r → q ≡ r
 same_names p q r v w h g e = sym (segments-name q (fits_path p q v h)) ∙ ap segments e ∙ segments-name r (fits_path p r w g)
 
-less-later : (q : Path) (done : Places) (e : Path × Rows Slot) (left : Places) → AllByRecursion (λ x. path_cmp q x ≡ Less) (keys_of (done ++ e ∷ left)) → path_cmp q e.0 ≡ Less
+less-later : (q : Path) (done : Places) (e : Path × Rows DraftLeaf) (left : Places) → AllByRecursion (λ x. path_cmp q x ≡ Less) (keys_of (done ++ e ∷ left)) → path_cmp q e.0 ≡ Less
 less-later q [] e left h = h.0
 less-later q (f ∷ done) e left h = less-later q done e left h.1
 
-new_name : (p : Path) (done : Places) (e : Path × Rows Slot) (left : Places) → IsStrictlySortedBy path_cmp (keys_of (done ++ e ∷ left)) → All (FitsBelow p) (done ++ e ∷ left) → find key_cmp (name_of e.0) (named done) ≡ None
+new_name : (p : Path) (done : Places) (e : Path × Rows DraftLeaf) (left : Places) → IsStrictlySortedBy path_cmp (keys_of (done ++ e ∷ left)) → All (FitsBelow p) (done ++ e ∷ left) → find key_cmp (name_of e.0) (named done) ≡ None
 unfolding IsStrictlySortedBy
 new_name p [] e left order fit = refl
 new_name p (f ∷ done) e left order fit = elim (eq_by_cmp key_cmp (name_of e.0) (name_of f.0)) as (λ b. eq_by_cmp key_cmp (name_of e.0) (name_of f.0) ≡ b → cond b (Some (json_of slot_printing f.1)) (find key_cmp (name_of e.0) (named done)) ≡ None) [
@@ -93,7 +93,7 @@ new_name p (f ∷ done) e left order fit = elim (eq_by_cmp key_cmp (name_of e.0)
 ] refl
 
 -- one place more is printed
-pub pairs-more : (p : Path) (ms : List (String Global × Value)) (name : String Global) (v : Value) (done : Places) (e : Path × Rows Slot) (left : Places)
+pub pairs-more : (p : Path) (ms : List (String Global × Value)) (name : String Global) (v : Value) (done : Places) (e : Path × Rows DraftLeaf) (left : Places)
     → pairs ms ≡ sorted_by key_cmp (named done) → string_bytes name ≡ drop 1 (path_text e.0) → view v ≡ json_of slot_printing e.1
     → IsStrictlySortedBy path_cmp (keys_of (done ++ e ∷ left)) → All (FitsBelow p) (done ++ e ∷ left)
     → pairs (insert_entry (λ x y. key_cmp (string_bytes x) (string_bytes y)) ms name v) ≡ sorted_by key_cmp (named (done ++ e ∷ []))
@@ -108,7 +108,7 @@ pairs-more p ms name v done e left so_far named_as made order fit =
 abbrev seg : List ℕ × Data → Path
 seg x = segments x.0
 
-abbrev place_of : List ℕ × Data → Path × Rows Slot
+abbrev place_of : List ℕ × Data → Path × Rows DraftLeaf
 place_of x = (segments x.0, rows_of slot_reading x.1)
 
 places_read-from : (es : Named) → places_read (members_from es) ≡ map place_of es
@@ -120,10 +120,10 @@ keys-places [] = refl
 keys-places (e ∷ es) = ap (λ ps. segments e.0 ∷ ps) (keys-places es)
 
 -- what is read of a place's draft is that draft
-abbrev pub DraftReads : Path × Rows Slot → Type 0
+abbrev pub DraftReads : Path × Rows DraftLeaf → Type 0
 DraftReads e = ReadsBack slot_reading e.1 (json_of slot_printing e.1)
 
-pub reads-append : (done : Places) (e : Path × Rows Slot) → AllByRecursion DraftReads done → DraftReads e → AllByRecursion DraftReads (done ++ e ∷ [])
+pub reads-append : (done : Places) (e : Path × Rows DraftLeaf) → AllByRecursion DraftReads done → DraftReads e → AllByRecursion DraftReads (done ++ e ∷ [])
 reads-append [] e h here = (here, tt)
 reads-append (f ∷ done) e h here = (h.0, reads-append done e h.1 here)
 
@@ -136,7 +136,7 @@ named-places p (e ∷ es) fit reads =
 abbrev Sound : Path → List ℕ × Data → Type 0
 Sound p x = place_fault p x.0 x.1 ≡ None
 
-sound-place : (p : Path) (e : Path × Rows Slot) → FitsBelow p e → DraftReads e → Sound p (named_place e)
+sound-place : (p : Path) (e : Path × Rows DraftLeaf) → FitsBelow p e → DraftReads e → Sound p (named_place e)
 sound-place p e fits reads =
     let path = fits_path p e.0 e.1 fits in
     let keys : length p + length (segments (name_of e.0)) ≡ length (p ++ e.0) = ap (λ q. length p + length q) (segments-name e.0 path) ∙ sym (length-append p e.0) in

@@ -15,7 +15,7 @@ use Rattle.pres_tree.specs.Keys.{Key, key_cmp, same_key}
 use Rattle.pres_tree.specs.Paths.{Path, path_cmp, below, is_prefix, meet, overlap}
 use Rattle.pres_tree.proofs.Found.{key_same}
 use Rattle.pres_tree.specs.Rows.{Rows}
-use Rattle.pres_write.specs.declared.draft.Slot.{Slot}
+use Rattle.pres_write.specs.declared.draft.DraftLeaf.{DraftLeaf}
 use Rattle.pres_write.specs.Basics.{basic}
 use Rattle.pres_write.specs.Drafts.{settled}
 use Rattle.pres_write.specs.Updates.{Places, update_writes}
@@ -166,6 +166,6 @@ paths_of_writes p moment [] = refl
 paths_of_writes p moment (e ∷ es) = ap (λ ps. (p ++ e.0) ∷ ps) (paths_of_writes p moment es)
 
 -- the write of one place more
-pub writes_more : (p : Path) (moment : ℕ) (done : Places) (e : Path × Rows Slot) → update_writes moment (record { path = p; places = done ++ e ∷ [] }) ≡ update_writes moment (record { path = p; places = done }) ++ basic (p ++ e.0) (settled moment e.1) ∷ []
+pub writes_more : (p : Path) (moment : ℕ) (done : Places) (e : Path × Rows DraftLeaf) → update_writes moment (record { path = p; places = done ++ e ∷ [] }) ≡ update_writes moment (record { path = p; places = done }) ++ basic (p ++ e.0) (settled moment e.1) ∷ []
 writes_more p moment [] e = refl
 writes_more p moment (d ∷ done) e = ap (λ ws. basic (p ++ d.0) (settled moment d.1) ∷ ws) (writes_more p moment done e)

@@ -6,10 +6,10 @@ use Rattle.serde_json.specs.View.{view}
 use Rattle.serde_json.specs.declared.value.Value.{Value}
 use Rattle.serde_json.specs.Data.{Data}
 use Rattle.pres_tree.specs.Paths.{Path, segments, path_fault, path_text}
-use Rattle.pres_tree.specs.Reading.{rows_of, fault_of}
+use Rattle.pres_tree.specs.JsonReading.{rows_of, fault_of}
 use Rattle.pres_tree.specs.Rows.{Rows, height}
-use Rattle.pres_tree.specs.Printing.{ReadsBack}
-use Rattle.pres_write.specs.declared.draft.Slot.{Slot}
+use Rattle.pres_tree.specs.JsonPrinting.{ReadsBack}
+use Rattle.pres_write.specs.declared.draft.DraftLeaf.{DraftLeaf}
 use Rattle.pres_write.specs.declared.op.Op.{Op}
 use Rattle.pres_write.specs.declared.op.Op.TheVariants.{Set, Tx}
 use Rattle.pres_write.specs.Drafts.{slot_reading, fixed_reading}
@@ -18,14 +18,14 @@ use Rattle.pres_write.specs.Transactions.{Comparison}
 use Rattle.pres_write.specs.declared.fault.WriteFault.{WriteFault}
 
 -- what is read of a path that is printed as the text, and of a draft that is read back
-reads_set : (p : Path) (v : Rows Slot) (d : Data) → segments (path_text p) ≡ p → path_fault (path_text p) ≡ None → ReadsBack slot_reading v d → height v ≤ 33 - length p → set_read (path_text p) d ≡ Ok (Set (p, v))
+reads_set : (p : Path) (v : Rows DraftLeaf) (d : Data) → segments (path_text p) ≡ p → path_fault (path_text p) ≡ None → ReadsBack slot_reading v d → height v ≤ 33 - length p → set_read (path_text p) d ≡ Ok (Set (p, v))
 reads_set p v d keys sound reads low =
     ap (λ o. unless o (unless (fault_of slot_reading (33 - length (segments (path_text p))) d) (Ok (Set (segments (path_text p), rows_of slot_reading d))))) sound
     ∙ ap (λ q. unless (fault_of slot_reading (33 - length q) d) (Ok (Set (q, rows_of slot_reading d)))) keys
     ∙ ap (λ o. unless o (Ok (Set (p, rows_of slot_reading d)))) (reads.1 (33 - length p) low)
     ∙ ap (λ u. Ok (Set (p, u))) reads.0
 
-pub reads_put : (p : Path) (v : Rows Slot) (d : Data) → segments (path_text p) ≡ p → path_fault (path_text p) ≡ None → ReadsBack slot_reading v d → height v ≤ 33 - length p → op_read (set_form (path_text p) d) ≡ Ok (Set (p, v))
+pub reads_put : (p : Path) (v : Rows DraftLeaf) (d : Data) → segments (path_text p) ≡ p → path_fault (path_text p) ≡ None → ReadsBack slot_reading v d → height v ≤ 33 - length p → op_read (set_form (path_text p) d) ≡ Ok (Set (p, v))
 reads_put p v d keys sound reads low = reads_set p v d keys sound reads low
 
 pub reads_tx : (t : Comparison) (e d : Data) → segments (path_text t.path) ≡ t.path → path_fault (path_text t.path) ≡ None → ReadsBack fixed_reading t.expect e → ReadsBack slot_reading t.new d → height t.expect ≤ 33 - length t.path → height t.new ≤ 33 - length t.path → op_read (tx_form (path_text t.path) e d) ≡ Ok (Tx t)

@@ -15,14 +15,14 @@ use Rattle.std.proofs.lemmas.Bool.Decides.{nat_tests}
 use Rattle.pres_tree.specs.Falls.{path_total}
 use Rattle.pres_tree.specs.Paths.{Path, path_cmp, is_prefix, meet, overlap}
 use Rattle.pres_tree.specs.Rows.{Rows}
-use Rattle.pres_write.specs.declared.draft.Slot.{Slot}
+use Rattle.pres_write.specs.declared.draft.DraftLeaf.{DraftLeaf}
 use Rattle.pres_write.specs.Unconditionals.{ArePuts, may_be_puts}
 use Rattle.pres_write.specs.Updates.{Places, most_places}
 use Rattle.pres_write.proofs.Ordered.{rising_keys}
 use Rattle.pres_write.proofs.Overlaps.{overlap-next}
 
 -- whether the path of the first is before that of the second and not above it
-abbrev pub steps : Path × Rows Slot → Path × Rows Slot → Bool
+abbrev pub steps : Path × Rows DraftLeaf → Path × Rows DraftLeaf → Bool
 steps e f = is_lt (path_cmp e.0 f.0) && not (is_prefix e.0 f.0)
 
 -- the paths rise, none at or above another
@@ -56,7 +56,7 @@ below_more : (p q : Path) (xs : List Path) → path_cmp p q ≡ Less → AllByRe
 below_more p q [] low h = tt
 below_more p q (x ∷ xs) low h = (path_total.trans p q x low h.0, below_more p q xs low h.1)
 
-put_before : (e f : Path × Rows Slot) (es : Places) → steps e f ≡ true → Puttable (f ∷ es) → Puttable (e ∷ f ∷ es)
+put_before : (e f : Path × Rows DraftLeaf) (es : Places) → steps e f ≡ true → Puttable (f ∷ es) → Puttable (e ∷ f ∷ es)
 unfolding IsStrictlySortedBy
 put_before e f es step rest =
     let parts = both (is_lt (path_cmp e.0 f.0)) (not (is_prefix e.0 f.0)) step in
@@ -75,7 +75,7 @@ apart_parts p q ps h =
     let parts = neither (list_any (meet p) (q ∷ ps)) (overlap (q ∷ ps)) h in
     ((neither (is_prefix p q) (is_prefix q p) (neither (meet p q) (list_any (meet p) ps) parts.0).0).0, parts.1)
 
-some_stays : (es : Places) (k : ℕ) → k + 1 < length es → ((d : Path × Rows Slot) → false ≡ steps (slice_index_or es k d) (slice_index_or es (k + 1) d)) → Puttable es → ⊥
+some_stays : (es : Places) (k : ℕ) → k + 1 < length es → ((d : Path × Rows DraftLeaf) → false ≡ steps (slice_index_or es k d) (slice_index_or es (k + 1) d)) → Puttable es → ⊥
 unfolding IsStrictlySortedBy
 some_stays [] k l h put = absurd (omega arith)
 some_stays (e ∷ []) k l h put = absurd (omega arith)

@@ -9,7 +9,7 @@ use Rattle.std.specs.Cmp.{tied_itself}
 use Rattle.std.specs.Cmp.Lexicographic.{nat_list_cmp_total}
 use Rattle.pres_tree.specs.Paths.{Path, path_cmp, overlap}
 use Rattle.pres_tree.specs.Rows.{Rows}
-use Rattle.pres_write.specs.declared.draft.Slot.{Slot}
+use Rattle.pres_write.specs.declared.draft.DraftLeaf.{DraftLeaf}
 use Rattle.pres_write.specs.Unconditionals.{ArePuts, puts_below}
 use Rattle.pres_write.specs.Updates.{Places, PlacesBelow, IsUpdate, most_places}
 use Rattle.pres_write.proofs.Overlaps.{overlap-joined}
@@ -43,10 +43,10 @@ are_puts u h = record {
 }
 
 -- one place more
-pub puts_more : (p : Path) (done : Places) (e : Path × Rows Slot) → puts_below (record { path = p; places = done ++ e ∷ [] }) ≡ puts_below (record { path = p; places = done }) ++ (p ++ e.0, e.1) ∷ []
+pub puts_more : (p : Path) (done : Places) (e : Path × Rows DraftLeaf) → puts_below (record { path = p; places = done ++ e ∷ [] }) ≡ puts_below (record { path = p; places = done }) ++ (p ++ e.0, e.1) ∷ []
 puts_more p [] e = refl
 puts_more p (d ∷ done) e = ap (λ ps. (p ++ d.0, d.1) ∷ ps) (puts_more p done e)
 
-pub one_put : (e : Path × Rows Slot) → ArePuts (e ∷ [])
+pub one_put : (e : Path × Rows DraftLeaf) → ArePuts (e ∷ [])
 unfolding IsStrictlySortedBy
 one_put e = record { in_order = (tt, tt); apart = refl; few = omega arith }

@@ -7,8 +7,8 @@ use Rattle.serde_json.specs.Find.{get}
 use Rattle.serde_json.specs.View.{members_view}
 use Rattle.serde_json.specs.declared.value.Value.{Value}
 use Rattle.pres_tree.specs.declared.fault.TreeFault.TheVariants.{Placeholder}
-use Rattle.pres_tree.specs.Reading.{leaf, bad}
-use Rattle.pres_write.specs.declared.draft.Slot.TheVariants.{Timestamp}
+use Rattle.pres_tree.specs.JsonReading.{leaf, bad}
+use Rattle.pres_write.specs.declared.draft.DraftLeaf.TheVariants.{Timestamp}
 use Rattle.pres_write.specs.Drafts.{slot_reading, placeholder, is_one, is_timestamp}
 
 pub one_member : (ms : List (String Global × Value)) → length ms ≡ 1 → is_one (members_view ms) ≡ true

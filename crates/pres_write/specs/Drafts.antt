@@ -7,24 +7,24 @@ use Rattle.serde_json.specs.Find.{get_member}
 use Rattle.pres_tree.specs.declared.fault.TreeFault.TheVariants.{Placeholder}
 use Rattle.pres_tree.specs.declared.scalar.Scalar.{Scalar}
 use Rattle.pres_tree.specs.declared.scalar.Scalar.TheVariants.{Int}
-use Rattle.pres_tree.specs.Reading.{Reading, branch, leaf, bad}
+use Rattle.pres_tree.specs.JsonReading.{Reading, branch, leaf, bad}
 use Rattle.pres_tree.specs.Rows.{Rows, with_leaves}
 use Rattle.pres_tree.specs.Scalars.{scalar_reading, scalar_printing}
-use Rattle.pres_write.specs.declared.draft.Slot.{Slot}
-use Rattle.pres_write.specs.declared.draft.Slot.TheVariants.{Fixed, Timestamp}
+use Rattle.pres_write.specs.declared.draft.DraftLeaf.{DraftLeaf}
+use Rattle.pres_write.specs.declared.draft.DraftLeaf.TheVariants.{Fixed, Timestamp}
 
 -- a placeholder becomes the moment
-abbrev pub settled_slot : ℕ → Slot → Scalar
+abbrev pub settled_slot : ℕ → DraftLeaf → Scalar
 settled_slot moment (Fixed s) = s
 settled_slot moment Timestamp = Int (pos moment)
 
 -- what a draft comes to
-abbrev pub settled : ℕ → Rows Slot → Rows Scalar
+abbrev pub settled : ℕ → Rows DraftLeaf → Rows Scalar
 settled moment draft = with_leaves (settled_slot moment) draft
 
 -- ---- JSON
 
-abbrev pub fixed : Reading Scalar → Reading Slot
+abbrev pub fixed : Reading Scalar → Reading DraftLeaf
 fixed branch = branch
 fixed (leaf s) = leaf (Fixed s)
 fixed (bad e) = bad e
@@ -43,11 +43,11 @@ is_one (member k d no_members) = true
 is_one (member k d (member l e ms)) = false
 
 -- an object by its member `.sv`: that alone, and the word for the moment
-abbrev pub placeholder : Members → Option Data → Reading Slot
+abbrev pub placeholder : Members → Option Data → Reading DraftLeaf
 placeholder ms None = branch
 placeholder ms (Some d) = if is_one ms && is_timestamp d then leaf Timestamp else bad Placeholder
 
-abbrev pub slot_reading : Data → Reading Slot
+abbrev pub slot_reading : Data → Reading DraftLeaf
 slot_reading null = branch
 slot_reading (boolean b) = fixed (scalar_reading (boolean b))
 slot_reading (number n) = fixed (scalar_reading (number n))
@@ -68,6 +68,6 @@ fixed_reading (string s) = scalar_reading (string s)
 fixed_reading (array ds) = branch
 fixed_reading (object ms) = unless_placeholder (get_member (codes ".sv") ms)
 
-abbrev pub slot_printing : Slot → Data
+abbrev pub slot_printing : DraftLeaf → Data
 slot_printing (Fixed s) = scalar_printing s
 slot_printing Timestamp = object (member (codes ".sv") (string (codes "timestamp")) no_members)

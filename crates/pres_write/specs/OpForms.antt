@@ -10,8 +10,8 @@ use Rattle.serde_json.specs.Find.{get, as_str, as_object}
 use Rattle.pres_tree.specs.declared.fault.TreeFault.{TreeFault}
 use Rattle.pres_tree.specs.declared.fault.TreeFault.TheVariants.{Memory, TooDeep}
 use Rattle.pres_tree.specs.Paths.{Path, max_depth, segments, path_fault, path_text, path_cmp, sorted_by, overlap}
-use Rattle.pres_tree.specs.Reading.{levels_below, rows_of, fault_of}
-use Rattle.pres_tree.specs.Printing.{json_of}
+use Rattle.pres_tree.specs.JsonReading.{levels_below, rows_of, fault_of}
+use Rattle.pres_tree.specs.JsonPrinting.{json_of}
 use Rattle.pres_tree.specs.Scalars.{scalar_printing}
 use Rattle.pres_write.specs.declared.fault.WriteFault.{WriteFault}
 use Rattle.pres_write.specs.declared.fault.WriteFault.TheVariants.{Tree, Overlap, ManyPaths, Shape}

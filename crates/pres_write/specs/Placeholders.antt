@@ -8,7 +8,7 @@ use Rattle.std.specs.FinMap.{nat_cmp-IsAntisymmetric, slice_cmp-IsAntisymmetric}
 use Rattle.serde_json.specs.Data.{object, Members, no_members, member}
 use Rattle.serde_json.specs.Find.{get_member}
 use Rattle.pres_tree.specs.Keys.{is_key}
-use Rattle.pres_tree.specs.Reading.{HasKeys, branch}
+use Rattle.pres_tree.specs.JsonReading.{HasKeys, branch}
 use Rattle.pres_write.specs.Drafts.{slot_reading, placeholder}
 
 abbrev pub sv : List ℕ

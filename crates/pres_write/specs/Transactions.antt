@@ -2,14 +2,14 @@
 use Rattle.pres_tree.specs.declared.scalar.Scalar.{Scalar}
 use Rattle.pres_tree.specs.Paths.{Path}
 use Rattle.pres_tree.specs.Rows.{Rows, Fits}
-use Rattle.pres_write.specs.declared.draft.Slot.{Slot}
+use Rattle.pres_write.specs.declared.draft.DraftLeaf.{DraftLeaf}
 
 pub record Comparison : Type 0 where
   pub path : Path
   pub expect : Rows Scalar
-  pub new : Rows Slot
+  pub new : Rows DraftLeaf
 
-abbrev pub comparison : Path → Rows Scalar → Rows Slot → Comparison
+abbrev pub comparison : Path → Rows Scalar → Rows DraftLeaf → Comparison
 comparison path expect new = record { path = path; expect = expect; new = new }
 
 -- what every transaction keeps

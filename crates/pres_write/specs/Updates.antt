@@ -9,13 +9,13 @@ use Rattle.pres_tree.specs.declared.fault.TreeFault.TheVariants.{TooDeep}
 use Rattle.pres_write.specs.declared.basic.Basic.{Basic}
 use Rattle.pres_write.specs.declared.fault.WriteFault.{WriteFault}
 use Rattle.pres_write.specs.declared.fault.WriteFault.TheVariants.{Tree, Overlap, ManyPaths}
-use Rattle.pres_write.specs.declared.draft.Slot.{Slot}
+use Rattle.pres_write.specs.declared.draft.DraftLeaf.{DraftLeaf}
 use Rattle.pres_write.specs.Basics.{basic}
 use Rattle.pres_write.specs.Drafts.{settled}
 
 -- drafts at places
 abbrev pub Places : Type 0
-Places = List (Path × Rows Slot)
+Places = List (Path × Rows DraftLeaf)
 
 -- the places stand below the path
 pub record PlacesBelow : Type 0 where
@@ -23,7 +23,7 @@ pub record PlacesBelow : Type 0 where
   pub places : Places
 
 -- the place is a path below the other one, and so is each place of its draft
-abbrev pub FitsBelow : Path → Path × Rows Slot → Type 0
+abbrev pub FitsBelow : Path → Path × Rows DraftLeaf → Type 0
 FitsBelow p place = IsPath (p ++ place.0) × Fits (p ++ place.0) place.1
 
 -- the most places of an update
@@ -41,7 +41,7 @@ pub record IsUpdate (u : PlacesBelow) : Type 0 where
 -- ---- updates of given drafts
 
 -- a place that is no path below the path, or whose draft is nested too deep there
-abbrev pub is_deep_below : Path → Path × Rows Slot → Bool
+abbrev pub is_deep_below : Path → Path × Rows DraftLeaf → Bool
 is_deep_below p place = nat_lt max_depth (length p + length place.0 + depth_of place.1)
 
 -- why drafts at places below a path are no update

@@ -2,7 +2,7 @@
 
 ghost use Rattle.std.specs.Prelude.{◌≡◌};
 
-use crate::draft::{Draft, Slot, SlotForm};
+use crate::draft::{Draft, DraftLeaf, DraftLeafForm};
 use crate::fault::WriteFault;
 use crate::op::{Op, op_value, read_op};
 use pres_tree::{TreeFault, from_value};
@@ -13,9 +13,9 @@ use std::alloc::{AllocError, Global};
 pub trait OfDraft {
     ghost use Rattle.std.specs.Prelude.{◌≡◌};
     ghost use Rattle.pres_tree.specs.Rows.{Rows};
-    ghost use Rattle.pres_write.specs.declared.draft.Slot.{Slot};
+    ghost use Rattle.pres_write.specs.declared.draft.DraftLeaf.{DraftLeaf};
 
-    ghost rows: { Self → Rows Slot };
+    ghost rows: { Self → Rows DraftLeaf };
 
     /// Itself, which is moved.
     fn of_draft(draft: Draft) -> Self
@@ -36,13 +36,13 @@ pub trait DraftJson {
     ghost use Rattle.std.specs.Prelude.{◌≡◌, ◌+◌, ◌⊎◌, MatchResult, Some, None};
     ghost use Rattle.serde_json.specs.View.{view};
     ghost use Rattle.pres_tree.specs.Paths.{max_depth};
-    ghost use Rattle.pres_tree.specs.Reading.{rows_of, fault_of};
+    ghost use Rattle.pres_tree.specs.JsonReading.{rows_of, fault_of};
     ghost use Rattle.pres_tree.specs.Rows.{Rows};
     ghost use Rattle.pres_tree.specs.declared.fault.TreeFault.TheVariants.{Memory};
     ghost use Rattle.pres_write.specs.Drafts.{slot_reading};
-    ghost use Rattle.pres_write.specs.declared.draft.Slot.{Slot};
+    ghost use Rattle.pres_write.specs.declared.draft.DraftLeaf.{DraftLeaf};
 
-    ghost rows: { Self → Rows Slot };
+    ghost rows: { Self → Rows DraftLeaf };
 
     /// The draft of a JSON value: arrays under their indexes, nulls and objects without
     /// children left out. The first fault of a depth-first walk in byte order of keys is
@@ -60,7 +60,7 @@ impl<T: OfDraft> DraftJson for T {
     ghost rows = { T.rows };
 
     fn from_value(alloc: Global, value: &Value) -> Result<T, TreeFault> {
-        Ok(T::of_draft(from_value::<Slot, SlotForm>(alloc, value)?))
+        Ok(T::of_draft(from_value::<DraftLeaf, DraftLeafForm>(alloc, value)?))
     }
 }
 

@@ -2,12 +2,12 @@
 
 ghost use Rattle.std.specs.Prelude.{◌≡◌, ◌++◌, IfOk, OnOk};
 ghost use Rattle.serde_json.specs.View.{view};
-ghost use Rattle.pres_tree.specs.Printing.{tokens_of};
+ghost use Rattle.pres_tree.specs.JsonPrinting.{tokens_of};
 ghost use Rattle.pres_write.specs.Drafts.{is_timestamp, settled, slot_printing};
 
 use crate::moment::Moment;
 use json::Writer;
-use pres_tree::{Change, Form, Leaf, Nested, PrintedForm, Scalar, ScalarForm, Tree, TreeFault};
+use pres_tree::{Change, Leaf, LeafForm, Nested, PrintedForm, Scalar, ScalarForm, Tree, TreeFault};
 use serde_json::{Value, json};
 use std::alloc::{AllocError, Global};
 
@@ -19,14 +19,14 @@ const ALONE: usize = 1;
 
 /// A scalar, or a placeholder for the moment.
 #[derive(Drop)]
-pub enum Slot {
+pub enum DraftLeaf {
     Fixed(Scalar),
     /// `{".sv":"timestamp"}`: the server's time.
     Timestamp,
 }
 
 /// A value that may hold placeholders.
-pub type Draft = Nested<Slot>;
+pub type Draft = Nested<DraftLeaf>;
 
 // Whether the value is the word for the moment.
 fn is_timestamp(value: &Value) -> bool
@@ -40,7 +40,7 @@ fn is_timestamp(value: &Value) -> bool
 
 // The JSON value that stands for the moment.
 fn timestamp(alloc: Global) -> Result<Value, AllocError>
-    ensures { IfOk result (λ made. view made ≡ slot_printing Slot.Timestamp) }
+    ensures { IfOk result (λ made. view made ≡ slot_printing DraftLeaf.Timestamp) }
 {
     json!(in alloc; {".sv": "timestamp"})
 }
@@ -48,7 +48,7 @@ fn timestamp(alloc: Global) -> Result<Value, AllocError>
 // Writes the JSON value that stands for the moment.
 fn write_timestamp(out: &mut Writer) -> Result<(), AllocError>
     ensures ok { OnOk result
-        (out.new.tokens ≡ out.old.tokens ++ tokens_of (slot_printing Slot.Timestamp)) }
+        (out.new.tokens ≡ out.old.tokens ++ tokens_of (slot_printing DraftLeaf.Timestamp)) }
     ensures before { out.new.before ≡ out.old.before }
 {
     out.begin_object()?;
@@ -57,27 +57,27 @@ fn write_timestamp(out: &mut Writer) -> Result<(), AllocError>
     out.end_object()
 }
 
-impl Leaf for Slot {
-    fn copy(&self, alloc: Global) -> Result<Slot, AllocError> {
+impl Leaf for DraftLeaf {
+    fn copy(&self, alloc: Global) -> Result<DraftLeaf, AllocError> {
         match self {
-            Slot::Fixed(scalar) => Ok(Slot::Fixed(scalar.copy(alloc)?)),
-            Slot::Timestamp => Ok(Slot::Timestamp),
+            DraftLeaf::Fixed(scalar) => Ok(DraftLeaf::Fixed(scalar.copy(alloc)?)),
+            DraftLeaf::Timestamp => Ok(DraftLeaf::Timestamp),
         }
     }
 
-    fn equal(&self, other: &Slot) -> bool {
+    fn equal(&self, other: &DraftLeaf) -> bool {
         match (self, other) {
-            (Slot::Fixed(scalar), Slot::Fixed(other)) => scalar.equal(other),
-            (Slot::Timestamp, Slot::Timestamp) => true,
+            (DraftLeaf::Fixed(scalar), DraftLeaf::Fixed(other)) => scalar.equal(other),
+            (DraftLeaf::Timestamp, DraftLeaf::Timestamp) => true,
             _ => false,
         }
     }
 }
 
 /// The form of drafts: scalars are themselves, and a placeholder is an object of one member.
-pub struct SlotForm {}
+pub struct DraftLeafForm {}
 
-impl Form<Slot> for SlotForm {
+impl LeafForm<DraftLeaf> for DraftLeafForm {
     ghost use Rattle.pres_write.specs.Drafts.{slot_reading};
 
     ghost reading = { slot_reading };
@@ -89,39 +89,39 @@ impl Form<Slot> for SlotForm {
         }
     }
 
-    fn read(alloc: Global, value: &Value) -> Result<Slot, TreeFault> {
+    fn read(alloc: Global, value: &Value) -> Result<DraftLeaf, TreeFault> {
         match value {
             Value::Object(members) => match value.get(PLACEHOLDER) {
                 Some(word) => {
                     if members.len() == ALONE && is_timestamp(word) {
-                        Ok(Slot::Timestamp)
+                        Ok(DraftLeaf::Timestamp)
                     } else {
                         Err(TreeFault::Placeholder)
                     }
                 }
                 None => unreachable!(),
             },
-            _ => Ok(Slot::Fixed(ScalarForm::read(alloc, value)?)),
+            _ => Ok(DraftLeaf::Fixed(ScalarForm::read(alloc, value)?)),
         }
     }
 }
 
-impl PrintedForm<Slot> for SlotForm {
+impl PrintedForm<DraftLeaf> for DraftLeafForm {
     ghost use Rattle.pres_write.specs.Drafts.{slot_printing};
 
     ghost printing = { slot_printing };
 
-    fn print(alloc: Global, slot: &Slot) -> Result<Value, AllocError> {
+    fn print(alloc: Global, slot: &DraftLeaf) -> Result<Value, AllocError> {
         match slot {
-            Slot::Fixed(scalar) => ScalarForm::print(alloc, scalar),
-            Slot::Timestamp => timestamp(alloc),
+            DraftLeaf::Fixed(scalar) => ScalarForm::print(alloc, scalar),
+            DraftLeaf::Timestamp => timestamp(alloc),
         }
     }
 
-    fn write(slot: &Slot, out: &mut Writer) -> Result<(), AllocError> {
+    fn write(slot: &DraftLeaf, out: &mut Writer) -> Result<(), AllocError> {
         match slot {
-            Slot::Fixed(scalar) => ScalarForm::write(scalar, out),
-            Slot::Timestamp => write_timestamp(out),
+            DraftLeaf::Fixed(scalar) => ScalarForm::write(scalar, out),
+            DraftLeaf::Timestamp => write_timestamp(out),
         }
     }
 
@@ -136,7 +136,7 @@ impl PrintedForm<Slot> for SlotForm {
 /// The form of values without placeholders.
 pub struct FixedForm {}
 
-impl Form<Scalar> for FixedForm {
+impl LeafForm<Scalar> for FixedForm {
     ghost use Rattle.pres_write.specs.Drafts.{fixed_reading};
 
     ghost reading = { fixed_reading };
@@ -162,22 +162,22 @@ struct Settling {
     moment: Moment,
 }
 
-impl Change<Slot, Scalar> for Settling {
+impl Change<DraftLeaf, Scalar> for Settling {
     ghost use Rattle.pres_write.specs.Drafts.{settled_slot};
 
     ghost makes = { λ how slot. settled_slot how.moment slot };
 
-    fn change(&self, alloc: Global, slot: &Slot) -> Result<Scalar, AllocError> {
+    fn change(&self, alloc: Global, slot: &DraftLeaf) -> Result<Scalar, AllocError> {
         match slot {
-            Slot::Fixed(scalar) => scalar.copy(alloc),
-            Slot::Timestamp => Ok(Scalar::Int(self.moment.millis() as i64)),
+            DraftLeaf::Fixed(scalar) => scalar.copy(alloc),
+            DraftLeaf::Timestamp => Ok(Scalar::Int(self.moment.millis() as i64)),
         }
     }
 
-    fn change_owned(&self, slot: Slot) -> Scalar {
+    fn change_owned(&self, slot: DraftLeaf) -> Scalar {
         match slot {
-            Slot::Fixed(scalar) => scalar,
-            Slot::Timestamp => Scalar::Int(self.moment.millis() as i64),
+            DraftLeaf::Fixed(scalar) => scalar,
+            DraftLeaf::Timestamp => Scalar::Int(self.moment.millis() as i64),
         }
     }
 }

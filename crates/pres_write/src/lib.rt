@@ -17,10 +17,10 @@ mod update;
 
 pub use as_json::{DraftJson, OfDraft, OfOp, OpJson};
 pub use basic::{Basic, apply, apply_all, copy_writes, equal_writes};
-pub use draft::{Draft, FixedForm, Slot, SlotForm, settle};
+pub use draft::{Draft, DraftLeaf, DraftLeafForm, FixedForm, settle};
 pub use fault::WriteFault;
 pub use items::Items;
-pub use moment::{MAX_SAFE_INTEGER, Moment};
+pub use moment::Moment;
 pub use op::{Op, op_value, read_op, write_set};
 pub use outcome::{Kept, Outcome};
 pub use placement::Placement;

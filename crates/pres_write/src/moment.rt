@@ -3,11 +3,9 @@
 ghost use Rattle.std.specs.Prelude.{◌≡◌, ◌≤◌, min, max};
 ghost use Rattle.pres_write.specs.Moments.{last_moment};
 
+use pres_limits::MAX_SAFE_INTEGER;
 use std::fmt;
 use std::marker::Model;
-
-/// The greatest whole number that JSON programs exchange safely, 2^53 - 1 (RFC 8259, section 6).
-pub const MAX_SAFE_INTEGER: u64 = 9_007_199_254_740_991;
 
 /// A moment: milliseconds since the Unix epoch, at most 2^53 - 1. Contracts see it as that
 /// number.

@@ -4,7 +4,7 @@ ghost use Rattle.std.specs.Prelude.{◌≡◌, ◌++◌, [], IfOk, IfErr, OnOk, 
 ghost use Rattle.std.specs.Option.{option_and_then};
 ghost use Rattle.serde_json.specs.Data.{null, object, string, put as with_member};
 ghost use Rattle.serde_json.specs.View.{view, members_view};
-ghost use Rattle.pres_tree.specs.Printing.{tokens_of, IsPlain};
+ghost use Rattle.pres_tree.specs.JsonPrinting.{tokens_of, IsPlain};
 ghost use Rattle.pres_tree.specs.declared.fault.TreeFault.TheVariants.{Memory};
 ghost use Rattle.serde_json.specs.Find.{as_object, get};
 ghost use Rattle.pres_write.specs.Basics.{Apart};
@@ -12,7 +12,7 @@ ghost use Rattle.pres_write.specs.Outcomes.{resolved, writes_in};
 ghost use Rattle.pres_write.specs.OpForms.{op_read, form_read, set_read, update_read, tx_read, with_part, IsRefusal, op_json, set_form, update_form, tx_form};
 ghost use Rattle.pres_write.specs.declared.fault.WriteFault.TheVariants.{Tree as TreeRefused};
 
-use crate::draft::{FixedForm, Slot, SlotForm};
+use crate::draft::{DraftLeaf, DraftLeafForm, FixedForm};
 use crate::fault::WriteFault;
 use crate::moment::Moment;
 use crate::outcome::{Outcome, one_moved, one_write};
@@ -100,7 +100,7 @@ fn tx_value(alloc: Global, tx: &Transaction) -> Result<Value, AllocError>
 {
     let path = tx.path().text(alloc)?;
     let expect = to_value::<Scalar, ScalarForm>(alloc, tx.expect())?;
-    let Ok(value) = to_value::<Slot, SlotForm>(alloc, tx.draft()) else {
+    let Ok(value) = to_value::<DraftLeaf, DraftLeafForm>(alloc, tx.draft()) else {
         drop(expect);
         return Err(AllocError);
     };
@@ -113,7 +113,7 @@ pub(crate) fn set_value(alloc: Global, placement: &Placement) -> Result<Value, A
     ensures reads_back { IfOk result (λ made. op_read (view made) ≡ Ok (Op.Set placement.now)) }
 {
     let path = placement.path().text(alloc)?;
-    let value = to_value::<Slot, SlotForm>(alloc, placement.draft())?;
+    let value = to_value::<DraftLeaf, DraftLeafForm>(alloc, placement.draft())?;
     set_form(alloc, path, value)
 }
 
@@ -124,7 +124,7 @@ fn read_set(alloc: Global, text: &str, value: &Value) -> Result<Op, WriteFault>
         (λ e. IsRefusal (set_read text.now (view value.now)) e) }
 {
     let path = Path::parse(alloc, text)?;
-    let draft = from_value_below::<Slot, SlotForm>(alloc, value, &path)?;
+    let draft = from_value_below::<DraftLeaf, DraftLeafForm>(alloc, value, &path)?;
     Ok(Op::Set(Placement::fitting(path, draft)))
 }
 
@@ -177,7 +177,7 @@ fn read_comparison(
 {
     let path = Path::parse(alloc, text)?;
     let expect = from_value_below::<Scalar, FixedForm>(alloc, expect, &path)?;
-    match from_value_below::<Slot, SlotForm>(alloc, value, &path) {
+    match from_value_below::<DraftLeaf, DraftLeafForm>(alloc, value, &path) {
         Ok(new) => Ok(Op::Tx(Transaction::fitting(path, expect, new))),
         Err(fault) => {
             drop(expect);
@@ -266,7 +266,7 @@ pub fn write_set(alloc: Global, placement: &Placement, out: &mut Writer) -> Resu
     out.key("path")?;
     out.string(text.as_str())?;
     out.key("value")?;
-    write_value::<Slot, SlotForm>(placement.draft(), out)?;
+    write_value::<DraftLeaf, DraftLeafForm>(placement.draft(), out)?;
     out.end_object()
 }
 

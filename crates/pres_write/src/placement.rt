@@ -26,9 +26,9 @@ impl Drop for Placement {
 impl Model for Placement {
     ghost use Rattle.pres_tree.specs.Paths.{Path};
     ghost use Rattle.pres_tree.specs.Rows.{Rows, Fits};
-    ghost use Rattle.pres_write.specs.declared.draft.Slot.{Slot};
+    ghost use Rattle.pres_write.specs.declared.draft.DraftLeaf.{DraftLeaf};
 
-    ghost Value = { Path × Rows Slot };
+    ghost Value = { Path × Rows DraftLeaf };
 
     ghost view = { λ p. (p.path, p.draft) };
 

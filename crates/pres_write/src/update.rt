@@ -6,7 +6,7 @@ ghost use Rattle.std.specs.List.{list_any};
 ghost use Rattle.std.specs.Map.{keys_of};
 ghost use Rattle.serde_json.specs.View.{view, members_view};
 ghost use Rattle.pres_tree.specs.Paths.{IsPath, segments, path_cmp, sorted_by, meet, overlap};
-ghost use Rattle.pres_tree.specs.Reading.{rows_of};
+ghost use Rattle.pres_tree.specs.JsonReading.{rows_of};
 ghost use Rattle.pres_tree.specs.declared.fault.TreeFault.TheVariants.{Memory};
 ghost use Rattle.pres_write.specs.Basics.{Apart};
 ghost use Rattle.pres_write.specs.Drafts.{slot_reading};
@@ -16,7 +16,7 @@ ghost use Rattle.pres_write.specs.Updates.{FitsBelow, most_places, is_deep_below
 ghost use Rattle.pres_write.specs.declared.fault.WriteFault.TheVariants.{Tree as TreeRefused};
 
 use crate::basic::{Basic, moved_write, settled_write};
-use crate::draft::{Draft, Slot, SlotForm};
+use crate::draft::{Draft, DraftLeaf, DraftLeafForm};
 use crate::fault::WriteFault;
 use crate::items::Items;
 use crate::moment::Moment;
@@ -187,7 +187,7 @@ impl Update {
         let mut values = Map::new(alloc);
         for (place, draft) in self.places.iter() {
             let name = place.name(alloc)?;
-            let value = to_value::<Slot, SlotForm>(alloc, draft)?;
+            let value = to_value::<DraftLeaf, DraftLeafForm>(alloc, draft)?;
             drop(values.insert(name, value)?);
         }
         Ok(values)
@@ -272,7 +272,7 @@ fn read_place(
     if depth > MAX_DEPTH {
         return Err(TreeFault::TooDeep);
     }
-    let draft = from_value_under::<Slot, SlotForm>(alloc, value, depth)?;
+    let draft = from_value_under::<DraftLeaf, DraftLeafForm>(alloc, value, depth)?;
     Ok((place, draft))
 }
 

@@ -8,7 +8,7 @@ use crate::plan_lists::LISTS;
 use pres_ids::Number;
 use pres_plan::{Plan, PlanFault};
 use pres_tree::{Nested, Path, PrintedForm, Scalar, ScalarForm, Tree, TreeJson, to_value};
-use pres_write::{Basic, Draft, DraftJson, Moment, Placement, Puts, Slot, SlotForm};
+use pres_write::{Basic, Draft, DraftJson, DraftLeaf, DraftLeafForm, Moment, Placement, Puts};
 use serde_json::Value;
 use std::alloc::Global;
 use std::process::Abort;
@@ -86,7 +86,7 @@ fn tell_row(
 ) {
     let (q, path, draft) = row;
     let text = match draft {
-        Some(draft) => printed::<Slot, SlotForm>(rt, alloc, draft),
+        Some(draft) => printed::<DraftLeaf, DraftLeafForm>(rt, alloc, draft),
         None => String::from_str(alloc, "kept").expect(rt, "memory"),
     };
     let part = format!(in alloc; " {} {path} {text};", q.get()).expect(rt, "memory");

@@ -1,7 +1,7 @@
 //! Callers of a hub, each in a thread of its own.
 
-use crate::scene::{Place, next_text, session};
-use pres_exchange::Outbox;
+use crate::scene::{SeatedClient, next_text, session};
+use pres_dispatch::Outbox;
 use pres_hub::{Gate, Hub, Keeper, NoBell, Parting, Seat};
 use pres_server::{Moment, Up, Why};
 use std::alloc::Global;
@@ -68,12 +68,12 @@ pub(crate) fn joined<L: Ledger, K: Keeper + Drop, G: Gate, R: Wait + Abort>(
     alloc: Global,
     hub: &Hub<L, K, NoBell, G>,
     caller: Caller,
-) -> Place<L> {
+) -> SeatedClient<L> {
     let session = session(rt, alloc, caller.client);
     let joined = hub.enter(rt, caller.number).join(&session, now());
     drop(session);
     let (seat, outbox) = joined.expect(rt, "a seat");
-    Place { seat, outbox }
+    SeatedClient { seat, outbox }
 }
 
 /// Says the message, which may not be refused: neither as Behind nor as Apart, nor for another reason.
@@ -98,7 +98,7 @@ pub(crate) fn write_all<L: Ledger, K: Keeper + Drop, G: Gate, R: Wait + Abort>(
     rt: &R,
     alloc: Global,
     hub: &Hub<L, K, NoBell, G>,
-    place: &mut Place<L>,
+    place: &mut SeatedClient<L>,
     caller: Caller,
 ) -> u64 {
     let mut number = 0;
@@ -114,10 +114,10 @@ pub(crate) fn write_all<L: Ledger, K: Keeper + Drop, G: Gate, R: Wait + Abort>(
 pub(crate) fn leave<L: Ledger, K: Keeper + Drop, G: Gate, R: Wait + Abort>(
     rt: &R,
     hub: &Hub<L, K, NoBell, G>,
-    place: Place<L>,
+    place: SeatedClient<L>,
     caller: Caller,
 ) -> Parting<L> {
-    let Place { seat, outbox } = place;
+    let SeatedClient { seat, outbox } = place;
     drop(outbox);
     let parting = hub.enter(rt, caller.number).leave(seat, Why::Lost, now());
     assert!(rt; parting.fault().is_none());
@@ -143,7 +143,7 @@ fn listen_on<L: Ledger, K: Keeper + Drop, G: Gate, R: Wait + Abort>(
     rt: &R,
     alloc: Global,
     hub: &Hub<L, K, NoBell, G>,
-    place: &mut Place<L>,
+    place: &mut SeatedClient<L>,
     caller: Caller,
 ) -> Option<String> {
     let path = caller.listens?;

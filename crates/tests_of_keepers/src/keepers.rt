@@ -4,8 +4,7 @@
 use crate::rows::called;
 use crate::turns::step;
 use crate::words::{expect_said, expect_text, refused, run_sql, said};
-use pres_engine::{Premise, Supposed};
-use pres_keeper::{Keeper, MemKeeper};
+use pres_keeper::{Keeper, MemKeeper, Premise, Supposed};
 use pres_saved::SqlKeeper;
 use sqlite::{Alter, Connection, Row, params};
 use std::alloc::Global;

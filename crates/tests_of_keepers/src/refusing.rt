@@ -1,9 +1,9 @@
 //! A keeper that refuses chosen commits, and what a keeper holds.
 
 use crate::turns::root_text;
-use pres_body::print_entries;
+use pres_batch_json::print_entries;
+use pres_faults::SavedFault;
 use pres_hub::{Keeper, MemKeeper};
-use pres_keeper::SavedFault;
 use pres_server::{Batch, Server};
 use std::alloc::Global;
 use std::process::Abort;

@@ -2,9 +2,11 @@
 
 use crate::keepers::check_database;
 use crate::words::{expect_text, refused, said};
+use pres_batch_rows::{BatchTable, SavedRow, Take};
+use pres_faults::SavedFault;
 use pres_ids::{Count, Number};
-use pres_table::{SavedFault, SavedRow, Table, Take};
-use pres_write::{MAX_SAFE_INTEGER, Moment};
+use pres_limits::MAX_SAFE_INTEGER;
+use pres_write::Moment;
 use sqlite::{Alter, Connection};
 use std::alloc::Global;
 use std::process::Abort;
@@ -48,7 +50,7 @@ impl Take for Until {
 fn append<S: Alter + Drop>(
     rt: &impl Abort,
     alloc: Global,
-    table: &mut Table<S>,
+    table: &mut BatchTable<S>,
     row: &str,
 ) -> String {
     let (millis, body) = row.split_once(' ').expect(rt, "a text");
@@ -62,7 +64,7 @@ fn append<S: Alter + Drop>(
     }
 }
 
-fn load<S: Alter + Drop>(rt: &impl Abort, alloc: Global, table: &mut Table<S>) -> String {
+fn load<S: Alter + Drop>(rt: &impl Abort, alloc: Global, table: &mut BatchTable<S>) -> String {
     match table.load(alloc) {
         Ok(rows) => listed(rt, alloc, rows.as_slice()),
         Err(fault) => refused(rt, alloc, fault),
@@ -70,7 +72,7 @@ fn load<S: Alter + Drop>(rt: &impl Abort, alloc: Global, table: &mut Table<S>) -
 }
 
 // What was taken, and how it ended.
-fn each<S: Alter + Drop>(rt: &impl Abort, alloc: Global, table: &mut Table<S>) -> String {
+fn each<S: Alter + Drop>(rt: &impl Abort, alloc: Global, table: &mut BatchTable<S>) -> String {
     let mut until = Until {
         taken: String::new(alloc),
     };
@@ -86,7 +88,7 @@ fn each<S: Alter + Drop>(rt: &impl Abort, alloc: Global, table: &mut Table<S>) -
 fn answer<S: Alter + Drop>(
     rt: &impl Abort,
     alloc: Global,
-    table: &mut Table<S>,
+    table: &mut BatchTable<S>,
     call: &str,
 ) -> String {
     let (word, rest) = call.split_once(' ').unwrap_or((call, ""));
@@ -109,7 +111,7 @@ pub(crate) fn called<S: Alter + Drop>(
     if !connection.is_autocommit() {
         panic!(rt; "a transaction is open");
     }
-    match Table::open(connection) {
+    match BatchTable::open(connection) {
         Ok(table) => {
             let mut table = table;
             let text = answer(rt, alloc, &mut table, call);

@@ -5,8 +5,9 @@ ghost use Rattle.pres_log.specs.declared.fault.Fault.{Fault};
 
 use crate::refusing::{log_text, tree_text};
 use crate::words::expect_said;
-use pres_exchange::Outbox;
-use pres_hub::{Core, HubFault, Keeper, NoBell, Parting, Report, Seat};
+use pres_dispatch::Outbox;
+use pres_faults::HubFault;
+use pres_hub::{Core, Keeper, NoBell, Parting, Report, Seat};
 use pres_server::{ClientId, Moment, Number, SessionId, Stamp, Up, Why};
 use std::alloc::Global;
 use std::marker::Brand;
@@ -14,7 +15,7 @@ use std::process::Abort;
 use std::sync::ledger::{Blank, Ledger};
 
 /// A seat, and the end from which its messages are taken.
-pub(crate) struct Place<L: Ledger> {
+pub(crate) struct SeatedClient<L: Ledger> {
     pub(crate) seat: Seat<L>,
     pub(crate) outbox: Outbox,
 }
@@ -36,20 +37,20 @@ pub(crate) fn counted<L: Ledger, K>(report: &Report<L, K>) -> Counts {
 struct Scene<L: Ledger, K: Keeper + Drop> {
     alloc: Global,
     core: Core<L, K, NoBell>,
-    alice: Option<Place<L>>,
-    bob: Option<Place<L>>,
+    alice: Option<SeatedClient<L>>,
+    bob: Option<SeatedClient<L>>,
     partings: Vec<Parting<L>>,
 }
 
 /// What a run came to: what was counted, and the log and the tree that are kept.
 #[derive(Drop)]
-pub(crate) struct Told {
+pub(crate) struct RunResult {
     counts: Counts,
     log: String,
     tree: String,
 }
 
-impl Told {
+impl RunResult {
     /// So much has to be counted.
     pub(crate) fn expect_counts(&self, rt: &impl Abort, wanted: Counts) {
         assert_eq!(rt; self.counts, wanted);
@@ -140,7 +141,7 @@ fn range(rt: &impl Abort, words: &str) -> (u64, u64) {
 // What the message answers at the place.
 fn say_at<L: Ledger, K: Keeper + Drop>(
     core: &mut Core<L, K, NoBell>,
-    place: &mut Option<Place<L>>,
+    place: &mut Option<SeatedClient<L>>,
     up: Up,
     now: Moment,
 ) -> Option<Result<u64, HubFault>> {
@@ -157,17 +158,17 @@ fn say_at<L: Ledger, K: Keeper + Drop>(
 // Takes the place's seat, whose connection was lost.
 fn vacate<L: Ledger, K: Keeper + Drop>(
     core: &mut Core<L, K, NoBell>,
-    place: Option<Place<L>>,
+    place: Option<SeatedClient<L>>,
     now: Moment,
 ) -> Option<Parting<L>> {
-    let Place { seat, outbox } = place?;
+    let SeatedClient { seat, outbox } = place?;
     drop(outbox);
     Some(core.leave(seat, Why::Lost, now))
 }
 
 impl<L: Ledger, K: Keeper + Drop> Scene<L, K> {
     // Where the client's place is.
-    fn place(&mut self, client: &str) -> &mut Option<Place<L>> {
+    fn place(&mut self, client: &str) -> &mut Option<SeatedClient<L>> {
         if client == "bob" {
             &mut self.bob
         } else {
@@ -183,7 +184,7 @@ impl<L: Ledger, K: Keeper + Drop> Scene<L, K> {
         let answer = match joined {
             Ok((seat, outbox)) => {
                 let number = seat.seen();
-                let old = self.place(client).replace(Place { seat, outbox });
+                let old = self.place(client).replace(SeatedClient { seat, outbox });
                 drop(vacate(&mut self.core, old, now));
                 Ok(number)
             }
@@ -342,7 +343,7 @@ pub(crate) fn run<K: Keeper + Drop, R: Abort>(
     alloc: Global,
     keeper: K,
     lines: &str,
-) -> (Told, K)
+) -> (RunResult, K)
     requires { K.ready keeper }
 {
     let lines = String::from_str(alloc, lines).expect(rt, "memory");
@@ -350,6 +351,6 @@ pub(crate) fn run<K: Keeper + Drop, R: Abort>(
     let (counts, mut keeper) = run_with::<Brand, K, R>(rt, alloc, blank, keeper, &lines);
     let log = log_text(rt, alloc, &mut keeper);
     let tree = tree_text(rt, alloc, &mut keeper);
-    let told = Told { counts, log, tree };
+    let told = RunResult { counts, log, tree };
     (told, keeper)
 }

@@ -4,9 +4,9 @@ ghost use Rattle.std.specs.Prelude.{◌≡◌, ◌^◌, IfSome};
 
 use crate::scene::session;
 use crate::words::expect_text;
-use pres_engine::EngineFault;
-use pres_hub::{HubFault, Seat};
-use pres_seats::Tally;
+use pres_accounting::Tally;
+use pres_faults::{EngineFault, HubFault};
+use pres_hub::Seat;
 use pres_server::{Count, Number, SessionId, Stamp};
 use std::alloc::Global;
 use std::marker::Brand;

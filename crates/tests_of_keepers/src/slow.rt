@@ -1,7 +1,7 @@
 //! A reader in a thread of its own that takes nothing while another one writes.
 
 use crate::callers::{Caller, Left, joined, leave, say, write_all};
-use crate::scene::{Place, taken};
+use crate::scene::{SeatedClient, taken};
 use pres_hub::{Gate, Hub, Keeper, NoBell};
 use pres_server::Up;
 use std::alloc::Global;
@@ -19,7 +19,7 @@ fn say_text<L: Ledger, K: Keeper + Drop, G: Gate, R: Wait + Abort>(
     rt: &R,
     alloc: Global,
     hub: &Hub<L, K, NoBell, G>,
-    place: &mut Place<L>,
+    place: &mut SeatedClient<L>,
     caller: Caller,
     text: &str,
 ) {

@@ -1,12 +1,12 @@
 //! A hub's start over rows of which no server is made.
 
 ghost use Rattle.std.specs.Prelude.{◌≡◌, ◌^◌};
-ghost use Rattle.pres_saved.specs.Keeps.{IsReady};
+ghost use Rattle.pres_saved.specs.SqlKeepers.{IsReady};
 
 use crate::turns::listed;
 use crate::words::{expect_text, run_sql};
-use pres_engine::{Premise, Supposed};
 use pres_hub::{Core, Keeper, NoBell};
+use pres_keeper::{Premise, Supposed};
 use pres_saved::SqlKeeper;
 use pres_server::Moment;
 use sqlite::{Alter, Connection};

@@ -1,7 +1,7 @@
 //! Turns whose batches are given to a keeper. Each makes its server of what the keeper holds.
 
 use crate::words::{refused, said};
-use pres_body::print_entries;
+use pres_batch_json::print_entries;
 use pres_keeper::{Keeper, Unsettled, settle};
 use pres_server::{
     Batch, Busy, ClientId, Down, Fault, Input, Moment, Path, ReplayFault, Server, Turn, Up,

@@ -1,7 +1,7 @@
 //! What runs of saved rows share: a run is a text of lines, each a step and, behind ` => `, what
 //! it must say.
 
-use pres_table::SavedFault;
+use pres_faults::SavedFault;
 use sqlite::{Alter, Connection};
 use std::alloc::Global;
 use std::process::Abort;

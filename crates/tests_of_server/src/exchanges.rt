@@ -1,12 +1,12 @@
 //! Tests of an engine with the lines of its sessions.
 
 ghost use Rattle.std.specs.Prelude.{◌≡◌, false};
-ghost use Rattle.pres_exchange.specs.Exchanges.{is_hello};
+ghost use Rattle.pres_dispatch.specs.Dispatches.{is_hello};
 ghost use Rattle.pres_server.specs.declared.input.Input.TheVariants.{Up as Message};
 
 use crate::said::expect_text;
 use crate::turns::{ALICE, BOB, session};
-use pres_exchange::{Bell, Exchange, Input, Keeper, MemKeeper, Moment, Outbox, Up, Why};
+use pres_dispatch::{Bell, Dispatcher, Input, Keeper, MemKeeper, Moment, Outbox, Up, Why};
 use std::alloc::Global;
 use std::ops::Range;
 use std::process::Abort;
@@ -25,10 +25,10 @@ fn now() -> Moment {
 }
 
 // An exchange over what the keeper holds.
-fn started<K: Keeper + Drop>(rt: &impl Abort, alloc: Global, keeper: K) -> Exchange<K, Numbered>
+fn started<K: Keeper + Drop>(rt: &impl Abort, alloc: Global, keeper: K) -> Dispatcher<K, Numbered>
     requires ready { K.ready keeper }
 {
-    match Exchange::start(alloc, keeper, now()) {
+    match Dispatcher::start(alloc, keeper, now()) {
         Ok(exchange) => exchange,
         Err((fault, _)) => panic!(rt; "{fault}"),
     }
@@ -37,7 +37,7 @@ fn started<K: Keeper + Drop>(rt: &impl Abort, alloc: Global, keeper: K) -> Excha
 fn join<K: Keeper + Drop>(
     rt: &impl Abort,
     alloc: Global,
-    exchange: &mut Exchange<K, Numbered>,
+    exchange: &mut Dispatcher<K, Numbered>,
     text: &str,
 ) -> Outbox {
     let session = session(rt, alloc, text);
@@ -49,7 +49,7 @@ fn join<K: Keeper + Drop>(
 fn say<K: Keeper + Drop>(
     rt: &impl Abort,
     alloc: Global,
-    exchange: &mut Exchange<K, Numbered>,
+    exchange: &mut Dispatcher<K, Numbered>,
     text: &str,
 ) {
     let up = Up::decode(alloc, text).expect(rt, "a message");
@@ -72,7 +72,7 @@ fn set(rt: &impl Abort, alloc: Global, n: u32) -> String {
 fn listened<K: Keeper + Drop>(
     rt: &impl Abort,
     alloc: Global,
-    exchange: &mut Exchange<K, Numbered>,
+    exchange: &mut Dispatcher<K, Numbered>,
     writes: u32,
 ) -> u64 {
     drop(join(rt, alloc, exchange, ALICE));
@@ -114,7 +114,7 @@ fn a_session_that_is_slow_is_ended(rt: HostRuntime) {
 fn taken<K: Keeper + Drop>(
     rt: &impl Abort,
     alloc: Global,
-    exchange: &mut Exchange<K, Numbered>,
+    exchange: &mut Dispatcher<K, Numbered>,
 ) -> Vec<String> {
     let mut outbox = join(rt, alloc, exchange, ALICE);
     let op = format!(in alloc;
@@ -137,7 +137,7 @@ fn taken<K: Keeper + Drop>(
 fn lost<K: Keeper + Drop>(
     rt: &impl Abort,
     alloc: Global,
-    exchange: &mut Exchange<K, Numbered>,
+    exchange: &mut Dispatcher<K, Numbered>,
 ) -> (usize, bool) {
     let count = taken(rt, alloc, exchange).len();
     let alice = session(rt, alloc, ALICE);
@@ -168,7 +168,7 @@ fn answers_are_put_on_lines(rt: HostRuntime) {
 }
 
 // Alice's bell is 1, and Bob's is 2.
-fn hang<K: Keeper + Drop>(rt: &impl Abort, alloc: Global, exchange: &mut Exchange<K, Numbered>) {
+fn hang<K: Keeper + Drop>(rt: &impl Abort, alloc: Global, exchange: &mut Dispatcher<K, Numbered>) {
     exchange
         .hang(alloc, &session(rt, alloc, ALICE), Numbered(1))
         .expect(rt, "a session");
@@ -181,7 +181,7 @@ fn hang<K: Keeper + Drop>(rt: &impl Abort, alloc: Global, exchange: &mut Exchang
 fn due<K: Keeper + Drop>(
     rt: &impl Abort,
     alloc: Global,
-    exchange: &mut Exchange<K, Numbered>,
+    exchange: &mut Dispatcher<K, Numbered>,
     writes: Range<u32>,
     own: &str,
 ) -> String {
@@ -207,7 +207,7 @@ fn due<K: Keeper + Drop>(
 fn add_due<K: Keeper + Drop>(
     rt: &impl Abort,
     alloc: Global,
-    exchange: &mut Exchange<K, Numbered>,
+    exchange: &mut Dispatcher<K, Numbered>,
     said: &mut String,
     writes: Range<u32>,
     own: &str,
@@ -222,7 +222,7 @@ fn add_due<K: Keeper + Drop>(
 fn rung<K: Keeper + Drop>(
     rt: &impl Abort,
     alloc: Global,
-    exchange: &mut Exchange<K, Numbered>,
+    exchange: &mut Dispatcher<K, Numbered>,
 ) -> String {
     listened(rt, alloc, exchange, 0);
     hang(rt, alloc, exchange);

@@ -1,7 +1,7 @@
 //! Tests of lines that have no ring yet.
 
 use crate::turns::{ALICE, BOB, session};
-use pres_lines::Lines;
+use pres_ring::Lines;
 use pres_server::{SessionId, Why};
 use std::alloc::Global;
 use std::process::Abort;

@@ -8,7 +8,7 @@
 
 use crate::replays::{ordered, replayed};
 use crate::said::expect_said;
-use pres_body::print_entries;
+use pres_batch_json::print_entries;
 use pres_server::{
     Batch, Busy, ClientId, Count, Down, Fault, Input, Log, Moment, Path, Row, Server, SessionId,
     Turn, Up,

@@ -3,9 +3,9 @@
 use crate::script::{NONE, said, script_of, server_frame};
 use crate::texts::{expect_text, fault_word};
 use pres_client::Client;
-use pres_drive::{Line, drive_client};
+use pres_client_connection::drive_client;
 use pres_ids::{ClientId, Number};
-use pres_service::{line_of, number_of};
+use pres_script::{Line, line_of, number_of};
 use pres_websocket::SockFault;
 use std::alloc::Global;
 use std::process::Abort;

@@ -7,7 +7,7 @@ use std::process::Abort;
 
 /// An address at which nobody listens, and the name of a file that isn't there.
 #[derive(Drop)]
-pub(crate) struct Place {
+pub(crate) struct ServerFiles {
     pub(crate) address: String,
     pub(crate) file: String,
 }
@@ -17,18 +17,18 @@ pub(crate) fn new_place<R: Net<Listener = TcpListener, Stream = TcpStream> + Abo
     host: &HostRuntime,
     rt: &R,
     name: &str,
-) -> Place {
+) -> ServerFiles {
     let listener = TcpListener::bind(rt, "127.0.0.1:0").expect(rt, "a listener");
     let port = listener.local_addr().expect(rt, "an address").port();
     drop(listener);
     let address = format!(in host.alloc(); "127.0.0.1:{port}").expect(rt, "memory");
     let file = format!(in host.alloc(); "/tmp/presence_{name}_{port}").expect(rt, "memory");
-    let place = Place { address, file };
+    let place = ServerFiles { address, file };
     place.clear(host);
     place
 }
 
-impl Place {
+impl ServerFiles {
     /// Removes the files.
     pub(crate) fn clear(&self, host: &HostRuntime) {
         for end in ["", "-wal", "-shm", ".other"] {

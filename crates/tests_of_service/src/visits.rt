@@ -1,10 +1,10 @@
 //! Clients that visit a server, over TCP and a file.
 
 use crate::board::{Board, Pen};
-use crate::files::{Place, new_place};
+use crate::files::{ServerFiles, new_place};
 use crate::texts::expect_text;
 use pres_ids::{ClientId, Number};
-use pres_service::{ServiceFault, Serving, Visit, client_run, serve_run};
+use pres_service::{ClientOptions, ServeOptions, ServiceFault, client_run, serve_run};
 use std::alloc::Global;
 use std::io::{Read, Write};
 use std::net::{Net, TcpListener, TcpStream};
@@ -27,7 +27,7 @@ struct Visitor {
 fn serve<R: Net<Listener = TcpListener, Stream = TcpStream> + Threads + Wait + Clock + Sync>(
     host: &HostRuntime,
     rt: &R,
-    serving: Serving<'_>,
+    serving: ServeOptions<'_>,
 ) -> (u8, Vec<u8>) {
     let mut output = Vec::new(host.alloc());
     let mut faults = Vec::new(host.alloc());
@@ -50,7 +50,7 @@ fn visit<
         let Some(incarnation) = Number::new(visitor.incarnation) else {
             return 2;
         };
-        let visit = Visit {
+        let visit = ClientOptions {
             address,
             id,
             incarnation,
@@ -77,12 +77,12 @@ fn meet<
 >(
     host: &HostRuntime,
     rt: &R,
-    place: &Place,
+    place: &ServerFiles,
     visitor: Visitor,
     second: Option<(&'static str, Visitor)>,
 ) -> String {
     let alloc = host.alloc();
-    let serving = Serving {
+    let serving = ServeOptions {
         address: place.address.as_str(),
         file: place.file.as_str(),
         connections: Some(if second.is_some() { 2 } else { 1 }),
@@ -285,7 +285,7 @@ fn status_at<R: Net<Listener = TcpListener, Stream = TcpStream> + Threads + Wait
     address: &str,
     file: &str,
 ) -> u8 {
-    let serving = Serving {
+    let serving = ServeOptions {
         address,
         file,
         connections: Some(1),
@@ -341,9 +341,9 @@ fn told_at<R: Net<Listener = TcpListener, Stream = TcpStream> + Wait + Clock + A
 // A server's exit status behind a stranger, and what that was told.
 fn met_by<
     R: Net<Listener = TcpListener, Stream = TcpStream> + Threads + Wait + Clock + Abort + Sync,
->(host: &HostRuntime, rt: &R, place: &Place, stranger: Stranger) -> (u8, String) {
+>(host: &HostRuntime, rt: &R, place: &ServerFiles, stranger: Stranger) -> (u8, String) {
     let alloc = host.alloc();
-    let serving = Serving {
+    let serving = ServeOptions {
         address: place.address.as_str(),
         file: place.file.as_str(),
         connections: Some(1),

@@ -1,7 +1,7 @@
 //! What ends a read of a stream that waits for bytes or for its bell.
 
 use pres_hub::Bell;
-use pres_net::{Crowd, StreamBell, Wakeable};
+use pres_tcp::{StreamBell, StreamCount, Wakeable};
 use std::alloc::Global;
 use std::io::{ErrorKind, Read, Write};
 use std::net::{Net, TcpListener, TcpStream};
@@ -27,7 +27,7 @@ fn waking<'a, R: Net<Listener = TcpListener, Stream = TcpStream> + Abort>(
     rt: &R,
     alloc: Global,
     millis: u64,
-    crowd: &'a Crowd,
+    crowd: &'a StreamCount,
 ) -> (Wakeable<'a>, StreamBell, TcpStream) {
     let (near, far) = pair(rt).expect(rt, "a connection");
     match Wakeable::new(rt, alloc, near, Duration::from_millis(millis), crowd) {
@@ -54,7 +54,7 @@ fn expect_soon<R: Clock + Abort>(rt: &R, start: &Instant) {
 
 #[test]
 fn time_ends_a_read(rt: HostRuntime) {
-    let crowd = Crowd::new();
+    let crowd = StreamCount::new();
     let (mut stream, _bell, _far) = waking(&rt, rt.alloc(), 30, &crowd);
     let start = Instant::now(&rt).expect(&rt, "a clock");
     expect_read(&rt, &mut stream, Err(ErrorKind::WouldBlock));
@@ -63,7 +63,7 @@ fn time_ends_a_read(rt: HostRuntime) {
 
 #[test]
 fn a_ring_ends_a_read(rt: HostRuntime) {
-    let crowd = Crowd::new();
+    let crowd = StreamCount::new();
     let (mut stream, bell, _far) = waking(&rt, rt.alloc(), LONG_MILLIS, &crowd);
     let start = Instant::now(&rt).expect(&rt, "a clock");
     let child = thread::spawn(&rt, move || {
@@ -83,7 +83,7 @@ fn a_ring_ends_a_read(rt: HostRuntime) {
 // Also one before the read, and bytes end a read that doesn't hear its bell.
 #[test]
 fn a_ring_is_heard_once(rt: HostRuntime) {
-    let crowd = Crowd::new();
+    let crowd = StreamCount::new();
     let (mut stream, bell, mut far) = waking(&rt, rt.alloc(), LONG_MILLIS, &crowd);
     let start = Instant::now(&rt).expect(&rt, "a clock");
     for _ in 0..5u8 {
@@ -114,7 +114,7 @@ fn until_the_end(stream: &mut Wakeable<'_>) -> Result<usize, ErrorKind> {
 #[test]
 fn all_bytes_come_and_then_the_end(rt: HostRuntime) {
     for sent in [3, 64, 1_000, 640] {
-        let crowd = Crowd::new();
+        let crowd = StreamCount::new();
         let (mut stream, _bell, mut far) = waking(&rt, rt.alloc(), LONG_MILLIS, &crowd);
         let start = Instant::now(&rt).expect(&rt, "a clock");
         far.write_all([7u8; 1_000].get(..sent).unwrap_or(&[]))

@@ -2,6 +2,7 @@
 //! script has, after each line, what it makes, and at its end how the world is, each line after `> `.
 //! A told script has the same without the packets.
 
+use pres_service::ServiceFault;
 use pres_sim::sim_run;
 use std::alloc::Global;
 use std::process::Abort;
@@ -11,7 +12,7 @@ fn made(rt: &impl Abort, alloc: Global, script: &str) -> String {
     let mut output = Vec::new(alloc);
     let status = match sim_run(alloc, &mut script.as_bytes(), &mut output) {
         Ok(()) => 0,
-        Err(fault) => fault.status(),
+        Err(fault) => ServiceFault::from(fault).status(),
     };
     let text = String::from_utf8(output).expect(rt, "text");
     format!(in alloc; "{text}status {status}\n").expect(rt, "memory")

@@ -2,7 +2,7 @@
 //! text of lines, each a case and what it must answer.
 
 use crate::said::{expect_said, expect_text};
-use pres_body::{print_entries, read_entries};
+use pres_batch_json::{print_entries, read_entries};
 use pres_log::Entry;
 use pres_write::Items;
 use std::alloc::Global;

@@ -3,10 +3,10 @@
 
 use crate::said::{expect_said, expect_text, json_text};
 use pres_ids::{read_session, session_value, stamp_value};
+use pres_limits::MAX_SAFE_INTEGER;
 use pres_wire::{
     ClientId, Count, Down, Field, IdFault, MAX_TEXT_BYTES, Number, SessionId, Stamp, Up, WireFault,
 };
-use pres_write::MAX_SAFE_INTEGER;
 use serde_json::Value;
 use std::alloc::Global;
 use std::process::Abort;

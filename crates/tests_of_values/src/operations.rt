@@ -7,8 +7,8 @@ ghost use Rattle.pres_write.specs.Outcomes.{writes_in};
 use crate::said::{expect_said, expect_text, json_text};
 use pres_tree::{Path, Scalar, Tree, TreeFault, TreeJson, to_value};
 use pres_write::{
-    Basic, Draft, DraftJson, Items, Kept, Moment, Op, OpJson, Outcome, Placement, Puts, Slot,
-    SlotForm, Transaction, Unconditional, WriteFault, apply, apply_all, copy_writes,
+    Basic, Draft, DraftJson, DraftLeaf, DraftLeafForm, Items, Kept, Moment, Op, OpJson, Outcome,
+    Placement, Puts, Transaction, Unconditional, WriteFault, apply, apply_all, copy_writes,
     read_unconditional, unconditional_value,
 };
 use serde_json::Value;
@@ -369,7 +369,7 @@ fn puts_of(rt: &impl Abort, alloc: Global, op: Unconditional) -> Puts {
 
 fn put_text(rt: &impl Abort, alloc: Global, put: &Placement) -> String {
     let path = put.path().text(alloc).expect(rt, "memory");
-    let value = to_value::<Slot, SlotForm>(alloc, put.draft()).expect(rt, "memory");
+    let value = to_value::<DraftLeaf, DraftLeafForm>(alloc, put.draft()).expect(rt, "memory");
     format!(in alloc; " {path} {value}").expect(rt, "memory")
 }
 

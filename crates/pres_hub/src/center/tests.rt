@@ -3,9 +3,10 @@
 ghost use Rattle.std.specs.Prelude.{◌≡◌, ◌^◌};
 
 use super::{Core, is_apart, take_message};
-use pres_exchange::{Bell, Fault, Keeper, MemKeeper, Moment, NoBell, SessionId, Up, Why};
+use pres_accounting::Seat;
+use pres_dispatch::{Bell, Fault, Keeper, MemKeeper, Moment, NoBell, SessionId, Up, Why};
+use pres_faults::HubFault;
 use pres_ids::{ClientId, Number, Stamp};
-use pres_seats::{HubFault, Seat};
 use std::alloc::Global;
 use std::marker::Brand;
 use std::process::Abort;

@@ -1,7 +1,7 @@
 use Rattle.std.proofs.Common.{ap, map}
 use Rattle.sqlite.specs.Effect.{Database}
-use Rattle.pres_table.specs.Saved.{shown_row}
-use Rattle.pres_saved.specs.Saved.{readable_rows}
+use Rattle.pres_batch_rows.specs.RowContents.{shown_row}
+use Rattle.pres_saved.specs.SavedLogs.{readable_rows}
 use Rattle.pres_file.proofs.keeper.found.Goals as goal
 
 pub returns-in-Ok-clause-read : goal.returns-in-Ok-clause-read

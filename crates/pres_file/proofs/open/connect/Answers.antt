@@ -2,7 +2,7 @@ use Rattle.std.proofs.Common.{Bool, cond, ap₂, subst, List, ℕ}
 use Rattle.sqlite_disk.specs.Events.{Event, replay}
 use Rattle.sqlite_wal.specs.Recovery.{Image}
 use Rattle.sqlite.specs.Files.{file_state}
-use Rattle.pres_file.specs.Found.{Finds}
+use Rattle.pres_file.specs.FileOpening.{Finds}
 use Rattle.pres_file.proofs.Successes.{from_one}
 use Rattle.pres_file.proofs.open.connect.Goals as goal
 

@@ -2,7 +2,7 @@ use Rattle.std.proofs.Common.{sym, subst, ◌∙◌, arith, true≢false}
 use Rattle.sqlite.specs.Files.{HoldsDatabase, image_of}
 use Rattle.sqlite.proofs.FileLemmas.{same_image}
 use Rattle.sqlite_pool.specs.Opening.{IsBlankFile}
-use Rattle.pres_file.specs.Found.{new_page_size}
+use Rattle.pres_file.specs.FileOpening.{new_page_size}
 use Rattle.pres_file.proofs.Blank.{holds_nothing}
 use Rattle.pres_file.proofs.Successes.{from_three}
 use Rattle.pres_file.proofs.open.connect_in.Goals as goal

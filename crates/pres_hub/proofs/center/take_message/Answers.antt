@@ -1,6 +1,6 @@
 use Rattle.std.proofs.Common.{◌≡◌, ◌+◌, ◌∙◌, ap, unwrap_or, arith}
-use Rattle.pres_hub.specs.Said.{accepted_of}
-use Rattle.pres_hub.proofs.Heard.{was_accepted, was_none}
+use Rattle.pres_hub.specs.CoreCalls.{accepted_of}
+use Rattle.pres_hub.proofs.SayAnswered.{was_accepted, was_none}
 use Rattle.pres_hub.proofs.center.take_message.Goals as goal
 use Rattle.pres_hub.proofs.center.take_message.Goals.{then-after-before+in-Some, else-after-before}
 

@@ -4,7 +4,7 @@ use Rattle.pres_tree.specs.declared.scalar.Scalar.{Scalar}
 use Rattle.pres_tree.specs.declared.scalar.Scalar.TheVariants as scalar
 use Rattle.pres_tree.specs.Paths.{Path, IsPath}
 use Rattle.pres_tree.specs.Rows.{Rows}
-use Rattle.pres_server.specs.Growth.{puts_by, StandsIn}
+use Rattle.pres_server.specs.InternalGrowth.{puts_by, StandsIn}
 use Rattle.pres_server.proofs.Stands.{comes_last, holds_place, puts_value}
 use Rattle.pres_server.proofs.grow.stand_in.Goals as goal
 

@@ -1,8 +1,8 @@
 use Rattle.std.proofs.Common.{rules, ◌∙◌, ap, sym, subst, ◌≡◌, ◌++◌, ◌∷◌, [], append_assoc, IfOk}
 use Rattle.pres_server.specs.Streams.{answers, answers_to}
-use Rattle.pres_server.specs.Heard.{heard_after_all}
-use Rattle.pres_server.specs.Index.{Indexed, Tells}
-use Rattle.pres_server.specs.Invariants.{MayTakeAll}
+use Rattle.pres_server.specs.ServerStates.{heard_after_all}
+use Rattle.pres_server.specs.InternalIndex.{Indexed, Tells}
+use Rattle.pres_server.specs.InternalInvariants.{MayTakeAll}
 use Rattle.pres_server.proofs.Heard.{tells_after, tells_carried}
 use Rattle.pres_server.proofs.Taken.{first_carried, rest_taken, first_added}
 use Rattle.pres_server.proofs.index.+take_all.Goals as goal

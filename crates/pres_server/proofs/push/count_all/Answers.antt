@@ -2,8 +2,8 @@ use Rattle.std.proofs.Common.{◌∙◌, ap, sym, subst}
 use Rattle.std.specs.BTreeMap.{get, Updates}
 use Rattle.pres_ids.specs.Ids.{client_cmp}
 use Rattle.pres_ids.specs.declared.id.SessionId.{SessionId}
-use Rattle.pres_server.specs.Places.{MaySend, sent_one}
-use Rattle.pres_server.specs.Pushes.{standing, after_pushes, MayPushAll}
+use Rattle.pres_server.specs.InternalSessions.{MaySend, sent_one}
+use Rattle.pres_server.specs.InternalPushes.{standing, after_pushes, MayPushAll}
 use Rattle.pres_server.proofs.Pushed.{stands_after}
 use Rattle.pres_server.proofs.push.count_all.Goals as goal
 

@@ -1,6 +1,6 @@
 use Rattle.std.proofs.Common.{◌≡◌}
 use Rattle.pres_ids.specs.Ids.{ClientId}
-use Rattle.pres_server.specs.Pushes.{standing, after_pushes, MayPushAll}
+use Rattle.pres_server.specs.InternalPushes.{standing, after_pushes, MayPushAll}
 use Rattle.pres_server.proofs.push.count_all.Given as goal
 
 abbrev pub invariant-loop-reached : goal.invariant-loop-reached

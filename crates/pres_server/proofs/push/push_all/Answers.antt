@@ -1,5 +1,5 @@
 use Rattle.std.proofs.Common.{◌∙◌, ap, sym, subst, ◌++◌}
-use Rattle.pres_server.specs.Pushes.{standing, after_pushes, pushes, MayPushAll}
+use Rattle.pres_server.specs.InternalPushes.{standing, after_pushes, pushes, MayPushAll}
 use Rattle.pres_server.proofs.Pushed.{stands_after, pushed_next}
 use Rattle.pres_server.proofs.push.push_all.Goals as goal
 use Rattle.std.proofs.Common.{arith}

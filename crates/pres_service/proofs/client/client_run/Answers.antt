@@ -1,6 +1,6 @@
 use Rattle.std.proofs.Common.{subst}
 use Rattle.std.proofs.lemmas.Result.{on_ok_weaker}
-use Rattle.pres_service.specs.Visits.{Visits}
+use Rattle.pres_service.specs.ClientRuns.{RunsClient}
 use Rattle.pres_service.proofs.client.client_run.Goals as goal
 
 -- nothing was printed before the lines were read
@@ -12,6 +12,6 @@ returns-clause-visited g c =
     (λ visits. record {
       lines = lines;
       read = c.in_ok-lines.ensures.lines;
-      visits = subst (λ output. Visits c.args.visit.id c.args.visit.incarnation lines (text output) (text c.follow.new.output)) c.in_ok-lines.ensures.quiet visits;
+      visits = subst (λ output. RunsClient c.args.visit.id c.args.visit.incarnation lines (text output) (text c.follow.new.output)) c.in_ok-lines.ensures.quiet visits;
     })
     c.follow.ensures.visited

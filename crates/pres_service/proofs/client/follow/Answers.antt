@@ -1,6 +1,6 @@
 use Rattle.std.proofs.Common.{[], ◌∷◌, ◌++◌, Some, subst}
 use Rattle.pres_client.specs.declared.call.Call.TheVariants.{GoOnline, GoOffline}
-use Rattle.pres_drive.specs.Driven.{Drives, asked_in}
+use Rattle.pres_client_connection.specs.DrivenClients.{Drives, asked_in}
 use Rattle.pres_service.proofs.client.follow.Goals as goal
 
 -- the client was new

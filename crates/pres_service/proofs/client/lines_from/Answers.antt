@@ -1,4 +1,4 @@
-use Rattle.pres_service.proofs.Inputs.{known_lines, says_known}
+use Rattle.pres_script.proofs.Inputs.{known_lines, says_known}
 use Rattle.pres_service.proofs.client.lines_from.Goals as goal
 
 pub returns-in-Ok-clause-lines : goal.returns-in-Ok-clause-lines

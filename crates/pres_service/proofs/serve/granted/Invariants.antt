@@ -1,4 +1,4 @@
-use Rattle.pres_file.specs.Found.{HoldsOurs}
+use Rattle.pres_file.specs.FileOpening.{HoldsOurs}
 use Rattle.pres_service.proofs.serve.granted.Given as goal
 
 -- what is taken for granted: what was found was made by our statements

@@ -1,6 +1,6 @@
 use Rattle.std.proofs.Common.{◌≡◌, ◌++◌, Some, map, ap, ◌∙◌, append-nil}
 use Rattle.std.proofs.lemmas.List.{drop_all}
-use Rattle.pres_service.specs.Lines.{first_bad}
+use Rattle.pres_script.specs.Lines.{first_bad}
 use Rattle.pres_sim.specs.Scripts.{script_bytes, scripted}
 use Rattle.pres_sim.proofs.Played.{all_say, one_by_one}
 use Rattle.pres_sim.proofs.sim.steps_of.Goals as goal

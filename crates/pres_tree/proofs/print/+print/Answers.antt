@@ -10,8 +10,8 @@ use Rattle.pres_tree.specs.Paths.{path_cmp, sorted_by}
 use Rattle.pres_tree.specs.Rows.{Rows, height}
 use Rattle.pres_tree.specs.Layer.{child_rows, rows_of_node}
 use Rattle.pres_tree.specs.Falls.{height-sorted_by}
-use Rattle.pres_tree.specs.Reading.{rows_of, fault_of, fault_or, rows_or, members_rows, members_fault}
-use Rattle.pres_tree.specs.Printing.{json_of, members_of, MembersReadBack}
+use Rattle.pres_tree.specs.JsonReading.{rows_of, fault_of, fault_or, rows_or, members_rows, members_fault}
+use Rattle.pres_tree.specs.JsonPrinting.{json_of, members_of, MembersReadBack}
 use Rattle.pres_tree.proofs.Nodes.{at_object, tallest, tallest-le-height, tallest-middle}
 use Rattle.pres_tree.proofs.Printing.{leaf_printed, json-object, Printed, printed-none, printed-more, printed-json, printed-reads_back, texts, text_end, texts_rise}
 use Rattle.pres_tree.proofs.print.+print.Goals as goal
@@ -26,7 +26,7 @@ pub to_value-returns-in-Leaf-clause-reads_back :
     goal.to_value-returns-in-Leaf-clause-reads_back
 to_value-returns-in-Leaf-clause-reads_back g t c =
     let is = sym (ap rows_of_node c.in-Leaf.is) ∙ c.tree.view_is in
-    leaf_printed view g.P.Form.reading c.print.result c.in-Leaf.leaf c.args.tree.now is c.print.ensures.reads_back
+    leaf_printed view g.P.LeafForm.reading c.print.result c.in-Leaf.leaf c.args.tree.now is c.print.ensures.reads_back
 
 pub to_value-returns-in_ok-printed-in-Object-clause-json :
     goal.to_value-returns-in_ok-printed-in-Object-clause-json
@@ -40,7 +40,7 @@ pub to_value-returns-in_ok-printed-in-Object-clause-reads_back :
     goal.to_value-returns-in_ok-printed-in-Object-clause-reads_back
 to_value-returns-in_ok-printed-in-Object-clause-reads_back g t c =
     let at = at_object {n = c.tree.inside.node} c.in-Object.children c.tree.invariant c.tree.view_is c.in-Object.is in
-    let f = g.P.Form.reading in
+    let f = g.P.LeafForm.reading in
     let ms = members_view c.in_ok-printed-in-Object.field-0.entries in
     let back = c.in_ok-printed-in-Object.ensures.reads_back in
     let is = view-Object c.in_ok-printed-in-Object.field-0 in
@@ -58,7 +58,7 @@ printed-loop-key-init g t c =
     let none = c.new-members.ensures.empty in (
       [],
       sym same,
-      subst (Printed g.P.PrintedForm.printing g.P.Form.reading []) (sym none) (printed-none g.P.PrintedForm.printing g.P.Form.reading),
+      subst (Printed g.P.PrintedForm.printing g.P.LeafForm.reading []) (sym none) (printed-none g.P.PrintedForm.printing g.P.LeafForm.reading),
       subst (λ ms. IsStrictlySortedBy key_cmp (texts ms ++ keys_of all)) (sym none) (subst (λ es. IsStrictlySortedBy key_cmp (keys_of es)) (sym same) c.iter-key-items.ensures.ordered),
     )
 
@@ -78,8 +78,8 @@ printed-loop-key-preserved g t c =
     let inserted = c.in_ok-insert.ensures.entries ∙ text_end l.members.entries name made (keys_of left) rise in (
       done ++ e ∷ [],
       l.invariant.1 ∙ ap (λ es. done ++ es) c.in-Some.ensures.steps ∙ sym (append_assoc done (e ∷ []) left),
-      subst (Printed g.P.PrintedForm.printing g.P.Form.reading (done ++ e ∷ [])) (sym inserted)
-          (printed-more g.P.PrintedForm.printing g.P.Form.reading done l.members.entries key child name made l.invariant.2 named c.text.ensures.key c.in_ok-to_value.ensures.json c.in_ok-to_value.ensures.reads_back),
+      subst (Printed g.P.PrintedForm.printing g.P.LeafForm.reading (done ++ e ∷ [])) (sym inserted)
+          (printed-more g.P.PrintedForm.printing g.P.LeafForm.reading done l.members.entries key child name made l.invariant.2 named c.text.ensures.key c.in_ok-to_value.ensures.json c.in_ok-to_value.ensures.reads_back),
       subst (λ ms. IsStrictlySortedBy key_cmp (texts ms ++ keys_of left)) (sym inserted) (texts_rise l.members.entries name made (keys_of left) rise),
     )
 
@@ -87,14 +87,14 @@ pub printed-returns-clause-json : goal.printed-returns-clause-json
 printed-returns-clause-json g t c =
     let l = c.loop-key in
     let all : c.args.children.now.entries ≡ l.invariant.0 = l.invariant.1 ∙ ap (λ es. l.invariant.0 ++ es) c.in-None.ensures.steps.0 ∙ append-nil l.invariant.0 in
-    printed-json g.P.PrintedForm.printing g.P.Form.reading l.invariant.0 l.members.entries l.invariant.2 ∙ ap (members_of g.P.PrintedForm.printing) (sym all)
+    printed-json g.P.PrintedForm.printing g.P.LeafForm.reading l.invariant.0 l.members.entries l.invariant.2 ∙ ap (members_of g.P.PrintedForm.printing) (sym all)
 
 pub printed-returns-clause-reads_back : goal.printed-returns-clause-reads_back
 printed-returns-clause-reads_back g t c =
     let l = c.loop-key in
     let all : c.args.children.now.entries ≡ l.invariant.0 = l.invariant.1 ∙ ap (λ es. l.invariant.0 ++ es) c.in-None.ensures.steps.0 ∙ append-nil l.invariant.0 in
-    subst (λ es. MembersReadBack g.P.Form.reading es (members_view l.members.entries)) (sym all)
-    (printed-reads_back g.P.PrintedForm.printing g.P.Form.reading l.invariant.0 l.members.entries l.invariant.2)
+    subst (λ es. MembersReadBack g.P.LeafForm.reading es (members_view l.members.entries)) (sym all)
+    (printed-reads_back g.P.PrintedForm.printing g.P.LeafForm.reading l.invariant.0 l.members.entries l.invariant.2)
 
 pub printed-to_value-requires : goal.printed-to_value-requires
 printed-to_value-requires g t c κs within =

@@ -16,5 +16,5 @@ decreases-printed g l = 2 * tallest l.children.now.entries
 abbrev pub invariant-printed-loop-key : goal.invariant-printed-loop-key
 invariant-printed-loop-key g l =
     (done : List (Key × Rows g.row.L.Denot)) × (l.children.entries ≡ done ++ l.key-iterator)
-    × Printed g.P.PrintedForm.printing g.P.Form.reading done l.members.entries
+    × Printed g.P.PrintedForm.printing g.P.LeafForm.reading done l.members.entries
     × IsStrictlySortedBy key_cmp (texts l.members.entries ++ keys_of l.key-iterator)

@@ -5,7 +5,7 @@ use Rattle.serde_json.specs.Data.{object}
 use Rattle.pres_tree.specs.Rows.{height}
 use Rattle.pres_tree.specs.Layer.{child_rows, rows_of_node}
 use Rattle.pres_tree.specs.Falls.{height-sorted_by}
-use Rattle.pres_tree.specs.Printing.{json_of, members_of, ReadsBack, MembersReadBack, IsPlain, tokens_of, tokens_of_members}
+use Rattle.pres_tree.specs.JsonPrinting.{json_of, members_of, ReadsBack, MembersReadBack, IsPlain, tokens_of, tokens_of_members}
 use Rattle.pres_tree.proofs.Nodes.{at_object, tallest, tallest-le-height, tallest-middle, tallest-rest}
 use Rattle.pres_tree.proofs.Printing.{json-object, leaf_written, on_ok, on_any, object_read, written-none, written-more, written-plain, written-reads_back}
 use Rattle.pres_tree.proofs.Plain.{ArePlain, plain_members}
@@ -53,7 +53,7 @@ write_members-loop-key-preserved g t c =
       (
         c.loop-key.invariant.3.0 ++ (key, child) ∷ [],
         c.loop-key.invariant.3.1 ∙ ap (λ es. c.loop-key.invariant.3.0 ++ es) c.in-Some.ensures.steps ∙ sym (append_assoc c.loop-key.invariant.3.0 ((key, child) ∷ []) left),
-        written-more f g.P.Form.reading c.loop-key.invariant.3.0 key child c.loop-key.invariant.3.2 c.text.ensures.key c.in_ok-write_value.ensures.reads_back c.in_ok-write_value.ensures.plain,
+        written-more f g.P.LeafForm.reading c.loop-key.invariant.3.0 key child c.loop-key.invariant.3.2 c.text.ensures.key c.in_ok-write_value.ensures.reads_back c.in_ok-write_value.ensures.plain,
       ),
       c.loop-key.invariant.4,
     )
@@ -62,7 +62,7 @@ pub write_value-returns-in-Leaf-clause-reads_back :
     goal.write_value-returns-in-Leaf-clause-reads_back
 write_value-returns-in-Leaf-clause-reads_back g t c =
     let is = sym (ap rows_of_node c.in-Leaf.is) ∙ c.tree.view_is in
-    leaf_written g.P.PrintedForm.printing g.P.Form.reading c.write.result c.in-Leaf.leaf c.args.tree.now is c.write.ensures.reads_back
+    leaf_written g.P.PrintedForm.printing g.P.LeafForm.reading c.write.result c.in-Leaf.leaf c.args.tree.now is c.write.ensures.reads_back
 
 pub write_value-returns-in_ok-begin_object-in-Object-clause-plain :
     goal.write_value-returns-in_ok-begin_object-in-Object-clause-plain
@@ -76,7 +76,7 @@ write_value-returns-in_ok-begin_object-in-Object-clause-plain g t c =
 pub write_value-returns-in_ok-begin_object-in-Object-clause-reads_back :
     goal.write_value-returns-in_ok-begin_object-in-Object-clause-reads_back
 write_value-returns-in_ok-begin_object-in-Object-clause-reads_back g t c =
-    let f = g.P.Form.reading in
+    let f = g.P.LeafForm.reading in
     let at = at_object {n = c.tree.inside.node} c.in-Object.children c.tree.invariant c.tree.view_is c.in-Object.is in
     let ms = members_of g.P.PrintedForm.printing c.in-Object.children.entries in
     let is : object ms ≡ json_of g.P.PrintedForm.printing c.args.tree.now =
@@ -89,14 +89,14 @@ write_members-returns-clause-plain g t c =
     let l = c.loop-key in
     let all : c.args.children.now.entries ≡ l.invariant.3.0 = l.invariant.3.1 ∙ ap (λ es. l.invariant.3.0 ++ es) c.in-None.ensures.steps.0 ∙ append-nil l.invariant.3.0 in
     on_any c.end_object.result
-    (plain_members g.P.PrintedForm.printing c.args.children.now.entries l.invariant.4 (subst (ArePlain g.P.PrintedForm.printing) (sym all) (written-plain g.P.PrintedForm.printing g.P.Form.reading l.invariant.3.0 l.invariant.3.2)))
+    (plain_members g.P.PrintedForm.printing c.args.children.now.entries l.invariant.4 (subst (ArePlain g.P.PrintedForm.printing) (sym all) (written-plain g.P.PrintedForm.printing g.P.LeafForm.reading l.invariant.3.0 l.invariant.3.2)))
 
 pub write_members-returns-clause-reads_back : goal.write_members-returns-clause-reads_back
 write_members-returns-clause-reads_back g t c =
     let l = c.loop-key in
     let all : c.args.children.now.entries ≡ l.invariant.3.0 = l.invariant.3.1 ∙ ap (λ es. l.invariant.3.0 ++ es) c.in-None.ensures.steps.0 ∙ append-nil l.invariant.3.0 in
     on_any c.end_object.result
-    (subst (λ es. MembersReadBack g.P.Form.reading es (members_of g.P.PrintedForm.printing es)) (sym all) (written-reads_back g.P.PrintedForm.printing g.P.Form.reading l.invariant.3.0 l.invariant.3.2))
+    (subst (λ es. MembersReadBack g.P.LeafForm.reading es (members_of g.P.PrintedForm.printing es)) (sym all) (written-reads_back g.P.PrintedForm.printing g.P.LeafForm.reading l.invariant.3.0 l.invariant.3.2))
 
 pub write_members-loop-key-init : goal.write_members-loop-key-init
 write_members-loop-key-init g t c =
@@ -104,7 +104,7 @@ write_members-loop-key-init g t c =
       omega (arith, ap tallest same),
       ap (λ es. c.args.out.now.tokens ++ tokens_of_members (members_of g.P.PrintedForm.printing es)) same,
       refl {a = c.args.out.now.before},
-      ([], sym same, written-none g.P.PrintedForm.printing g.P.Form.reading),
+      ([], sym same, written-none g.P.PrintedForm.printing g.P.LeafForm.reading),
       c.iter-key-items.ensures.ordered,
     )
 

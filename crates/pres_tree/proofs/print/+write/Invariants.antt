@@ -3,7 +3,7 @@ use Rattle.std.specs.List.Sorted.{IsStrictlySortedBy}
 use Rattle.std.specs.Map.{keys_of}
 use Rattle.pres_tree.specs.Keys.{Key, key_cmp}
 use Rattle.pres_tree.specs.Rows.{Rows, height}
-use Rattle.pres_tree.specs.Printing.{members_of, tokens_of_members}
+use Rattle.pres_tree.specs.JsonPrinting.{members_of, tokens_of_members}
 use Rattle.pres_tree.proofs.Nodes.{tallest}
 use Rattle.pres_tree.proofs.Printing.{AreWritten}
 use Rattle.pres_tree.proofs.print.+write.Given as goal
@@ -21,5 +21,5 @@ invariant-write_members-loop-key g l =
     × (l.out.tokens ++ tokens_of_members (members_of g.P.PrintedForm.printing l.key-iterator)
     ≡ l.fn.out.tokens ++ tokens_of_members (members_of g.P.PrintedForm.printing l.children.entries))
     × (l.out.before ≡ l.fn.out.before)
-    × ((done : List (Key × Rows g.row.L.Denot)) × (l.children.entries ≡ done ++ l.key-iterator) × AreWritten g.P.PrintedForm.printing g.P.Form.reading done)
+    × ((done : List (Key × Rows g.row.L.Denot)) × (l.children.entries ≡ done ++ l.key-iterator) × AreWritten g.P.PrintedForm.printing g.P.LeafForm.reading done)
     × IsStrictlySortedBy key_cmp (keys_of l.children.entries)

@@ -1,6 +1,6 @@
 use Rattle.std.proofs.Common.{◌++◌, ap, ◌∙◌}
 use Rattle.json.specs.Print.{print}
-use Rattle.pres_tree.specs.Printing.{json_of}
+use Rattle.pres_tree.specs.JsonPrinting.{json_of}
 use Rattle.pres_tree.proofs.Written.{text_written}
 use Rattle.pres_tree.proofs.print.print_value.Goals as goal
 

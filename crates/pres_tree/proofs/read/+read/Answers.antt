@@ -12,7 +12,7 @@ use Rattle.std.specs.Map.{keys_of}
 use Rattle.serde_json.specs.View.{view, items_view, members_view}
 use Rattle.pres_tree.specs.Layer.{child_rows}
 use Rattle.pres_tree.specs.Rows.{placed}
-use Rattle.pres_tree.specs.Reading.{items_rows, items_fault, members_rows, members_fault, Shallow}
+use Rattle.pres_tree.specs.JsonReading.{items_rows, items_fault, members_rows, members_fault, Shallow}
 use Rattle.pres_tree.proofs.Found.{null_is_empty}
 use Rattle.pres_tree.proofs.Items.{ItemsRead, items_start, items_null, items_insert, items_fail, items_end}
 use Rattle.pres_tree.proofs.Shallow.{Kid, Kids, Kids-children, Kids-insert, Shallow-leaf, Shallow-result, Shallow-object, IsValue-object, items-root, members-root}
@@ -25,12 +25,12 @@ pub read_at-returns-then-is_leaf-clause-shallow : goal.read_at-returns-then-is_l
 read_at-returns-then-is_leaf-clause-shallow g t c = subst (Shallow c.args.left) (sym c.scalar.ensures) (Shallow-leaf c.args.left c.in_ok-read.field-0 (omega arith))
 
 pub read_items-loop-item-init : goal.read_items-loop-item-init
-read_items-loop-item-init g t c = (refl, items_start g.F.Form.reading c.args.left (items_view c.deref-item-items.result.now) c.new-children.result.entries c.new-children.ensures.empty c.new-children.ensures.ordered)
+read_items-loop-item-init g t c = (refl, items_start g.F.LeafForm.reading c.args.left (items_view c.deref-item-items.result.now) c.new-children.result.entries c.new-children.ensures.empty c.new-children.ensures.ordered)
 
 pub read_items-loop-item-preserved : goal.read_items-loop-item-preserved
 read_items-loop-item-preserved g t c =
     let l = c.loop-item in
-    let f = g.F.Form.reading in
+    let f = g.F.LeafForm.reading in
     let i = l.item-index in
     let items = c.deref-item-items.result.now in
     let es = l.children.entries in
@@ -78,7 +78,7 @@ read_items-of_children-requires-clause-value g t c =
 pub read_items-returns-in-None-clause-read : goal.read_items-returns-in-None-clause-read
 read_items-returns-in-None-clause-read g t c =
     let l = c.loop-item in
-    let f = g.F.Form.reading in
+    let f = g.F.LeafForm.reading in
     let items = c.deref-item-items.result.now in
     let done : drop l.item-index items ≡ [] = drop_all l.item-index items c.loop-item-test.false in
     let value = c.deref-item-items.ensures.value in
@@ -94,19 +94,19 @@ read_items-returns-in-None-clause-shallow g t c =
 
 pub read_at-returns-in-Array-clause-shallow : goal.read_at-returns-in-Array-clause-shallow
 read_at-returns-in-Array-clause-shallow g t c =
-    let f = g.F.Form.reading in
+    let f = g.F.LeafForm.reading in
     let ds = items_view c.in-Array.items.items in
     Shallow-result _ _ c.args.left c.saturating_sub.result (items_rows f 0 ds) c.read_items.result c.saturating_sub.ensures (items-root f 0 ds) c.read_items.ensures.read c.read_items.ensures.shallow
 
 pub read_at-returns-in-Object-clause-shallow : goal.read_at-returns-in-Object-clause-shallow
 read_at-returns-in-Object-clause-shallow g t c =
-    let f = g.F.Form.reading in
+    let f = g.F.LeafForm.reading in
     let ms = members_view c.in-Object.members.entries in
     Shallow-result _ _ c.args.left c.saturating_sub-in-Object.result (members_rows f ms) c.read_members.result c.saturating_sub-in-Object.ensures (members-root f ms) c.read_members.ensures.read c.read_members.ensures.shallow
 
 pub read_members-loop-name-init : goal.read_members-loop-name-init
 read_members-loop-name-init g t c =
-    let f = g.F.Form.reading in
+    let f = g.F.LeafForm.reading in
     let all = c.into_iter-name-iterator.result in
     let same = c.into_iter-name-iterator.ensures.into_iter_gives ∙ c.iter-name-items.ensures.rest in
     let none = c.new-children.ensures.empty in (
@@ -119,7 +119,7 @@ read_members-loop-name-init g t c =
 pub read_members-loop-name-preserved-then-not-is_empty : goal.read_members-loop-name-preserved-then-not-is_empty
 read_members-loop-name-preserved-then-not-is_empty g t c =
     let l = c.loop-name in
-    let f = g.F.Form.reading in
+    let f = g.F.LeafForm.reading in
     let rest = c.next.new.self in
     let es = l.children.entries in
     let steps = c.in-Some.ensures.steps in
@@ -151,7 +151,7 @@ read_members-loop-name-preserved-then-not-is_empty g t c =
 pub read_members-loop-name-preserved : goal.read_members-loop-name-preserved
 read_members-loop-name-preserved g t c =
     let l = c.loop-name in
-    let f = g.F.Form.reading in
+    let f = g.F.LeafForm.reading in
     let rest = c.next.new.self in
     let es = l.children.entries in
     let steps = c.in-Some.ensures.steps in

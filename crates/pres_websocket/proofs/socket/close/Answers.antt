@@ -6,7 +6,7 @@ use Rattle.tungstenite.specs.declared.CloseCode.TheVariants.{Normal}
 use Rattle.tungstenite.specs.declared.error.Error.{Error}
 use Rattle.tungstenite.specs.declared.error.Error.TheVariants.{OutOfMemory}
 use Rattle.tungstenite.specs.declared.message.CloseFrame.{CloseFrame}
-use Rattle.pres_websocket.specs.Closing.{Asks}
+use Rattle.pres_websocket.specs.CloseHandshake.{Asks}
 use Rattle.pres_websocket.proofs.socket.close.Goals as goal
 
 asks : {S : Type 0} (contents : S → Option (List ℕ)) (frame : Option CloseFrame) (old new : Socket S) (asked : Result (Unit {0}) Error)

@@ -1,6 +1,6 @@
 use Rattle.std.proofs.Common.{[], Some}
 use Rattle.tungstenite.specs.declared.CloseCode.TheVariants.{Normal}
-use Rattle.pres_websocket.specs.Closing.{Closes}
+use Rattle.pres_websocket.specs.CloseHandshake.{Closes}
 use Rattle.pres_websocket.proofs.socket.close.Given as goal
 
 -- what was read so far was read behind the close

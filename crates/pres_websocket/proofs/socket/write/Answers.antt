@@ -3,7 +3,7 @@ use Rattle.tungstenite.specs.Content.{text as text_content}
 use Rattle.tungstenite.specs.Connection.{write_step}
 use Rattle.tungstenite.specs.Failure.{WriteFails}
 use Rattle.tungstenite.specs.declared.error.Error.{Error as Cause}
-use Rattle.pres_websocket.specs.Ends.{of_stream}
+use Rattle.pres_websocket.specs.ConnectionFaults.{of_stream}
 use Rattle.pres_websocket.specs.declared.fault.SockFault.{SockFault}
 use Rattle.pres_websocket.proofs.socket.write.Goals as goal
 

@@ -1,7 +1,7 @@
 use Rattle.std.proofs.Common.{◌∷◌, ◌++◌, [], ap, ◌∙◌, append_assoc}
 use Rattle.std.specs.Prelude.{codes}
 use Rattle.json.specs.Token.{key, string}
-use Rattle.pres_tree.specs.Printing.{tokens_of}
+use Rattle.pres_tree.specs.JsonPrinting.{tokens_of}
 use Rattle.pres_tree.proofs.Printing.{on_ok}
 use Rattle.pres_ids.specs.Forms.{whole}
 use Rattle.pres_wire.proofs.down_text.reply_head.Goals as goal

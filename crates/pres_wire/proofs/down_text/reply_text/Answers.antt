@@ -3,7 +3,7 @@ use Rattle.std.specs.Prelude.{codes}
 use Rattle.json.specs.Token.{begin_object, end_object, key, string}
 use Rattle.serde_json.specs.Data.{depth}
 use Rattle.serde_json.specs.Read.{max_depth}
-use Rattle.pres_tree.specs.Printing.{tokens_of, IsPlain}
+use Rattle.pres_tree.specs.JsonPrinting.{tokens_of, IsPlain}
 use Rattle.pres_ids.specs.Forms.{whole, session_json}
 use Rattle.pres_write.specs.declared.outcome.Kept.TheVariants.{Wrote}
 use Rattle.pres_wire.specs.declared.down.Down.TheVariants as down

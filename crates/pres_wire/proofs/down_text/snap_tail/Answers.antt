@@ -1,7 +1,7 @@
 use Rattle.std.proofs.Common.{◌∷◌, ◌++◌, ap, ◌∙◌, append_assoc}
 use Rattle.std.specs.Prelude.{codes}
 use Rattle.json.specs.Token.{key}
-use Rattle.pres_tree.specs.Printing.{json_of, tokens_of}
+use Rattle.pres_tree.specs.JsonPrinting.{json_of, tokens_of}
 use Rattle.pres_tree.specs.Scalars.{scalar_printing}
 use Rattle.pres_tree.proofs.Printing.{on_ok}
 use Rattle.pres_ids.specs.Forms.{whole, session_json}

@@ -2,10 +2,10 @@ use Rattle.std.proofs.Common.{◌∙◌, ap, subst}
 use Rattle.std.specs.Prelude.{string_bytes}
 use Rattle.serde_json.specs.View.{view}
 use Rattle.pres_tree.specs.Paths.{path_text}
-use Rattle.pres_tree.specs.Printing.{ReadsBack}
+use Rattle.pres_tree.specs.JsonPrinting.{ReadsBack}
 use Rattle.pres_tree.specs.Rows.{Rows}
 use Rattle.pres_tree.proofs.Texts.{segments-path_text, path_fault-path_text}
-use Rattle.pres_write.specs.declared.draft.Slot.{Slot}
+use Rattle.pres_write.specs.declared.draft.DraftLeaf.{DraftLeaf}
 use Rattle.pres_write.specs.declared.op.Op.TheVariants.{Set}
 use Rattle.pres_write.specs.Drafts.{slot_reading}
 use Rattle.pres_write.specs.OpForms.{op_read, set_form}
@@ -21,5 +21,5 @@ returns-clause-reads_back c =
     reads_made c.set_form.result (set_form (string_bytes c.in_ok-path.path) made) (Set placement) c.set_form.ensures
     (ap (λ text. op_read (set_form text made)) (c.in_ok-path.ensures.text ∙ ap path_text c.path.ensures.path)
     ∙ reads_put placement.0 placement.1 made (segments-path_text placement.0 keys) (path_fault-path_text placement.0 keys)
-    (subst (λ (v : Rows Slot). ReadsBack slot_reading v made) c.draft.ensures c.in_ok-value.ensures.reads_back)
+    (subst (λ (v : Rows DraftLeaf). ReadsBack slot_reading v made) c.draft.ensures c.in_ok-value.ensures.reads_back)
     (fits_height placement.0 placement.1 c.path.ensures.fits))

@@ -2,11 +2,11 @@ use Rattle.std.proofs.Common.{◌≡◌, ◌∷◌, ◌++◌, [], List, Result, 
 use Rattle.std.specs.Result.{OnOk}
 use Rattle.json.specs.Token.{Token}
 use Rattle.pres_tree.specs.Paths.{path_text}
-use Rattle.pres_tree.specs.Printing.{ReadsBack, json_of, tokens_of}
+use Rattle.pres_tree.specs.JsonPrinting.{ReadsBack, json_of, tokens_of}
 use Rattle.pres_tree.specs.Rows.{Rows}
 use Rattle.pres_tree.proofs.Printing.{on_ok, on_any}
 use Rattle.pres_tree.proofs.Texts.{segments-path_text, path_fault-path_text}
-use Rattle.pres_write.specs.declared.draft.Slot.{Slot}
+use Rattle.pres_write.specs.declared.draft.DraftLeaf.{DraftLeaf}
 use Rattle.pres_write.specs.Drafts.{slot_reading, slot_printing}
 use Rattle.pres_write.proofs.Depths.{fits_height}
 use Rattle.pres_write.proofs.Printed.{reads_put}
@@ -38,7 +38,7 @@ returns-clause-reads_back c =
     let draft = c.draft.ensures in
     on_any c.end_object.result
     (reads_put placement.0 placement.1 (json_of slot_printing placement.1) (segments-path_text placement.0 keys) (path_fault-path_text placement.0 keys)
-    (subst (λ (v : Rows Slot). ReadsBack slot_reading v (json_of slot_printing v)) draft c.in_ok-write_value.ensures.reads_back)
+    (subst (λ (v : Rows DraftLeaf). ReadsBack slot_reading v (json_of slot_printing v)) draft c.in_ok-write_value.ensures.reads_back)
     (fits_height placement.0 placement.1 c.path.ensures.fits))
 
 pub returns-clause-plain : goal.returns-clause-plain

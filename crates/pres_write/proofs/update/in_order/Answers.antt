@@ -2,7 +2,7 @@ use Rattle.std.proofs.Common.{◌∷◌, [], ◌++◌, append_assoc, ap, ◌∙�
 use Rattle.std.specs.FinMap.Entries.{put}
 use Rattle.pres_tree.specs.Paths.{Path, path_cmp}
 use Rattle.pres_tree.specs.Rows.{Rows}
-use Rattle.pres_write.specs.declared.draft.Slot.{Slot}
+use Rattle.pres_write.specs.declared.draft.DraftLeaf.{DraftLeaf}
 use Rattle.pres_write.proofs.Ordered.{insert_entry-put}
 use Rattle.pres_write.proofs.update.in_order.Goals as goal
 
@@ -10,7 +10,7 @@ pub loop-place-preserved : goal.loop-place-preserved
 loop-place-preserved c =
     let l = c.loop-place in
     let done = l.invariant.0 in
-    let e : Path × Rows Slot = (c.in-Some.place, c.in-Some.draft) in (
+    let e : Path × Rows DraftLeaf = (c.in-Some.place, c.in-Some.draft) in (
       e ∷ done,
       l.invariant.1 ∙ ap (λ es. es ++ done) c.in-Some.ensures.items ∙ append_assoc c.pop.new.self.items (e ∷ []) done,
       c.in_ok-insert.ensures.entries

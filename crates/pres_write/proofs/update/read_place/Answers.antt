@@ -7,9 +7,9 @@ use Rattle.serde_json.specs.View.{view}
 use Rattle.pres_tree.specs.declared.fault.TreeFault.{TreeFault}
 use Rattle.pres_tree.specs.declared.fault.TreeFault.TheVariants.{Memory, TooDeep}
 use Rattle.pres_tree.specs.Paths.{Path, IsPath, max_depth, segments, path_fault}
-use Rattle.pres_tree.specs.Reading.{fault_of, rows_of}
+use Rattle.pres_tree.specs.JsonReading.{fault_of, rows_of}
 use Rattle.pres_tree.specs.Rows.{Rows}
-use Rattle.pres_write.specs.declared.draft.Slot.{Slot}
+use Rattle.pres_write.specs.declared.draft.DraftLeaf.{DraftLeaf}
 use Rattle.pres_write.specs.Drafts.{slot_reading}
 use Rattle.pres_write.specs.OpForms.{place_fault}
 use Rattle.pres_tree.proofs.Texts.{path_append}
@@ -38,7 +38,7 @@ there p name d sound few =
     named p name d sound
     ∙ ap (λ b. cond b (Some TooDeep) (fault_of slot_reading (max_depth + 1 - (length p + length (segments name))) d)) (not_above (length p + length (segments name)) few)
 
-abbrev Read : Path → List ℕ → Data → Path × Rows Slot → Type 0
+abbrev Read : Path → List ℕ → Data → Path × Rows DraftLeaf → Type 0
 Read p name d place = (place_fault p name d ≡ None) × (place ≡ (segments name, rows_of slot_reading d))
 
 abbrev Refused : Path → List ℕ → Data → TreeFault → Type 0

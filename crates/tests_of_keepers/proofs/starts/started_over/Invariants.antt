@@ -1,4 +1,4 @@
-use Rattle.pres_saved.specs.Keeps.{IsReady}
+use Rattle.pres_saved.specs.SqlKeepers.{IsReady}
 use Rattle.tests_of_keepers.proofs.starts.started_over.Given as goal
 
 -- what is taken for granted: what was found was made by our statements

@@ -1,6 +1,6 @@
 use denote.Param.Send.{sendable}
 use Rattle.std.proofs.Crossing.{crosses, send as global_is}
-use Rattle.pres_exchange.proofs.bells.NoBell.TheSendSync.{the_send as bell_is}
+use Rattle.pres_dispatch.proofs.bells.NoBell.TheSendSync.{the_send as bell_is}
 use Rattle.pres_hub.proofs.Crossing.{hub_sync}
 use Rattle.std.proofs.sync.Barrier.TheSendSync.{the_sync as barrier_is}
 use Rattle.tests_of_keepers.proofs.callers.Caller.TheSendSync.{the_send as caller_is}

@@ -1,7 +1,7 @@
 use Rattle.std.proofs.Common.{◌≡◌, ◌++◌, [], ◌∷◌, false, Some, refl, ap, sym, ◌∙◌, ◌+◌, append-nil, if◌then◌else◌, rules}
-use Rattle.pres_mail.specs.Asks.{ask_of, without_ask}
-use Rattle.pres_client.specs.Clients.{State, is_online, no_message, no_write}
-use Rattle.pres_mail.specs.Asks.{is_too_deep}
+use Rattle.pres_client_state.specs.Asks.{ask_of, without_ask}
+use Rattle.pres_client.specs.Clients.{ClientState, is_online, no_message, no_write}
+use Rattle.pres_client_state.specs.Asks.{is_too_deep}
 use Rattle.pres_client.specs.Calls.{make_write, sent_now, try_of}
 use Rattle.pres_client.proofs.Ranges.{in_range-write, below}
 use Rattle.pres_client.proofs.Tried.{try_accepted, tried, tried_fields}
@@ -25,7 +25,7 @@ returns-clause-ok c =
     let m = try_of c.args.request c.in-Some-take.ask c.args.draft in
     let same : c.in-Some.ask.now ≡ c.in-Some-take.ask = search rules in
     let i = c.self.inside in
-    let before : State =
+    let before : ClientState =
     record {
       session = i.session;
       attempts = i.attempts;
@@ -49,7 +49,7 @@ returns-clause-ok c =
     let sends : c.put.new.self.sends ≡ i.mail.sends ++ sent_now before m = c.put.ensures.sends ∙ rw (c.reserve.ensures.sends, out) refl in
     let notices : c.put.new.self.notices ≡ i.mail.notices = c.put.ensures.notices ∙ rw (c.reserve.ensures.notices, c.new.ensures.items) (append-nil i.mail.notices) in
     let sent : c.sent_with_one-sent.result ≡ (if is_online i.phase then i.made + 1 else i.sent) = c.sent_with_one-sent.ensures ∙ ap (λ t. if is_online t.phase then t.made + 1 else t.sent) (sym c.self.view_is) in
-    let after : State → State = λ t. let d = make_write t m in record d { asks = without_ask c.args.request t.asks } in
+    let after : ClientState → ClientState = λ t. let d = make_write t m in record d { asks = without_ask c.args.request t.asks } in
     let fields = tried_fields before m c.args.request c.sent_with_one-sent.result c.put.new.self.queue c.put.new.self.sends c.put.new.self.notices c.take.new.self queue sends notices c.take.ensures.left sent in (
       accepted,
       rw (tried s c.args.request c.args.draft (ask_of c.args.request s.asks) c.in-Some-take.ask found)

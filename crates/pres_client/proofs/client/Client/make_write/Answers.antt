@@ -1,5 +1,5 @@
 use Rattle.std.proofs.Common.{◌≡◌, ◌++◌, ap, sym, ◌∙◌, ◌+◌, if◌then◌else◌}
-use Rattle.pres_client.specs.Clients.{State, is_online, no_message, no_write}
+use Rattle.pres_client.specs.Clients.{ClientState, is_online, no_message, no_write}
 use Rattle.pres_client.specs.Calls.{make_write, sent_now}
 use Rattle.pres_client.proofs.Ranges.{in_range-write, below}
 use Rattle.pres_client.proofs.Tried.{made_fields}
@@ -17,7 +17,7 @@ pub returns-clause-ok : goal.returns-clause-ok
 returns-clause-ok c =
     let m = c.args.queued in
     let i = c.self.inside in
-    let before : State =
+    let before : ClientState =
     record {
       session = i.session;
       attempts = i.attempts;

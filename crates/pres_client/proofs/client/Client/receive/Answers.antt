@@ -1,4 +1,4 @@
-use Rattle.pres_client.specs.Receiving.{after_receive}
+use Rattle.pres_client.specs.ReceivedMessages.{after_receive}
 use Rattle.pres_client.proofs.Welcomes.{few_of}
 use Rattle.pres_client.proofs.Silent.{few-receive}
 use Rattle.pres_client.proofs.client.Client.receive.Goals as goal

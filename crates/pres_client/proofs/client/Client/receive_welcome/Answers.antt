@@ -1,8 +1,8 @@
 use Rattle.std.proofs.Common.{◌≡◌, true, ◌++◌, map, sym, ap, ◌∙◌, arith, rules, unwrap_or}
-use Rattle.pres_mail.specs.Queues.{count_writes}
+use Rattle.pres_client_state.specs.Queues.{count_writes}
 use Rattle.pres_client.specs.Clients.{InRange}
-use Rattle.pres_mail.specs.Watches.{on_of}
-use Rattle.pres_client.specs.Receiving.{is_fit}
+use Rattle.pres_client_state.specs.Watches.{on_of}
+use Rattle.pres_client.specs.ReceivedMessages.{is_fit}
 use Rattle.pres_client.proofs.Welcomes.{count-ons, numbers-opened, in_range-opened}
 use Rattle.pres_client.proofs.client.Client.receive_welcome.Goals as goal
 use Rattle.std.proofs.lemmas.Grind.{common_steps}

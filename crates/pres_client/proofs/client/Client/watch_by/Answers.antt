@@ -1,6 +1,6 @@
 use Rattle.std.proofs.Common.{◌≡◌, ◌++◌, [], ◌∷◌, refl, ap, sym, ◌∙◌, append-nil, rules}
-use Rattle.pres_mail.specs.Watches.{with_watch, fresh}
-use Rattle.pres_client.specs.Clients.{State, no_message}
+use Rattle.pres_client_state.specs.Watches.{with_watch, fresh}
+use Rattle.pres_client.specs.Clients.{ClientState, no_message}
 use Rattle.pres_client.specs.Calls.{enqueue, sent_now}
 use Rattle.pres_client.proofs.Ranges.{in_range-other, below}
 use Rattle.pres_client.proofs.Watched.{watched_fields}
@@ -17,7 +17,7 @@ pub returns-clause-ok : goal.returns-clause-ok
 returns-clause-ok c =
     let m = c.args.queued in
     let i = c.self.inside in
-    let before : State =
+    let before : ClientState =
     record {
       session = i.session;
       attempts = i.attempts;
@@ -41,7 +41,7 @@ returns-clause-ok c =
     let sends : c.put.new.self.sends ≡ i.mail.sends ++ sent_now before m = c.put.ensures.sends ∙ rw (c.reserve.ensures.sends, out) refl in
     let notices : c.put.new.self.notices ≡ i.mail.notices = c.put.ensures.notices ∙ rw (c.reserve.ensures.notices, c.new.ensures.items) (append-nil i.mail.notices) in
     let added : c.add.new.self ≡ with_watch c.args.path (fresh c.args.request) i.watches = search rules in
-    let after : State → State = λ t. record (enqueue t m) { watches = with_watch c.args.path (fresh c.args.request) t.watches } in
+    let after : ClientState → ClientState = λ t. record (enqueue t m) { watches = with_watch c.args.path (fresh c.args.request) t.watches } in
     ◌∙◌ {b = after before}
     (watched_fields before m c.args.path c.args.request c.put.new.self.queue c.put.new.self.sends c.put.new.self.notices c.add.new.self queue sends notices added)
     (ap after c.self.view_is)

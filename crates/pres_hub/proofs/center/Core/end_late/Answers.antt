@@ -2,8 +2,8 @@ use Rattle.std.proofs.Common.{◌≡◌, ◌∙◌, ap, subst, sym, refl, arith}
 use Rattle.pres_log.specs.Logs.{number}
 use Rattle.pres_server.specs.LegalLog.{IsLegal}
 use Rattle.pres_server.specs.declared.input.Input.TheVariants as input
-use Rattle.pres_engine.specs.Engines.{Runs}
-use Rattle.pres_exchange.proofs.Marks.{stay_twice}
+use Rattle.pres_keeper.specs.Engines.{Runs}
+use Rattle.pres_dispatch.proofs.Marks.{stay_twice}
 use Rattle.pres_hub.proofs.Fewer.{late_fewer, rose}
 use Rattle.pres_hub.proofs.Ends.{late_more, none_late}
 use Rattle.pres_hub.proofs.center.Core.end_late.Goals as goal

@@ -1,8 +1,8 @@
 use Rattle.std.proofs.Common.{◌≡◌, ◌≤◌, Option}
-use Rattle.pres_server.specs.Heard.{State}
-use Rattle.pres_lines.specs.Lines.{Lines}
-use Rattle.pres_exchange.specs.Exchanges.{StayMarked}
-use Rattle.pres_hub.specs.Said.{AreLateEnded}
+use Rattle.pres_server.specs.ServerStates.{ServerState}
+use Rattle.pres_ring.specs.Lines.{Lines}
+use Rattle.pres_dispatch.specs.Dispatches.{StayMarked}
+use Rattle.pres_hub.specs.CoreCalls.{AreLateEnded}
 use Rattle.pres_hub.proofs.Fewer.{left_of}
 use Rattle.pres_hub.proofs.center.Core.end_late.Given as goal
 
@@ -10,7 +10,7 @@ use Rattle.pres_hub.proofs.center.Core.end_late.Given as goal
 abbrev pub invariant-loop-self : goal.invariant-loop-self
 invariant-loop-self g l =
     (l.self.counts ≡ l.fn.self.counts) × (l.self.start ≡ l.fn.self.start) × (l.fn.self.run.number ≤ l.self.run.number) × StayMarked l.fn.self.lines l.self.lines
-    × ((after : Option State) (behind : Lines) → AreLateEnded l.now l.self.run.server after l.self.lines behind → AreLateEnded l.now l.fn.self.run.server after l.fn.self.lines behind)
+    × ((after : Option ServerState) (behind : Lines) → AreLateEnded l.now l.self.run.server after l.self.lines behind → AreLateEnded l.now l.fn.self.run.server after l.fn.self.lines behind)
 
 abbrev pub decreases-loop-self : goal.decreases-loop-self
 decreases-loop-self g l = left_of l.self.run.server

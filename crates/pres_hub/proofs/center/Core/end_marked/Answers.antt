@@ -2,13 +2,13 @@ use Rattle.std.proofs.Common.{◌≡◌, ◌∙◌, refl, sym, subst, true, [], 
 use Rattle.pres_log.specs.Logs.{entries}
 use Rattle.pres_server.specs.LegalLog.{IsLegal}
 use Rattle.pres_server.specs.Sessions.{is_open}
-use Rattle.pres_engine.specs.Engines.{Runs}
-use Rattle.pres_lines.specs.Lines.{first_marked, IsFirstMarked}
-use Rattle.pres_exchange.proofs.Marks.{stay_twice}
-use Rattle.pres_seats.specs.declared.fault.HubFault.TheVariants.{Memory}
-use Rattle.pres_exchange.proofs.Ended.{passed_on}
+use Rattle.pres_keeper.specs.Engines.{Runs}
+use Rattle.pres_ring.specs.Lines.{first_marked, IsFirstMarked}
+use Rattle.pres_dispatch.proofs.Marks.{stay_twice}
+use Rattle.pres_faults.specs.declared.hub_fault.HubFault.TheVariants.{Memory}
+use Rattle.pres_dispatch.proofs.Ended.{passed_on}
 use Rattle.pres_hub.specs.Cores.{end_by}
-use Rattle.pres_hub.specs.Said.{IsCarriedOut, IsRefused, StopsAtMark}
+use Rattle.pres_hub.specs.CoreCalls.{IsCarriedOut, IsEventRefused, StopsAtMark}
 use Rattle.pres_hub.proofs.Fewer.{marked_fewer}
 use Rattle.pres_hub.proofs.Ends.{marked_more, stops_uncopied, refused_end}
 use Rattle.pres_hub.proofs.center.Core.end_marked.Goals as goal
@@ -63,7 +63,7 @@ returns-in_err-event-clause-stopped g c =
       next = (c.in_ok-session.session, c.in_ok-session.why);
       first = subst (λ x. IsFirstMarked (c.in_ok-session.session, c.in_ok-session.why) x.lines) c.self.view_is first;
       refused = refused_end (end_by c.in_ok-session.why c.in_ok-session.session) c.args.now now.run.server new.run.server c.in_err-event.field-0.0
-          (subst (λ i. IsRefused i c.args.now now.run.server new.run.server c.in_err-event.field-0.0) c.end_by.ensures.input c.in_err-event.ensures.refused);
+          (subst (λ i. IsEventRefused i c.args.now now.run.server new.run.server c.in_err-event.field-0.0) c.end_by.ensures.input c.in_err-event.ensures.refused);
     } in
     passed_on c.from_residual-in_err-event.result c.in_err-event.field-0.0 (StopsAtMark c.args.now c.args.self.now.run.server new.run.server c.args.self.now.lines new.lines) c.from_residual-in_err-event.ensures.1
     (subst (λ lines. StopsAtMark c.args.now c.args.self.now.run.server new.run.server c.args.self.now.lines lines c.in_err-event.field-0.0) (sym c.in_err-event.ensures.lines) stopped)

@@ -1,8 +1,8 @@
 use Rattle.std.proofs.Common.{◌≡◌, ◌≤◌, Option}
-use Rattle.pres_server.specs.Heard.{State}
-use Rattle.pres_lines.specs.Lines.{Lines}
-use Rattle.pres_exchange.specs.Exchanges.{StayMarked}
-use Rattle.pres_hub.specs.Said.{AreMarkedEnded}
+use Rattle.pres_server.specs.ServerStates.{ServerState}
+use Rattle.pres_ring.specs.Lines.{Lines}
+use Rattle.pres_dispatch.specs.Dispatches.{StayMarked}
+use Rattle.pres_hub.specs.CoreCalls.{AreMarkedEnded}
 use Rattle.pres_hub.proofs.Fewer.{left_of}
 use Rattle.pres_hub.proofs.center.Core.end_marked.Given as goal
 
@@ -10,7 +10,7 @@ use Rattle.pres_hub.proofs.center.Core.end_marked.Given as goal
 abbrev pub invariant-loop-next : goal.invariant-loop-next
 invariant-loop-next g l =
     (l.self.counts ≡ l.fn.self.counts) × (l.self.start ≡ l.fn.self.start) × (l.fn.self.run.number ≤ l.self.run.number) × StayMarked l.fn.self.lines l.self.lines
-    × ((after : Option State) (behind : Lines) → AreMarkedEnded l.now l.self.run.server after l.self.lines behind → AreMarkedEnded l.now l.fn.self.run.server after l.fn.self.lines behind)
+    × ((after : Option ServerState) (behind : Lines) → AreMarkedEnded l.now l.self.run.server after l.self.lines behind → AreMarkedEnded l.now l.fn.self.run.server after l.fn.self.lines behind)
 
 abbrev pub decreases-loop-next : goal.decreases-loop-next
 decreases-loop-next g l = left_of l.self.run.server

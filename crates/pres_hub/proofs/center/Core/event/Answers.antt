@@ -1,5 +1,5 @@
 use Rattle.std.proofs.Common.{subst}
-use Rattle.pres_hub.specs.Said.{IsCarriedOut}
+use Rattle.pres_hub.specs.CoreCalls.{IsCarriedOut}
 use Rattle.pres_hub.proofs.Counted.{same_accepted, ended_accepted, no_hello}
 use Rattle.pres_hub.proofs.center.Core.event.Goals as goal
 

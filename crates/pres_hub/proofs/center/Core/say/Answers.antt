@@ -1,9 +1,9 @@
 use Rattle.std.proofs.Common.{◌≡◌, ◌+◌, sym, ◌∙◌, ap, subst}
 use Rattle.pres_hub.specs.Cores.{AreAccepted}
 use Rattle.pres_server.specs.declared.input.Input.TheVariants as input
-use Rattle.pres_hub.specs.Said.{accepted_of, IsCarriedOut}
+use Rattle.pres_hub.specs.CoreCalls.{accepted_of, IsCarriedOut}
 use Rattle.pres_hub.proofs.Counted.{ended_accepted}
-use Rattle.pres_hub.proofs.Heard.{few_runs, said_accepted}
+use Rattle.pres_hub.proofs.SayAnswered.{few_runs, said_accepted}
 use Rattle.pres_hub.proofs.center.Core.say.Goals as goal
 
 pub take_message-requires-clause-few : goal.take_message-requires-clause-few

@@ -2,16 +2,16 @@ use Rattle.std.proofs.Common.{◌+◌, sym, ◌∙◌, ap, subst}
 use Rattle.pres_log.specs.Logs.{entries}
 use Rattle.pres_server.specs.Sessions.{is_open, count}
 use Rattle.pres_hub.specs.Cores.{AreAccepted}
-use Rattle.pres_hub.specs.Said.{accepted_of, IsAbreast}
+use Rattle.pres_hub.specs.CoreCalls.{accepted_of, HasSameCount}
 use Rattle.pres_hub.proofs.Counted.{ended_accepted}
-use Rattle.pres_hub.proofs.Heard.{few_runs, said_accepted}
+use Rattle.pres_hub.proofs.SayAnswered.{few_runs, said_accepted}
 use Rattle.pres_hub.proofs.center.tests.say_for.Goals as goal
 
 pub take_message-requires-clause-abreast : goal.take_message-requires-clause-abreast
 take_message-requires-clause-abreast g c =
     let es = entries c.in-Some.server.now.log in
     let session = c.session.ensures in
-    subst (IsAbreast c.args.up c.args.seat.now.q) c.in-Some.ensures
+    subst (HasSameCount c.args.up c.args.seat.now.q) c.in-Some.ensures
     (λ h. sym (ap (λ t. count t es) session) ∙ c.is_apart.ensures.abreast c.if-is_apart.false (ap (λ t. is_open t es) session ∙ h) ∙ c.q.ensures)
 
 pub take_message-requires-clause-few : goal.take_message-requires-clause-few

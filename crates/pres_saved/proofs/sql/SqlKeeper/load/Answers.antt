@@ -1,7 +1,7 @@
 use Rattle.std.proofs.Common.{Ok, sym, ap, ◌∙◌}
 use Rattle.sqlite.specs.Held.{state}
-use Rattle.pres_table.specs.Saved.{shown_rows}
-use Rattle.pres_saved.specs.declared.taker.Batches.{Batches}
+use Rattle.pres_batch_rows.specs.RowContents.{shown_rows}
+use Rattle.pres_saved.specs.declared.replaying.Batches.{Batches}
 use Rattle.pres_saved.proofs.Refused.{all_read, unread}
 use Rattle.pres_saved.proofs.sql.SqlKeeper.load.Goals as goal
 

@@ -1,8 +1,8 @@
 use Rattle.std.proofs.Common.{◌∙◌, ap, map, sym}
 use Rattle.sqlite.specs.Effect.{Database}
-use Rattle.pres_table.specs.Saved.{shown_row}
-use Rattle.pres_table.specs.Opened.{greatest_in}
-use Rattle.pres_saved.specs.Saved.{saved_log}
+use Rattle.pres_batch_rows.specs.RowContents.{shown_row}
+use Rattle.pres_batch_rows.specs.TableOpening.{greatest_in}
+use Rattle.pres_saved.specs.SavedLogs.{saved_log}
 use Rattle.pres_saved.proofs.sql.SqlKeeper.open.Goals as goal
 
 pub returns-in-Ok-clause-ready : goal.returns-in-Ok-clause-ready

@@ -5,7 +5,7 @@ use Rattle.pres_tree.proofs.Undone.{fits_back}
 use Rattle.pres_write.specs.declared.basic.Basic.{Basic}
 use Rattle.pres_write.specs.Basics.{applied}
 use Rattle.pres_write.proofs.Applied.{applied_nothing}
-use Rattle.pres_server.specs.Index.{retry_after}
+use Rattle.pres_server.specs.InternalIndex.{retry_after}
 use Rattle.pres_server.proofs.index.Index.+write_all.Goals as goal
 
 no_items : (ws : List Basic) → length ws ≡ 0 → ws ≡ []

@@ -1,6 +1,6 @@
 use Rattle.std.proofs.Common.{refl, sym, ◌∙◌, ap, append-nil, ◌++◌}
-use Rattle.pres_server.specs.Pushes.{after_pushes, pushes}
-use Rattle.pres_server.specs.Index.{session_at}
+use Rattle.pres_server.specs.InternalPushes.{after_pushes, pushes}
+use Rattle.pres_server.specs.InternalIndex.{session_at}
 use Rattle.pres_server.proofs.Pushed.{nobody_touched, no_writes}
 use Rattle.pres_server.proofs.index.Index.carry_out.Goals as goal
 

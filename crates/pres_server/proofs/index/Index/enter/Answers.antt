@@ -1,5 +1,5 @@
 use Rattle.std.proofs.Common.{sym, subst, ◌≡◌, ◌∷◌, [], IfOk}
-use Rattle.pres_server.specs.Index.{answer_on}
+use Rattle.pres_server.specs.InternalIndex.{answer_on}
 use Rattle.pres_server.proofs.index.Index.enter.Goals as goal
 use Rattle.std.proofs.Common.{arith}
 use Rattle.std.proofs.lemmas.Grind.{common_steps}

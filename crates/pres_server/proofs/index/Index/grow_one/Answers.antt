@@ -4,9 +4,9 @@ use Rattle.pres_tree.specs.declared.scalar.Scalar.{Scalar}
 use Rattle.pres_tree.specs.Rows.{Rows, IsValue}
 use Rattle.pres_log.specs.Logs.{writes_of}
 use Rattle.pres_server.specs.declared.index.Index.{Index}
-use Rattle.pres_server.specs.Index.{Carries, StepsAt, Indexed, retry_after}
-use Rattle.pres_server.specs.Invariants.{MayTakeAll}
-use Rattle.pres_server.specs.Growth.{IsAlike, IsSilent}
+use Rattle.pres_server.specs.InternalIndex.{Carries, StepsAt, Indexed, retry_after}
+use Rattle.pres_server.specs.InternalInvariants.{MayTakeAll}
+use Rattle.pres_server.specs.InternalGrowth.{IsAlike, IsSilent}
 use Rattle.pres_server.proofs.Taken.{first_carried}
 use Rattle.pres_server.proofs.Alike.{answering, may_take_alike, alike_then, finds_open, may_keep, place_kept, silent_alike, may_settle, grown, alike_where}
 use Rattle.pres_server.proofs.index.Index.grow_one.Goals as goal

@@ -10,8 +10,8 @@ use Rattle.pres_retry.specs.Tables.{rows_of}
 use Rattle.pres_log.specs.declared.entry.Entry.{Entry}
 use Rattle.pres_log.specs.declared.entry.Entry.TheVariants as entry
 use Rattle.pres_server.specs.declared.index.Index.{Index}
-use Rattle.pres_server.specs.Index.{live_at}
-use Rattle.pres_server.specs.Follows.{IsNextBy, MayComeOn}
+use Rattle.pres_server.specs.InternalIndex.{live_at}
+use Rattle.pres_server.specs.InternalFollows.{IsNextBy, MayComeOn}
 use Rattle.pres_server.proofs.index.Index.may_come.Goals as goal
 
 -- what is said of the entry's form is said of the entry

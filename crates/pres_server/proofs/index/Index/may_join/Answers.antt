@@ -1,6 +1,6 @@
 use Rattle.std.proofs.Common.{◌≡◌, ◌<◌, ◌≤◌, ap, sym, subst, List, [], ◌∷◌, length, get_or, arith, IsTrue, ◌↔◌}
 use Rattle.std.specs.Prelude.{IfOk}
-use Rattle.pres_server.specs.Follows.{MayJoinOn}
+use Rattle.pres_server.specs.InternalFollows.{MayJoinOn}
 use Rattle.pres_server.proofs.index.Index.may_join.Goals as goal
 use Rattle.std.proofs.lemmas.Grind.{common_steps}
 

@@ -4,9 +4,9 @@ use Rattle.pres_log.specs.declared.entry.Entry.TheVariants as entry
 use Rattle.pres_log.specs.Logs.{writes_of}
 use Rattle.pres_server.specs.declared.index.Index.{Index}
 use Rattle.pres_server.specs.LegalLog.{Supersedes}
-use Rattle.pres_server.specs.Places.{Session, HasRoom}
-use Rattle.pres_server.specs.Index.{session_at, retry_after, MayTake, Indexed, Carries}
-use Rattle.pres_server.specs.Invariants.{MayTakeAll}
+use Rattle.pres_server.specs.InternalSessions.{Session, HasRoom}
+use Rattle.pres_server.specs.InternalIndex.{session_at, retry_after, MayTake, Indexed, Carries}
+use Rattle.pres_server.specs.InternalInvariants.{MayTakeAll}
 use Rattle.pres_server.proofs.Taken.{first_carried}
 use Rattle.pres_server.proofs.Alike.{answering, may_keep, may_settle}
 use Rattle.pres_server.proofs.Superseded.{superseded}

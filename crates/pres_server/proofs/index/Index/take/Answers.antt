@@ -1,5 +1,5 @@
 use Rattle.std.proofs.Common.{subst}
-use Rattle.pres_server.specs.Index.{Carries}
+use Rattle.pres_server.specs.InternalIndex.{Carries}
 use Rattle.pres_server.proofs.index.Index.take.Goals as goal
 use Rattle.std.proofs.Common.{arith}
 use Rattle.std.proofs.lemmas.Grind.{common_steps}

@@ -5,9 +5,9 @@ use Rattle.pres_log.specs.declared.entry.Entry.{Entry}
 use Rattle.pres_log.specs.Logs.{Log, entries}
 use Rattle.pres_server.specs.declared.index.Index.{Index}
 use Rattle.pres_server.specs.LegalLog.{MayComeTogether, MayFollow}
-use Rattle.pres_server.specs.Heard.{State}
-use Rattle.pres_server.specs.Index.{Indexed}
-use Rattle.pres_server.specs.Invariants.{MayTakeAll, Holds}
+use Rattle.pres_server.specs.ServerStates.{ServerState}
+use Rattle.pres_server.specs.InternalIndex.{Indexed}
+use Rattle.pres_server.specs.InternalInvariants.{MayTakeAll, ServerInvariant}
 use Rattle.pres_server.proofs.Turned.{fitting, kept_after}
 use Rattle.pres_server.proofs.Alike.{indexed_alike}
 use Rattle.pres_server.proofs.server.Server.grow.Goals as goal
@@ -49,7 +49,7 @@ grow-grown-requires c =
     let log = c.self.inside.log in
     let index = c.self.inside.index in
     let b = c.args.batch in
-    let follows : MayFollow log b = subst (λ (s : State). MayFollow s.log b) (sym c.self.view_is) c.requires in
+    let follows : MayFollow log b = subst (λ (s : ServerState). MayFollow s.log b) (sym c.self.view_is) c.requires in
     let batch : c.in-Some.batch.now ≡ b = last_is c.batches.result.now log b c.in-Some.batch.now c.in-Some.ensures.value (c.batches.ensures.batches ∙ c.in-Ok.ensures.ok) in
     let es : c.entries.result.now ≡ b.entries = c.entries.ensures.entries ∙ ap (λ (d : Batch). d.entries) batch in (
       entries log,
@@ -63,13 +63,13 @@ invariant_of-self-in-Err c =
     let new = c.grow-grown.new.self in
     let kept = c.self.invariant in
     let same = popped c.pop.result c.push.new.self c.pop.new.self log c.args.batch c.pop.ensures c.in-Ok.ensures.ok in
-    let holds : Holds log c.self.inside.moment new = record {
+    let holds : ServerInvariant log c.self.inside.moment new = record {
       legal = kept.legal;
       indexed = indexed_alike (entries log) c.self.inside.index new c.in-Err.ensures.unchanged kept.indexed;
       last = kept.last;
       ordered = c.open_count.ensures.ordered;
     } in
-    subst (λ l. Holds l c.self.inside.moment new) (sym same) holds
+    subst (λ l. ServerInvariant l c.self.inside.moment new) (sym same) holds
 
 pub invariant_of-self-2 : goal.invariant_of-self-2
 invariant_of-self-2 c =
@@ -77,10 +77,10 @@ invariant_of-self-2 c =
     let index = c.self.inside.index in
     let new = c.grow-grown.new.self in
     let b = c.args.batch in
-    let follows : MayFollow log b = subst (λ (s : State). MayFollow s.log b) (sym c.self.view_is) c.requires in
+    let follows : MayFollow log b = subst (λ (s : ServerState). MayFollow s.log b) (sym c.self.view_is) c.requires in
     let batch : c.in-Some.batch.now ≡ b = last_is c.batches.result.now log b c.in-Some.batch.now c.in-Some.ensures.value (c.batches.ensures.batches ∙ c.in-Ok.ensures.ok) in
     let es : c.entries.result.now ≡ b.entries = c.entries.ensures.entries ∙ ap (λ (d : Batch). d.entries) batch in
     let f = taken log index b _ _ _ c.first.ensures c.moment-moment.ensures es (fitting log c.self.inside.moment index b c.self.invariant follows) in
     let ix : Indexed (entries log ++ b.entries) new = subst (λ l. Indexed (entries log ++ l) new) es (c.in_default-grown.ensures.indexed (entries log) f) in
-    let k : Holds (log ++ b ∷ []) b.moment new = kept_after log c.self.inside.moment index new b c.self.invariant follows ix c.open_count.ensures.ordered in
-    subst (λ (x : Log × ℕ). Holds x.0 x.1 new) (λ i. (sym c.in-Ok.ensures.ok i, sym c.moment-moment.ensures i)) k
+    let k : ServerInvariant (log ++ b ∷ []) b.moment new = kept_after log c.self.inside.moment index new b c.self.invariant follows ix c.open_count.ensures.ordered in
+    subst (λ (x : Log × ℕ). ServerInvariant x.0 x.1 new) (λ i. (sym c.in-Ok.ensures.ok i, sym c.moment-moment.ensures i)) k

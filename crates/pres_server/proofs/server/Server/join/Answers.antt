@@ -5,9 +5,9 @@ use Rattle.pres_log.specs.Logs.{Log, entries}
 use Rattle.pres_server.specs.declared.index.Index.{Index}
 use Rattle.pres_server.specs.LegalLog.{MayFollow}
 use Rattle.pres_server.specs.Streams.{answers}
-use Rattle.pres_server.specs.Heard.{heard_after_all, State}
-use Rattle.pres_server.specs.Index.{Indexed, Tells, heard_in}
-use Rattle.pres_server.specs.Invariants.{MayTakeAll, Holds}
+use Rattle.pres_server.specs.ServerStates.{heard_after_all, ServerState}
+use Rattle.pres_server.specs.InternalIndex.{Indexed, Tells, heard_in}
+use Rattle.pres_server.specs.InternalInvariants.{MayTakeAll, ServerInvariant}
 use Rattle.pres_server.specs.Turns.{state_after}
 use Rattle.pres_server.proofs.Heard.{heard_tells}
 use Rattle.pres_server.proofs.Turned.{fitting, kept_after, heard_done, batch_is}
@@ -23,7 +23,7 @@ take_all-requires c =
     let log = c.self.inside.log in
     let index = c.self.inside.index in
     let b = c.args.batch in
-    let follows : MayFollow log b = subst (λ (s : State). MayFollow s.log b) (sym c.self.view_is) c.requires in
+    let follows : MayFollow log b = subst (λ (s : ServerState). MayFollow s.log b) (sym c.self.view_is) c.requires in
     (entries log, taken log index b _ _ _ c.first.ensures c.moment-moment.ensures c.entries.ensures.entries (fitting log c.self.inside.moment index b c.self.invariant follows))
 
 pub invariant_of-server : goal.invariant_of-server
@@ -32,11 +32,11 @@ invariant_of-server c =
     let old = c.self.inside.index in
     let new = c.take_all.new.index in
     let b = c.args.batch in
-    let follows : MayFollow log b = subst (λ (s : State). MayFollow s.log b) (sym c.self.view_is) c.requires in
+    let follows : MayFollow log b = subst (λ (s : ServerState). MayFollow s.log b) (sym c.self.view_is) c.requires in
     let f = taken log old b _ _ _ c.first.ensures c.moment-moment.ensures c.entries.ensures.entries (fitting log c.self.inside.moment old b c.self.invariant follows) in
     let ix : Indexed (entries log ++ b.entries) new = subst (λ es. Indexed (entries log ++ es) new) c.entries.ensures.entries (c.in_ok-take_all.ensures.indexed (entries log) f) in
-    let k : Holds (log ++ b ∷ []) b.moment new = kept_after log c.self.inside.moment old new b c.self.invariant follows ix c.open_count.ensures.ordered in
-    subst (λ (x : Log × ℕ). Holds x.0 x.1 new) (λ i. (sym c.in-Ok.ensures.ok i, sym c.moment-moment.ensures i)) k
+    let k : ServerInvariant (log ++ b ∷ []) b.moment new = kept_after log c.self.inside.moment old new b c.self.invariant follows ix c.open_count.ensures.ordered in
+    subst (λ (x : Log × ℕ). ServerInvariant x.0 x.1 new) (λ i. (sym c.in-Ok.ensures.ok i, sym c.moment-moment.ensures i)) k
 
 pub returns-clause-server : goal.returns-clause-server
 returns-clause-server c =
@@ -44,23 +44,23 @@ returns-clause-server c =
     let b = c.args.batch in
     let old = c.self.inside.index in
     let new = c.take_all.new.index in
-    let follows : MayFollow log b = subst (λ (s : State). MayFollow s.log b) (sym c.self.view_is) c.requires in
+    let follows : MayFollow log b = subst (λ (s : ServerState). MayFollow s.log b) (sym c.self.view_is) c.requires in
     let tells : Tells (heard_after_all b.moment b.entries (heard_in old)) new =
     subst (λ (x : ℕ × List Entry). Tells (heard_after_all x.0 x.1 (heard_in old)) new) (λ i. (c.moment-moment.ensures i, c.entries.ensures.entries i)) (c.in_ok-take_all.ensures.heard (heard_in old) (heard_tells old)) in
     (λ i. record {
       log = (c.in-Ok.ensures.ok ∙ ap (λ x. log ++ x ∷ []) (batch_is log b follows)) i;
       heard = heard_done b.moment b.entries old new c.self.invariant.ordered c.open_count.ensures.ordered tells i;
     })
-    ∙ ap (λ (s : State). state_after s b.moment b.entries) c.self.view_is
+    ∙ ap (λ (s : ServerState). state_after s b.moment b.entries) c.self.view_is
 
 pub returns-clause-answers : goal.returns-clause-answers
 returns-clause-answers c =
     let log = c.self.inside.log in
     let b = c.args.batch in
     let old = c.self.inside.index in
-    let follows : MayFollow log b = subst (λ (s : State). MayFollow s.log b) (sym c.self.view_is) c.requires in
+    let follows : MayFollow log b = subst (λ (s : ServerState). MayFollow s.log b) (sym c.self.view_is) c.requires in
     let f = taken log old b _ _ _ c.first.ensures c.moment-moment.ensures c.entries.ensures.entries (fitting log c.self.inside.moment old b c.self.invariant follows) in
     c.of.ensures
     ∙ c.in_ok-take_all.ensures.answers (entries log) f
     ∙ (λ i. c.new-answers.ensures.items i ++ answers (entries log) (c.entries.ensures.entries i))
-    ∙ ap (λ (s : State). answers (entries s.log) b.entries) c.self.view_is
+    ∙ ap (λ (s : ServerState). answers (entries s.log) b.entries) c.self.view_is

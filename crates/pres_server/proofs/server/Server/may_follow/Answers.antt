@@ -1,7 +1,7 @@
 use Rattle.std.proofs.Common.{◌≡◌, ◌∙◌, ◌+◌, ◌<◌, ◌↔◌, IsTrue, ap, sym, subst, arith}
 use Rattle.std.proofs.lemmas.Result.{IfOk-weaker}
-use Rattle.pres_server.specs.Follows.{MayJoinOn}
-use Rattle.pres_server.specs.Heard.{State}
+use Rattle.pres_server.specs.InternalFollows.{MayJoinOn}
+use Rattle.pres_server.specs.ServerStates.{ServerState}
 use Rattle.pres_server.specs.LegalLog.{MayFollow}
 use Rattle.pres_server.proofs.Follows.{follows_by}
 use Rattle.pres_server.proofs.Turned.{number_small, open_small, counted}
@@ -34,7 +34,7 @@ returns c =
     let later = c.if-millis.false in
     let first : b.first ≡ c.len-number.result + 1 = sym c.first.ensures ∙ sym c.get.ensures.value ∙ c.if-get-number.false in
     let join = follows_by log c.self.inside.moment index b c.len-number.result c.moment-moment.result c.entries.result.now c.self.invariant c.len-number.ensures c.moment-moment.ensures c.entries.ensures.entries first (omega arith) range in
-    let here = ap (λ (s : State). s.log) c.self.view_is in
+    let here = ap (λ (s : ServerState). s.log) c.self.view_is in
     IfOk-weaker c.may_join.result
     (λ may. IsTrue may ↔ MayJoinOn index (record { number = c.len-number.result; moment = c.moment-moment.result }) c.entries.result.now)
     (λ may. IsTrue may ↔ MayFollow c.args.self.now.log b)

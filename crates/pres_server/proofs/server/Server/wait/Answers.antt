@@ -1,7 +1,7 @@
 use Rattle.std.proofs.Common.{rules, subst, sym}
 use Rattle.pres_log.specs.declared.entry.Batch.{Batch}
 use Rattle.pres_server.specs.LegalLog.{IsLegal, MayFollow}
-use Rattle.pres_server.specs.Heard.{State}
+use Rattle.pres_server.specs.ServerStates.{ServerState}
 use Rattle.pres_log.specs.Logs.{entries}
 use Rattle.pres_server.proofs.Whole.{legal_after, held_together}
 use Rattle.pres_server.proofs.server.Server.wait.Goals as goal
@@ -19,7 +19,7 @@ invariant_of-result c =
     let g : MayFollow log c.new-batch.result = subst (MayFollow log) (sym c.new-batch.ensures) f in
     record {
       follows = g;
-      legal = legal_after log c.new-batch.result (subst (λ (s : State). IsLegal s.log) c.self.view_is c.self.invariant.legal) g;
+      legal = legal_after log c.new-batch.result (subst (λ (s : ServerState). IsLegal s.log) c.self.view_is c.self.invariant.legal) g;
     }
 
 pub returns : goal.returns

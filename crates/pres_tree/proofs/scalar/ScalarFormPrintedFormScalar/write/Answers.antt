@@ -3,7 +3,7 @@ use Rattle.serde_json.specs.Data.{number}
 use Rattle.serde_json.specs.Find.{of_integer}
 use Rattle.serde_json.proofs.Numbers.{number_of-decimal, number_of-negative}
 use Rattle.std.specs.Prelude.{option_map}
-use Rattle.pres_tree.specs.Printing.{IsPlain}
+use Rattle.pres_tree.specs.JsonPrinting.{IsPlain}
 use Rattle.pres_tree.specs.Scalars.{scalar_printing}
 use Rattle.pres_tree.proofs.Printing.{on_any}
 use Rattle.pres_tree.proofs.scalar.ScalarFormPrintedFormScalar.write.Goals as goal

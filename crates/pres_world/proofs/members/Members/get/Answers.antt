@@ -1,7 +1,7 @@
 use Rattle.std.proofs.Common.{◌∙◌, ap, Some}
 use Rattle.std.specs.FinMap.Entries.{find}
 use Rattle.pres_ids.specs.Ids.{client_cmp}
-use Rattle.pres_mail.proofs.Maps.{find_at}
+use Rattle.pres_client_state.proofs.Maps.{find_at}
 use Rattle.pres_world.proofs.members.Members.get.Goals as goal
 
 pub returns-in-Some : goal.returns-in-Some

@@ -2,7 +2,7 @@ use Rattle.std.proofs.Common.{◌∙◌, ap}
 use Rattle.std.specs.FinMap.Entries.{put}
 use Rattle.pres_ids.specs.Ids.{client_cmp}
 use Rattle.pres_client.specs.Clients.{start}
-use Rattle.pres_mail.proofs.Maps.{put_entry}
+use Rattle.pres_client_state.proofs.Maps.{put_entry}
 use Rattle.pres_world.proofs.members.Members.join.Goals as goal
 
 pub returns-clause-ok : goal.returns-clause-ok

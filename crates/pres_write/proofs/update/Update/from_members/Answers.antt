@@ -7,7 +7,7 @@ use Rattle.serde_json.specs.Data.{member, no_members}
 use Rattle.serde_json.specs.View.{view, members_view}
 use Rattle.pres_tree.specs.declared.fault.TreeFault.TheVariants.{Memory}
 use Rattle.pres_tree.specs.Paths.{IsPath, path_cmp, overlap, segments}
-use Rattle.pres_tree.specs.Reading.{rows_of}
+use Rattle.pres_tree.specs.JsonReading.{rows_of}
 use Rattle.pres_write.specs.declared.fault.WriteFault.{WriteFault}
 use Rattle.pres_write.specs.declared.fault.WriteFault.TheVariants.{Tree}
 use Rattle.pres_write.specs.Drafts.{slot_reading}

@@ -3,7 +3,7 @@ use Rattle.std.specs.Map.{keys_of}
 use Rattle.pres_tree.specs.Paths.{Path, overlap}
 use Rattle.pres_tree.specs.Rows.{Rows}
 use Rattle.pres_write.specs.declared.basic.Basic.{Basic}
-use Rattle.pres_write.specs.declared.draft.Slot.{Slot}
+use Rattle.pres_write.specs.declared.draft.DraftLeaf.{DraftLeaf}
 use Rattle.pres_write.specs.Basics.{basic}
 use Rattle.pres_write.specs.Drafts.{settled}
 use Rattle.pres_write.specs.Updates.{update_writes}
@@ -16,7 +16,7 @@ pub loop-place-preserved : goal.loop-place-preserved
 loop-place-preserved c =
     let l = c.loop-place in
     let done = l.invariant.2 in
-    let e : Path × Rows Slot = (c.in-Some.place, c.in-Some.draft) in
+    let e : Path × Rows DraftLeaf = (c.in-Some.place, c.in-Some.draft) in
     let left = c.next.new.self in
     let p = c.args.self.path in
     let all : c.args.self.places ≡ done ++ e ∷ left = l.invariant.3 ∙ ap (λ es. done ++ es) c.in-Some.ensures.steps in

@@ -1,7 +1,7 @@
 use Rattle.std.proofs.Common.{◌≡◌, ◌∷◌, [], ◌++◌, All, append_assoc, append-nil, sym, ap, subst, ◌∙◌}
 use Rattle.pres_tree.specs.Paths.{Path, path_cmp}
 use Rattle.pres_tree.specs.Rows.{Rows, Fits}
-use Rattle.pres_write.specs.declared.draft.Slot.{Slot}
+use Rattle.pres_write.specs.declared.draft.DraftLeaf.{DraftLeaf}
 use Rattle.pres_write.specs.Unconditionals.{ArePuts, puts_below}
 use Rattle.pres_write.specs.Updates.{IsUpdate, FitsBelow}
 use Rattle.pres_write.proofs.Ordered.{each-middle}
@@ -13,7 +13,7 @@ pub loop-place-preserved : goal.loop-place-preserved
 loop-place-preserved c =
     let l = c.loop-place in
     let done = l.invariant.0 in
-    let e : Path × Rows Slot = (c.in-Some.place.now, c.in-Some.draft.now) in
+    let e : Path × Rows DraftLeaf = (c.in-Some.place.now, c.in-Some.draft.now) in
     let left = c.next.new.self in
     let p = c.args.self.now.path in
     let all : c.args.self.now.places ≡ done ++ e ∷ left = l.invariant.1 ∙ ap (λ es. done ++ es) c.in-Some.ensures.steps in
@@ -46,7 +46,7 @@ loop-place-init c = (
 here : (c : In-Some) → FitsBelow c.self.inside.path (c.in-Some.place.now, c.in-Some.draft.now)
 here c =
     let done = c.loop-place.invariant.0 in
-    let e : Path × Rows Slot = (c.in-Some.place.now, c.in-Some.draft.now) in
+    let e : Path × Rows DraftLeaf = (c.in-Some.place.now, c.in-Some.draft.now) in
     let all : c.self.inside.places.entries ≡ done ++ e ∷ c.next.new.self = ap (λ u. u.places) c.self.view_is ∙ c.loop-place.invariant.1 ∙ ap (λ es. done ++ es) c.in-Some.ensures.steps in
     each-middle path_cmp (FitsBelow c.self.inside.path) done e c.next.new.self (subst (All (FitsBelow c.self.inside.path)) all c.self.invariant.fit)
 
@@ -57,7 +57,7 @@ pub fitting-requires : goal.fitting-requires
 fitting-requires c =
     let p = c.self.inside.path ++ c.in-Some.place.now in
     let is : (c.in_ok-path.path, c.in_ok-draft.draft) ≡ (p, c.in-Some.draft.now) = λ i. (c.in_ok-path.ensures i, c.in_ok-draft.ensures i) in
-    subst (λ (q : Path × Rows Slot). Fits q.0 q.1) (sym is) (here (goal.at.fitting-requires c).In-Some).1
+    subst (λ (q : Path × Rows DraftLeaf). Fits q.0 q.1) (sym is) (here (goal.at.fitting-requires c).In-Some).1
 
 pub returns : goal.returns
 returns c =

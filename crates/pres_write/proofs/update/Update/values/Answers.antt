@@ -5,9 +5,9 @@ use Rattle.std.specs.Map.{keys_of}
 use Rattle.serde_json.specs.View.{members_view}
 use Rattle.pres_tree.specs.Keys.{key_cmp}
 use Rattle.pres_tree.specs.Paths.{Path, path_cmp, sorted_by}
-use Rattle.pres_tree.specs.Printing.{ReadsBack}
+use Rattle.pres_tree.specs.JsonPrinting.{ReadsBack}
 use Rattle.pres_tree.specs.Rows.{Rows}
-use Rattle.pres_write.specs.declared.draft.Slot.{Slot}
+use Rattle.pres_write.specs.declared.draft.DraftLeaf.{DraftLeaf}
 use Rattle.pres_write.specs.Drafts.{slot_reading}
 use Rattle.pres_write.specs.OpForms.{below_read, members_from, named, values_json}
 use Rattle.pres_write.specs.Updates.{IsUpdate, FitsBelow}
@@ -19,7 +19,7 @@ pub loop-place-preserved : goal.loop-place-preserved
 loop-place-preserved c =
     let l = c.loop-place in
     let done = l.invariant.0 in
-    let e : Path × Rows Slot = (c.in-Some.place.now, c.in-Some.draft.now) in
+    let e : Path × Rows DraftLeaf = (c.in-Some.place.now, c.in-Some.draft.now) in
     let left = c.next.new.self in
     let u = c.args.self.now in
     let all : u.places ≡ done ++ e ∷ left = l.invariant.1 ∙ ap (λ es. done ++ es) c.in-Some.ensures.steps in

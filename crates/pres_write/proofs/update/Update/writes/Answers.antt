@@ -3,7 +3,7 @@ use Rattle.std.specs.Map.{keys_of}
 use Rattle.pres_tree.specs.Paths.{Path, path_cmp, overlap}
 use Rattle.pres_tree.specs.Rows.{Rows, Fits}
 use Rattle.pres_write.specs.declared.basic.Basic.{Basic}
-use Rattle.pres_write.specs.declared.draft.Slot.{Slot}
+use Rattle.pres_write.specs.declared.draft.DraftLeaf.{DraftLeaf}
 use Rattle.pres_write.specs.Basics.{basic}
 use Rattle.pres_write.specs.Drafts.{settled}
 use Rattle.pres_write.specs.Updates.{FitsBelow, update_writes}
@@ -16,7 +16,7 @@ pub loop-place-preserved : goal.loop-place-preserved
 loop-place-preserved c =
     let l = c.loop-place in
     let done = l.invariant.0 in
-    let e : Path × Rows Slot = (c.in-Some.place.now, c.in-Some.draft.now) in
+    let e : Path × Rows DraftLeaf = (c.in-Some.place.now, c.in-Some.draft.now) in
     let left = c.next.new.self in
     let p = c.args.self.now.path in
     let all : c.args.self.now.places ≡ done ++ e ∷ left = l.invariant.1 ∙ ap (λ es. done ++ es) c.in-Some.ensures.steps in
@@ -59,7 +59,7 @@ loop-place-init c = (
 here : (c : In-Some) → FitsBelow c.self.inside.path (c.in-Some.place.now, c.in-Some.draft.now)
 here c =
     let done = c.loop-place.invariant.0 in
-    let e : Path × Rows Slot = (c.in-Some.place.now, c.in-Some.draft.now) in
+    let e : Path × Rows DraftLeaf = (c.in-Some.place.now, c.in-Some.draft.now) in
     let all : c.self.inside.places.entries ≡ done ++ e ∷ c.next.new.self = ap (λ u. u.places) c.self.view_is ∙ c.loop-place.invariant.1 ∙ ap (λ es. done ++ es) c.in-Some.ensures.steps in
     each-middle path_cmp (FitsBelow c.self.inside.path) done e c.next.new.self (subst (All (FitsBelow c.self.inside.path)) all c.self.invariant.fit)
 

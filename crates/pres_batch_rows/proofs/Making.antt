@@ -1,0 +1,79 @@
+-- What the statements that make the tables do.
+use Rattle.std.proofs.Common.{◌≡◌, ℕ, List, [], ◌∷◌, false, None, Ok, Err, Result, refl, sym, ap, subst, ◌∙◌, IfErr, arith, pos}
+use Rattle.sqlite.specs.Table.{Table}
+use Rattle.sqlite.specs.Schema.{Schema}
+use Rattle.sqlite.specs.Source.TheVariants.{Values}
+use Rattle.sqlite.specs.Command.TheVariants.{Insert, CreateTable}
+use Rattle.sqlite.specs.Compile.{table_defined_by}
+use Rattle.sqlite.specs.Edit.{edit_of, edited}
+use Rattle.sqlite.specs.Rowids.TheVariants.{Chosen}
+use Rattle.sqlite.specs.Change.{created, next_tree, KeepsRows}
+use Rattle.sqlite.specs.Does.{Tally, Does, lacks_sequence}
+use Rattle.sqlite.specs.Rows.{Written}
+use Rattle.sqlite.specs.Tree.{Trees}
+use Rattle.sqlite.specs.Listing.{understood}
+use Rattle.sqlite.specs.Effect.{Database}
+use Rattle.sqlite.specs.State.{State, mode_of, Writes, Executes}
+use Rattle.sqlite.proofs.Callers.{IsPlain, command_of, statement_of, runs_as, one_step}
+use Rattle.pres_batch_rows.specs.Schemas.{meta, batch, no_schema, meta_schema, saved_schema}
+use Rattle.pres_batch_rows.proofs.Statements.{set_format_terms, set_format_is, set_format_plain, meta_is, batch_is, create_meta_is, create_batch_is, meta_plain, batch_plain}
+use Rattle.pres_batch_rows.proofs.Inserting.{went, same_value, cast_null, cast_int}
+use Rattle.pres_batch_rows.specs.TableCreation.{meta_text, batch_text, set_format_text, format_row}
+
+module _ (schema : Schema) (text : List ℕ) (table : Table) (command : command_of (understood schema text) ≡ CreateTable) (whole : statement_of text (understood schema text) ≡ text)
+    (defined : table_defined_by text ≡ Ok table) (plain : IsPlain (understood schema text)) (lacks : lacks_sequence (created schema table) ≡ false) where
+  creates : (old new : State) (count : ℕ) → old.now.schema ≡ schema → Executes text [] old new (Ok count)
+      → (new.now.schema ≡ created schema table) × (new.now.trees (next_tree schema) ≡ []) × KeepsRows schema.tables old.now.trees new.now.trees
+  creates old new count has h =
+      let w = subst (λ t. Writes old new None CreateTable t [] count) whole (runs_as text [] old new schema has CreateTable command plain count h) in
+      let all = went w.changed in
+      let first = went all.1 in
+      let made = first.1 in
+      let both : Ok made.table ≡ Ok table = sym made.defined ∙ defined in
+      let same : made.table ≡ table = cc in
+      let schema_is : first.0.schema ≡ created schema table = made.is ∙ ap (λ s. created s made.table) has ∙ ap (created schema) same in
+      let none : lacks_sequence first.0.schema ≡ false = ap lacks_sequence schema_is ∙ lacks in
+      let now : new.now ≡ first.0 = ap (λ (p : Tally × Database). p.1) (same_value all.2) ∙ same_value (rw none at first.2) in
+      let kept : KeepsRows schema.tables old.now.trees first.0.trees = subst (λ s. KeepsRows s.tables old.now.trees first.0.trees) has made.others in (
+        ap (λ (d : Database). d.schema) now ∙ schema_is,
+        ap (λ (d : Database). d.trees (next_tree schema)) now ∙ subst (λ s. first.0.trees (next_tree s) ≡ []) has made.empty,
+        subst (λ (d : Database). KeepsRows schema.tables old.now.trees d.trees) (sym now) kept,
+      )
+
+-- the first table
+pub creates_meta : (old new : State) (count : ℕ) → old.now.schema ≡ no_schema → Executes meta_text [] old new (Ok count) → (new.now.schema ≡ meta_schema) × (new.now.trees 0 ≡ [])
+creates_meta old new count has h =
+    let made = creates no_schema meta_text meta create_meta_is.0 create_meta_is.1 meta_is meta_plain refl old new count has h in
+    (made.0, made.1)
+
+-- the second, beside it
+pub creates_batch : (old new : State) (count : ℕ) → old.now.schema ≡ meta_schema → Executes batch_text [] old new (Ok count)
+    → (new.now.schema ≡ saved_schema) × (new.now.trees 2 ≡ []) × (new.now.trees 0 ≡ old.now.trees 0)
+creates_batch old new count has h =
+    let made = creates meta_schema batch_text batch create_batch_is.0 create_batch_is.1 batch_is batch_plain refl old new count has h in
+    (made.0, made.1, made.2.0)
+
+-- the row of the format
+pub adds_format : (old new : State) (count : ℕ) → old.now.schema ≡ saved_schema → old.now.trees 0 ≡ [] → Executes set_format_text [] old new (Ok count)
+    → (new.now.schema ≡ saved_schema) × (new.now.trees 2 ≡ old.now.trees 2) × (new.now.trees 0 ≡ format_row ∷ [])
+adds_format old new count has empty h =
+    let w = runs_as set_format_text [] old new saved_schema has _ set_format_is set_format_plain count h in
+    let text = statement_of set_format_text (understood saved_schema set_format_text) in
+    let trees = old.now.trees in
+    let done = went (subst (λ s. Does old.step_limit (mode_of old) [] (record old.now { schema = s }) text None (Insert 0 (Values set_format_terms 3)) (Ok (w.tally, new.now))) has w.changed) in
+    let now = ap (λ (p : Tally × Database). p.1) (same_value (went (went done.2).2).2) in
+    let given = went done.1 in
+    let written = went (went given.2).2 in
+    let counted = went written.2 in
+    let ends : done.0.trees ≡ written.0 = ap (λ (it : Written). it.trees) (same_value counted.2) ∙ same_value counted.1 in
+    let applied = one_step saved_schema _ trees written.0 (edit_of trees meta [] Chosen 0 given.0) refl written.1 in
+    let kept = applied.tables in
+    let edit : edited trees (edit_of trees meta [] Chosen 0 given.0) ≡ format_row ∷ [] = ap (λ all. edited trees (edit_of trees meta [] Chosen 0 all)) given.1.1 ∙ rw (empty, cast_null, cast_int (pos 1)) in (
+      ap (λ (d : Database). d.schema) now,
+      ap (λ (d : Database). d.trees 2) now ∙ ap (λ (t : Trees). t 2) ends ∙ kept.1.0 (λ e. omega (arith, e)),
+      ap (λ (d : Database). d.trees 0) now ∙ ap (λ (t : Trees). t 0) ends ∙ applied.rows ∙ edit,
+    )
+
+pub err_weaker : {A E : Type 0} (r : Result A E) (P Q : E → Type 0) → ((e : E) → P e → Q e) → IfErr r P → IfErr r Q
+err_weaker (Ok a) P Q f h = tt
+err_weaker (Err e) P Q f h = f e h

@@ -1,0 +1,175 @@
+use Rattle.std.proofs.Common.{◌≡◌, inl, inr, sym, ap, subst, ◌∙◌, arith, rules, OnOk}
+use Rattle.std.proofs.lemmas.Result.{on_ok_weaker, err_from_is_err_and}
+use Rattle.sqlite.specs.Tree.{Trees}
+use Rattle.sqlite.specs.Steps.{FailsToCommit}
+use Rattle.sqlite.proofs.StateLemmas.{survives_then}
+use Rattle.sqlite.proofs.Callers.{survives_begin}
+use Rattle.sqlite.specs.Effect.{Database}
+use Rattle.sqlite.specs.Held.{state}
+use Rattle.sqlite.specs.State.{HasCleanDisk, Survives}
+use Rattle.pres_batch_rows.specs.TableCreation.{IsMade, HoldsFormat, Makes, FailsToMake}
+use Rattle.pres_batch_rows.proofs.Making.{creates_meta, creates_batch, adds_format, err_weaker}
+use Rattle.pres_batch_rows.proofs.make.make.Goals as goal
+use Rattle.std.proofs.lemmas.Grind.{common_steps}
+
+pub returns-clause-ok : goal.returns-clause-ok
+returns-clause-ok g c clean has =
+    let first = c.execute.new.self.conn.now in
+    let second = c.execute-2.new.self.conn.now in
+    let third = c.execute-3.new.self.conn.now in
+    let begun = c.transaction-tx.ensures.begun in
+    let end = c.commit.new.self.0 in
+    let same : end ≡ c.connection-2-1.given.0 = search rules in
+    let ended : HasCleanDisk (state g.S.Store end) = rw (same) clean in
+    let late : HasCleanDisk (state g.S.Store third) = omega (arith, c.commit.ensures.survives.clean, ended) in
+    let one = c.in_ok-execute.ensures.runs (omega (arith, c.execute-2.ensures.survives.clean, c.execute-3.ensures.survives.clean, late)) (rw begun) in
+    let two = c.in_ok-execute-2.ensures.runs (omega (arith, c.execute-3.ensures.survives.clean, late)) one.1.mode in
+    let three = c.in_ok-execute-3.ensures.runs late two.1.mode in
+    let meta = creates_meta (state g.S.Store c.transaction-tx.result.conn.now) (state g.S.Store first) c.in_ok-execute.field-0 (rw begun has) one.0 in
+    let batch = creates_batch (state g.S.Store first) (state g.S.Store second) c.in_ok-execute-2.field-0 meta.0 two.0 in
+    let format = adds_format (state g.S.Store second) (state g.S.Store third) c.in_ok-execute-3.field-0 batch.0 (batch.2 ∙ meta.1) three.0 in
+    let finish : OnOk c.commit.result (IsMade (state g.S.Store end)) = on_ok_weaker c.commit.result (λ done. record {
+      schema = ap (λ (d : Database). d.schema) done.1.now_is ∙ format.0;
+      rows = ap (λ (d : Database). d.trees 2) done.1.now_is ∙ (format.1 ∙ batch.1);
+      format = ap (λ (d : Database). d.trees 0) done.1.now_is ∙ format.2;
+      committed = done.1.committed_is ∙ sym done.1.now_is;
+      is_open = done.1.is_open;
+      mode = done.1.mode;
+    }) (c.commit.ensures.ok ended) in
+    subst (λ h. OnOk c.commit.result (IsMade (state g.S.Store h))) same finish
+
+-- ---- a statement is refused
+
+pub returns-in_err-execute-clause-refused : goal.returns-in_err-execute-clause-refused
+returns-in_err-execute-clause-refused g c clean =
+    let first = c.execute.new.self.conn.now in
+    let begun = c.transaction-tx.ensures.begun in
+    let same : c.drop-tx.new.self.0 ≡ c.connection-1.given.0 = search rules in
+    let ended : HasCleanDisk (state g.S.Store c.drop-tx.new.self.0) = rw (same) clean in
+    let late : HasCleanDisk (state g.S.Store first) = omega (arith, c.drop-tx.ensures.survives.clean, ended) in
+    let one = rw begun at (c.in_err-execute.ensures.runs late (rw begun)) in
+    let p = err_from_is_err_and c.from_residual.result c.from_residual.ensures.1 in
+    rw (p.1, p.2) (inl (first, one))
+
+pub returns-in_err-execute-2-clause-refused : goal.returns-in_err-execute-2-clause-refused
+returns-in_err-execute-2-clause-refused g c clean =
+    let first = c.execute.new.self.conn.now in
+    let second = c.execute-2.new.self.conn.now in
+    let begun = c.transaction-tx.ensures.begun in
+    let same : c.drop-tx-in_err-execute-2.new.self.0 ≡ c.connection-in_err-execute-2-1.given.0 = search rules in
+    let ended : HasCleanDisk (state g.S.Store c.drop-tx-in_err-execute-2.new.self.0) = rw (same) clean in
+    let late : HasCleanDisk (state g.S.Store second) = omega (arith, c.drop-tx-in_err-execute-2.ensures.survives.clean, ended) in
+    let one = c.in_ok-execute.ensures.runs (omega (arith, c.execute-2.ensures.survives.clean, late)) (rw begun) in
+    let two = c.in_err-execute-2.ensures.runs late one.1.mode in
+    let p = err_from_is_err_and c.from_residual-in_err-execute-2.result c.from_residual-in_err-execute-2.ensures.1 in
+    rw (p.1, p.2) (inr (inl (first, c.in_ok-execute.field-0, rw begun at one, (second, two))))
+
+pub returns-in_err-execute-3-clause-refused : goal.returns-in_err-execute-3-clause-refused
+returns-in_err-execute-3-clause-refused g c clean =
+    let first = c.execute.new.self.conn.now in
+    let second = c.execute-2.new.self.conn.now in
+    let third = c.execute-3.new.self.conn.now in
+    let begun = c.transaction-tx.ensures.begun in
+    let same : c.drop-tx-in_err-execute-3.new.self.0 ≡ c.connection-in_err-execute-3-1.given.0 = search rules in
+    let ended : HasCleanDisk (state g.S.Store c.drop-tx-in_err-execute-3.new.self.0) = rw (same) clean in
+    let late : HasCleanDisk (state g.S.Store third) = omega (arith, c.drop-tx-in_err-execute-3.ensures.survives.clean, ended) in
+    let one = c.in_ok-execute.ensures.runs (omega (arith, c.execute-2.ensures.survives.clean, c.execute-3.ensures.survives.clean, late)) (rw begun) in
+    let two = c.in_ok-execute-2.ensures.runs (omega (arith, c.execute-3.ensures.survives.clean, late)) one.1.mode in
+    let three = c.in_err-execute-3.ensures.runs late two.1.mode in
+    let p = err_from_is_err_and c.from_residual-in_err-execute-3.result c.from_residual-in_err-execute-3.ensures.1 in
+    rw (p.1, p.2) (inr (inr (inl (first, c.in_ok-execute.field-0, rw begun at one, (second, c.in_ok-execute-2.field-0, two, (third, three))))))
+
+-- ---- all are carried out
+
+pub returns-clause-makes : goal.returns-clause-makes
+returns-clause-makes g c clean =
+    let old = c.args.connection.now in
+    let first = c.execute.new.self.conn.now in
+    let second = c.execute-2.new.self.conn.now in
+    let third = c.execute-3.new.self.conn.now in
+    let begun = c.transaction-tx.ensures.begun in
+    let end = c.commit.new.self.0 in
+    let same : end ≡ c.connection-2-1.given.0 = search rules in
+    let ended : HasCleanDisk (state g.S.Store end) = rw (same) clean in
+    let late : HasCleanDisk (state g.S.Store third) = omega (arith, c.commit.ensures.survives.clean, ended) in
+    let one = c.in_ok-execute.ensures.runs (omega (arith, c.execute-2.ensures.survives.clean, c.execute-3.ensures.survives.clean, late)) (rw begun) in
+    let two = c.in_ok-execute-2.ensures.runs (omega (arith, c.execute-3.ensures.survives.clean, late)) one.1.mode in
+    let three = c.in_ok-execute-3.ensures.runs late two.1.mode in
+    let finish : OnOk c.commit.result (Makes g.S.Store old (state g.S.Store end)) = on_ok_weaker c.commit.result (λ done.
+    (first, c.in_ok-execute.field-0, rw begun at one, (second, c.in_ok-execute-2.field-0, two, (third, c.in_ok-execute-3.field-0, three, (done.1.now_is, done.1.committed_is)))))
+    (c.commit.ensures.ok ended) in
+    subst (λ h. OnOk c.commit.result (Makes g.S.Store old (state g.S.Store h))) same finish
+
+pub returns-clause-refused : goal.returns-clause-refused
+returns-clause-refused g c clean =
+    let old = c.args.connection.now in
+    let first = c.execute.new.self.conn.now in
+    let second = c.execute-2.new.self.conn.now in
+    let third = c.execute-3.new.self.conn.now in
+    let begun = c.transaction-tx.ensures.begun in
+    let end = c.commit.new.self.0 in
+    let same : end ≡ c.connection-2-1.given.0 = search rules in
+    let ended : HasCleanDisk (state g.S.Store end) = rw (same) clean in
+    let late : HasCleanDisk (state g.S.Store third) = omega (arith, c.commit.ensures.survives.clean, ended) in
+    let one = c.in_ok-execute.ensures.runs (omega (arith, c.execute-2.ensures.survives.clean, c.execute-3.ensures.survives.clean, late)) (rw begun) in
+    let two = c.in_ok-execute-2.ensures.runs (omega (arith, c.execute-3.ensures.survives.clean, late)) one.1.mode in
+    let three = c.in_ok-execute-3.ensures.runs late two.1.mode in
+    err_weaker c.commit.result (FailsToCommit (state g.S.Store third) (state g.S.Store end)) (FailsToMake g.S.Store old)
+    (λ e failed. inr (inr (inr (first, c.in_ok-execute.field-0, rw begun at one, (second, c.in_ok-execute-2.field-0, two, (third, c.in_ok-execute-3.field-0, three, (end, failed)))))))
+    (c.commit.ensures.err ended)
+
+pub returns-clause-crash : goal.returns-clause-crash
+returns-clause-crash g c has =
+    let old = c.args.connection.now in
+    let start = c.transaction-tx.result.conn.now in
+    let first = c.execute.new.self.conn.now in
+    let second = c.execute-2.new.self.conn.now in
+    let third = c.execute-3.new.self.conn.now in
+    let begun = c.transaction-tx.ensures.begun in
+    let end = c.commit.new.self.0 in
+    let same : end ≡ c.connection-2-1.given.0 = search rules in
+    let holds : HasCleanDisk (state g.S.Store third) → HoldsFormat (state g.S.Store third).now.trees = λ late.
+    let one = c.in_ok-execute.ensures.runs (omega (arith, c.execute-2.ensures.survives.clean, c.execute-3.ensures.survives.clean, late)) (rw begun) in
+    let two = c.in_ok-execute-2.ensures.runs (omega (arith, c.execute-3.ensures.survives.clean, late)) one.1.mode in
+    let three = c.in_ok-execute-3.ensures.runs late two.1.mode in
+    let meta = creates_meta (state g.S.Store start) (state g.S.Store first) c.in_ok-execute.field-0 (rw begun has) one.0 in
+    let batch = creates_batch (state g.S.Store first) (state g.S.Store second) c.in_ok-execute-2.field-0 meta.0 two.0 in
+    let format = adds_format (state g.S.Store second) (state g.S.Store third) c.in_ok-execute-3.field-0 batch.0 (batch.2 ∙ meta.1) three.0 in
+    (format.1 ∙ batch.1, format.2) in
+    let none = λ (db : Trees). ⊥ in
+    let two_calls = survives_then (state g.S.Store start) (state g.S.Store first) (state g.S.Store second) _ _ none (λ _ db x. x) (λ _ db x. x) c.execute.ensures.survives c.execute-2.ensures.survives in
+    let inside = survives_then (state g.S.Store start) (state g.S.Store second) (state g.S.Store third) _ _ none (λ _ db x. x) (λ _ db x. x) two_calls c.execute-3.ensures.survives in
+    let whole = survives_then (state g.S.Store old) (state g.S.Store third) (state g.S.Store end) _ _ HoldsFormat (λ _ db x. absurd x)
+    (λ clean db is. subst HoldsFormat (sym is) (holds (omega (arith, c.commit.ensures.survives.clean, clean))))
+    (survives_begin g.S.Store old (state g.S.Store third) _ (rw begun at inside)) c.commit.ensures.survives in
+    subst (λ h. Survives (state g.S.Store old) (state g.S.Store h) HoldsFormat) same whole
+
+pub returns-in_err-execute-clause-crash : goal.returns-in_err-execute-clause-crash
+returns-in_err-execute-clause-crash g c = grind (arith, common_steps)
+
+pub returns-clause-mode : goal.returns-clause-mode
+returns-clause-mode g c = grind (arith, common_steps)
+
+pub returns-in_err-execute-3-clause-mode : goal.returns-in_err-execute-3-clause-mode
+returns-in_err-execute-3-clause-mode g c = grind (arith, common_steps)
+
+pub returns-in_err-execute-3-clause-crash : goal.returns-in_err-execute-3-clause-crash
+returns-in_err-execute-3-clause-crash g c = grind arith
+
+pub returns-in_err-execute-2-clause-err : goal.returns-in_err-execute-2-clause-err
+returns-in_err-execute-2-clause-err g c = grind (arith, common_steps)
+
+pub returns-in_err-execute-2-clause-crash : goal.returns-in_err-execute-2-clause-crash
+returns-in_err-execute-2-clause-crash g c = grind (arith, common_steps)
+
+pub returns-in_err-execute-clause-err : goal.returns-in_err-execute-clause-err
+returns-in_err-execute-clause-err g c = grind (arith, common_steps)
+
+pub returns-clause-err : goal.returns-clause-err
+returns-clause-err g c = grind (arith, common_steps)
+
+pub returns-in_err-execute-3-clause-err : goal.returns-in_err-execute-3-clause-err
+returns-in_err-execute-3-clause-err g c = grind (arith, common_steps)
+
+pub returns-in_err-execute-2-clause-mode : goal.returns-in_err-execute-2-clause-mode
+returns-in_err-execute-2-clause-mode g c = grind (arith, common_steps)

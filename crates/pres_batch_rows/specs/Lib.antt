@@ -1,0 +1,6 @@
+pub mod Schemas
+pub mod RowContents
+pub mod TableStates
+pub mod RowIteration
+pub mod TableCreation
+pub mod TableOpening

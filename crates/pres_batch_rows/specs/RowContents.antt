@@ -1,0 +1,85 @@
+-- What the rows of the table batch save.
+use Rattle.std.specs.Prelude.{◌≡◌, ◌+◌, ◌==◌, ◌&&◌, nat_le, if◌then◌else◌, List, [], ◌∷◌, map, Option, Some, None, Result, Ok, Err, ℕ, pos, string_bytes}
+use Rattle.std.specs.Str.{is_utf8}
+use Rattle.std.specs.List.{AllByRecursion}
+use Rattle.std.specs.declared.cmp.Ordering.TheVariants.{Less}
+use Rattle.sqlite.specs.declared.types.Value.{Value}
+use Rattle.sqlite.specs.declared.types.Value.TheVariants.{Null, Int, Text}
+use Rattle.sqlite.specs.Order.{Row, value_cmp, column}
+use Rattle.sqlite.specs.Tree.{rowid}
+use Rattle.sqlite.specs.State.{State}
+use Rattle.pres_write.specs.Moments.{last_moment}
+use Rattle.pres_batch_rows.specs.declared.row.SavedRow.{SavedRow}
+
+-- a moment and a text
+pub record RowContent : Type 0 where
+  pub moment : ℕ
+  pub body : List ℕ
+
+abbrev pub saved_of : SavedRow → RowContent
+saved_of row = record { moment = row.moment; body = string_bytes row.body }
+
+-- the row with a number as it is stored: the number, the place of the column k, the moment and the text
+abbrev pub stored : ℕ → RowContent → Row
+stored k s = Int (pos k) ∷ Null ∷ Int (pos s.moment) ∷ Text s.body ∷ []
+
+-- the rows of the table batch
+abbrev pub rows_in : State → List Row
+rows_in s = s.now.trees 2
+
+-- a row as the statement that reads all rows shows it: k, moment, body
+abbrev pub shown_row : Row → Row
+shown_row row = column row 0 ∷ column row 2 ∷ column row 3 ∷ []
+
+abbrev pub shown_rows : State → List Row
+shown_rows s = map shown_row (rows_in s)
+
+-- each row has a number below this one
+abbrev pub AreBelow : ℕ → List Row → Type 0
+AreBelow k = AllByRecursion (λ row. value_cmp (rowid row) (Int (pos k)) ≡ Less)
+
+-- ---- reading
+
+abbrev pub whole_of : Value → Option ℕ
+whole_of (Int (pos n)) = Some n
+whole_of _ = None
+
+abbrev pub text_of : Value → Option (List ℕ)
+text_of (Text body) = if is_utf8 body then Some body else None
+text_of _ = None
+
+-- The number is the one that is due, and the moment at most 2^53 - 1.
+abbrev pub saved_as : ℕ → Option ℕ → Option ℕ → Option (List ℕ) → Option RowContent
+saved_as due (Some k) (Some moment) (Some body) =
+    if k == due && nat_le moment last_moment then Some (record { moment = moment; body = body }) else None
+saved_as due _ _ _ = None
+
+-- what a shown row saves under the number that is due, if it saves anything
+abbrev pub saved_row : ℕ → Row → Option RowContent
+saved_row due row = saved_as due (whole_of (column row 0)) (whole_of (column row 1)) (text_of (column row 2))
+
+abbrev pub rows_then : ℕ → Option RowContent → Result (List RowContent) ℕ → Result (List RowContent) ℕ
+rows_then due None more = Err due
+rows_then due (Some s) (Ok more) = Ok (s ∷ more)
+rows_then due (Some s) (Err k) = Err k
+
+-- What shown rows save, where the first has this number and each later one the next; else the
+-- number that was due at the first row that saves nothing under it.
+abbrev pub saved_from : ℕ → List Row → Result (List RowContent) ℕ
+saved_from due [] = Ok []
+saved_from due (row ∷ more) = rows_then due (saved_row due row) (saved_from (due + 1) more)
+
+abbrev pub saved_rows : List Row → Result (List RowContent) ℕ
+saved_rows = saved_from 1
+
+abbrev pub front_then : Option RowContent → List RowContent → List RowContent
+front_then None more = []
+front_then (Some s) more = s ∷ more
+
+-- what the rows save that come before the first such row
+abbrev pub front_from : ℕ → List Row → List RowContent
+front_from due [] = []
+front_from due (row ∷ more) = front_then (saved_row due row) (front_from (due + 1) more)
+
+abbrev pub saved_front : List Row → List RowContent
+saved_front = front_from 1

@@ -1,0 +1,42 @@
+-- Going over the saved rows, one at a time.
+use Rattle.std.specs.Prelude.{◌≡◌, ◌⊎◌, ℕ, List, [], ◌∷◌, ◌++◌, Result, Ok, Err}
+use Rattle.sqlite.specs.Order.{Row}
+use Rattle.pres_faults.specs.declared.saved_fault.SavedFault.{SavedFault}
+use Rattle.pres_faults.specs.declared.saved_fault.SavedFault.TheVariants.{Memory, Database, BadRow}
+use Rattle.pres_batch_rows.specs.RowContents.{RowContent, saved_rows, saved_front}
+
+-- these were taken in turn
+abbrev pub TakesAll : {T : Type 0} → (T → RowContent → T → Type 0) → List RowContent → T → T → Type 0
+TakesAll {T} takes [] old new = new ≡ old
+TakesAll {T} takes (row ∷ more) old new = (mid : T) × takes old row mid × TakesAll takes more mid new
+
+module _ {T : Type 0} (takes : T → RowContent → T → Type 0) (refuses : T → RowContent → SavedFault → T → Type 0) where
+  -- these were taken, and then the database gave no more or memory was refused
+  pub record StopsEarly (front : List RowContent) (old new : T) (e : SavedFault) : Type 0 where
+    pub given : List RowContent
+    pub rest : List RowContent
+    pub parts : front ≡ given ++ rest
+    pub taken : TakesAll takes given old new
+    pub why : (e ≡ Memory) ⊎ (e ≡ Database)
+
+  -- a row was refused, after those before it had been taken
+  pub record IsRefused (front : List RowContent) (old new : T) (e : SavedFault) : Type 0 where
+    pub given : List RowContent
+    pub row : RowContent
+    pub rest : List RowContent
+    pub mid : T
+    pub parts : front ≡ given ++ row ∷ rest
+    pub taken : TakesAll takes given old mid
+    pub refused : refuses mid row e new
+
+  -- all rows before the first bad one were taken, and its number is told
+  pub record MeetsBadRow (shown : List Row) (old new : T) (e : SavedFault) : Type 0 where
+    pub k : ℕ
+    pub bad : saved_rows shown ≡ Err k
+    pub why : e ≡ BadRow k
+    pub taken : TakesAll takes (saved_front shown) old new
+
+  abbrev pub GoesOver : List Row → T → T → Result (Unit {0}) SavedFault → Type 0
+  GoesOver shown old new (Ok _) = (saved_rows shown ≡ Ok (saved_front shown)) × TakesAll takes (saved_front shown) old new
+  GoesOver shown old new (Err e) =
+      MeetsBadRow shown old new e ⊎ (IsRefused (saved_front shown) old new e ⊎ StopsEarly (saved_front shown) old new e)

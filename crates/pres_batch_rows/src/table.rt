@@ -1,0 +1,234 @@
+//! The table of saved rows.
+
+ghost use Rattle.std.specs.Prelude.{◌≡◌, ◌⊎◌, ◌+◌, ◌<◌, ◌≤◌, ◌++◌, ◌∷◌, [], false, length, Ok, Err, if◌then◌else◌, is_ok, map, IsTrue, IfOk, IfErr, MatchResult, OnOk, OnErr};
+ghost use Rattle.sqlite.specs.Held.{state};
+ghost use Rattle.sqlite.specs.State.{HasCleanDisk, IsUnchanged, Survives};
+ghost use Rattle.sqlite.specs.View.{doubt};
+ghost use Rattle.pres_ids.specs.Numbers.{greatest_number};
+ghost use Rattle.pres_batch_rows.specs.TableStates.{IsOurs, Serves, AddsRow, IsSame, IsLeft, Lasts, Outlasts};
+ghost use Rattle.pres_batch_rows.specs.TableOpening.{HasFormat, LacksFormat, IsFound};
+ghost use Rattle.pres_batch_rows.specs.TableCreation.{IsMade, HoldsFormat, Makes, FailsToMake, making_fault};
+ghost use Rattle.pres_batch_rows.specs.Schemas.{no_schema};
+ghost use Rattle.pres_batch_rows.specs.RowContents.{saved_of, saved_rows, shown_rows, stored, rows_in};
+ghost use Rattle.pres_batch_rows.specs.RowIteration.{GoesOver};
+
+use crate::format::find;
+use crate::insert::insert;
+use crate::make::{make, making_fault};
+use crate::row::SavedRow;
+use crate::take::{Collector, Take, go_over};
+use pres_faults::SavedFault;
+use pres_limits::MAX_SAFE_INTEGER;
+use pres_write::Moment;
+use sqlite::{Alter, Connection};
+use std::alloc::Global;
+use std::marker::Model;
+
+/// Rows saved in a database, numbered 1, 2, .., each committed as it comes. Contracts see the
+/// connection and the number of the last row, and speak of the rows by what the connection shows.
+///
+/// After a write whose end the disk didn't confirm, the store may be shut for good: then every call
+/// answers Database, and the next open finds the rows with or without that one.
+pub struct BatchTable<S: Alter> {
+    connection: Connection<S>,
+    last: u64,
+}
+
+impl<S: Alter> Model for BatchTable<S> {
+    ghost use Rattle.pres_batch_rows.specs.TableStates.{TableState, kept_code};
+
+    ghost Value = { TableState S };
+
+    ghost coded = { kept_code S.code };
+
+    ghost view = { λ t. record { connection = t.connection; last = t.last } };
+}
+
+impl<S: Alter + Drop> Drop for BatchTable<S> {
+    fn drop(self) {
+        let BatchTable {
+            connection: _,
+            last: _,
+        } = self;
+    }
+}
+
+impl<S: Alter + Drop> BatchTable<S> {
+    /// Makes the tables in a database that has none, in one transaction. NotOurs where a table of
+    /// such a name is there; a refusal leaves the database as it was.
+    pub fn create(connection: Connection<S>) -> Result<BatchTable<S>, (SavedFault, Connection<S>)>
+        requires { connection.in_transaction ≡ false }
+        ensures made { IfOk result (λ t. HasCleanDisk (state S.Store t.connection)
+            → connection.schema ≡ no_schema → IsMade (state S.Store t.connection)) }
+        ensures serves { IfOk result (λ t. connection.schema ≡ no_schema → Serves S.Store t) }
+        ensures last { IfOk result (λ t. t.last ≡ 0) }
+        ensures err { IfErr result (λ e. HasCleanDisk (state S.Store e.1)
+            → IsTrue (state S.Store e.1).is_open
+            → ((state S.Store e.1).now ≡ (state S.Store connection).now)
+            × ((state S.Store e.1).committed ≡ (state S.Store connection).committed)) }
+        ensures mode { IfErr result (λ e. e.1.in_transaction ≡ false) }
+
+        // By the meaning of the statements, in whatever database.
+        ensures makes { IfOk result (λ t. HasCleanDisk (state S.Store t.connection)
+            → Makes S.Store connection (state S.Store t.connection)) }
+        ensures refused { IfErr result (λ e. HasCleanDisk (state S.Store e.1)
+            → (why : _) × FailsToMake S.Store connection why × (e.0 ≡ making_fault why)) }
+
+        ensures crash { connection.schema ≡ no_schema → MatchResult result
+            (λ t. Survives (state S.Store connection) (state S.Store t.connection) HoldsFormat)
+            (λ e. Survives (state S.Store connection) (state S.Store e.1) HoldsFormat) }
+    {
+        let mut connection = connection;
+        match make(&mut connection) {
+            Ok(()) => Ok(BatchTable {
+                connection,
+                last: 0,
+            }),
+            Err(error) => Err((making_fault(error), connection)),
+        }
+    }
+
+    /// Finds the tables that `create` made. NotOurs where the statement that asks for the format
+    /// isn't understood or has no answer, Version where it answers another format than 1. Whatever
+    /// the database holds stays as it was, another program's tables too.
+    pub fn open(connection: Connection<S>) -> Result<BatchTable<S>, (SavedFault, Connection<S>)>
+        requires { connection.in_transaction ≡ false }
+        ensures format { IfOk result (λ t. HasCleanDisk (state S.Store t.connection)
+            → (mid : _) × HasFormat (state S.Store connection) (state S.Store mid)) }
+        ensures found { IfOk result (λ t. HasCleanDisk (state S.Store t.connection)
+            → IsOurs (state S.Store connection)
+            → IsFound (state S.Store connection) (state S.Store t.connection) t.last) }
+        ensures serves { IfOk result (λ t. IsOurs (state S.Store connection)
+            → Serves S.Store t) }
+        ensures clean { IfOk result (λ t. doubt (state S.Store connection).is_clean
+            ≤ doubt (state S.Store t.connection).is_clean) }
+        ensures err { IfErr result (λ e. HasCleanDisk (state S.Store e.1)
+            → ((mid : _) × LacksFormat (state S.Store connection) (state S.Store mid) e.0)
+            ⊎ ((e.0 ≡ SavedFault.Memory) ⊎ (e.0 ≡ SavedFault.Database))) }
+        ensures same { IfOk result (λ t. HasCleanDisk (state S.Store t.connection)
+            → IsSame (state S.Store connection) (state S.Store t.connection)) }
+        ensures left { IfErr result (λ e. HasCleanDisk (state S.Store e.1)
+            → IsLeft (state S.Store connection) (state S.Store e.1)) }
+        ensures crash { MatchResult result
+            (λ t. Survives (state S.Store connection) (state S.Store t.connection) (λ _. ⊥))
+            (λ e. Survives (state S.Store connection) (state S.Store e.1) (λ _. ⊥)) }
+    {
+        let mut connection = connection;
+        match find(&mut connection) {
+            Ok(last) => Ok(BatchTable { connection, last }),
+            Err(fault) => Err((fault, connection)),
+        }
+    }
+
+    /// Adds a row, numbered one more than the last, and commits it: once that is answered, whatever
+    /// a crash leaves has it, also a crash in a later call. Database where the last number is
+    /// 2^53 - 1.
+    pub fn append(&mut self, moment: Moment, body: &str) -> Result<(), SavedFault>
+        ensures ok { HasCleanDisk (state S.Store self.new.connection) → Serves S.Store self.old
+            → OnOk result (AddsRow (state S.Store self.old.connection)
+            (state S.Store self.new.connection) (self.old.last + 1)
+            (record { moment = moment; body = body.now })) }
+        ensures saved { HasCleanDisk (state S.Store self.new.connection) → Serves S.Store self.old
+            → OnOk result ((before : _)
+            → saved_rows (shown_rows (state S.Store self.old.connection)) ≡ Ok before
+            → self.old.last ≡ length before
+            → saved_rows (shown_rows (state S.Store self.new.connection))
+            ≡ Ok (before ++ record { moment = moment; body = body.now } ∷ [])) }
+        ensures last { self.new.last
+            ≡ (if is_ok result then self.old.last + 1 else self.old.last) }
+        ensures err { HasCleanDisk (state S.Store self.new.connection) → Serves S.Store self.old
+            → OnErr result (IsLeft (state S.Store self.old.connection)
+            (state S.Store self.new.connection)) }
+        ensures named { IfErr result (λ e. (e ≡ SavedFault.Memory) ⊎ (e ≡ SavedFault.Database)) }
+        ensures shut { HasCleanDisk (state S.Store self.new.connection) → Serves S.Store self.old
+            → (IsTrue (state S.Store self.old.connection).is_open → ⊥)
+            → is_ok result ≡ false }
+        ensures spent { greatest_number ≤ self.old.last → result ≡ Err SavedFault.Database }
+        ensures crash { Serves S.Store self.old
+            → Survives (state S.Store self.old.connection) (state S.Store self.new.connection)
+            (λ db. IsTrue (state S.Store self.old.connection).is_open
+            × (db 2 ≡ rows_in (state S.Store self.old.connection)
+            ++ stored (self.old.last + 1)
+            (record { moment = moment; body = body.now }) ∷ [])) }
+        ensures durable { HasCleanDisk (state S.Store self.new.connection)
+            → Serves S.Store self.old
+            → OnOk result (Lasts (state S.Store self.new.connection)) }
+        ensures outlasts { HasCleanDisk (state S.Store self.new.connection)
+            → Serves S.Store self.old
+            → (rows : _) → Outlasts rows (state S.Store self.old.connection)
+            → Outlasts rows (state S.Store self.new.connection) }
+        ensures serves { Serves S.Store self.old → Serves S.Store self.new }
+    {
+        if self.last >= MAX_SAFE_INTEGER {
+            return Err(SavedFault::Database);
+        }
+        // it ensures that the moment is in range
+        let _ = moment.millis();
+        insert(&mut self.connection, self.last + 1, moment, body)?;
+        self.last += 1;
+        Ok(())
+    }
+
+    /// Gives each row to the taker, in the order of their numbers, one at a time. It ends at the
+    /// first row that is none (`BadRow` with the number that was due), or that is refused.
+    pub fn each<T: Take>(&mut self, alloc: Global, taker: &mut T) -> Result<(), SavedFault>
+        ensures goes { HasCleanDisk (state S.Store self.new.connection) → Serves S.Store self.old
+            → GoesOver T.takes T.refuses (shown_rows (state S.Store self.old.connection))
+            taker.old taker.new result }
+        ensures left { HasCleanDisk (state S.Store self.new.connection) → Serves S.Store self.old
+            → IsLeft (state S.Store self.old.connection) (state S.Store self.new.connection) }
+        ensures same { HasCleanDisk (state S.Store self.new.connection) → Serves S.Store self.old
+            → OnOk result (IsUnchanged (state S.Store self.old.connection)
+            (state S.Store self.new.connection)) }
+        ensures shut { HasCleanDisk (state S.Store self.new.connection) → Serves S.Store self.old
+            → (IsTrue (state S.Store self.old.connection).is_open → ⊥)
+            → is_ok result ≡ false }
+        ensures last { self.new.last ≡ self.old.last }
+        ensures crash { Survives (state S.Store self.old.connection)
+            (state S.Store self.new.connection) (λ _. ⊥) }
+        ensures serves { Serves S.Store self.old → Serves S.Store self.new }
+    {
+        go_over(alloc, &mut self.connection, taker)
+    }
+
+    /// All rows in the order of their numbers, or `BadRow` with the number that was due at the
+    /// first row that is none.
+    pub fn load(&mut self, alloc: Global) -> Result<Vec<SavedRow>, SavedFault>
+        ensures ok { HasCleanDisk (state S.Store self.new.connection) → Serves S.Store self.old
+            → IfOk result (λ rows. saved_rows (shown_rows (state S.Store self.old.connection))
+            ≡ Ok (map saved_of rows.items)) }
+        ensures bad { HasCleanDisk (state S.Store self.new.connection) → Serves S.Store self.old
+            → IfErr result (λ e. ((k : _) × (e ≡ SavedFault.BadRow k)
+            × (saved_rows (shown_rows (state S.Store self.old.connection)) ≡ Err k))
+            ⊎ ((e ≡ SavedFault.Memory) ⊎ (e ≡ SavedFault.Database))) }
+        ensures left { HasCleanDisk (state S.Store self.new.connection) → Serves S.Store self.old
+            → IsLeft (state S.Store self.old.connection) (state S.Store self.new.connection) }
+        ensures same { HasCleanDisk (state S.Store self.new.connection) → Serves S.Store self.old
+            → OnOk result (IsUnchanged (state S.Store self.old.connection)
+            (state S.Store self.new.connection)) }
+        ensures shut { HasCleanDisk (state S.Store self.new.connection) → Serves S.Store self.old
+            → (IsTrue (state S.Store self.old.connection).is_open → ⊥)
+            → is_ok result ≡ false }
+        ensures last { self.new.last ≡ self.old.last }
+        ensures crash { Survives (state S.Store self.old.connection)
+            (state S.Store self.new.connection) (λ _. ⊥) }
+        ensures serves { Serves S.Store self.old → Serves S.Store self.new }
+    {
+        let mut all = Collector {
+            rows: Vec::new(alloc),
+        };
+        self.each(alloc, &mut all)?;
+        Ok(all.rows)
+    }
+
+    /// The connection, with the same rows.
+    pub fn into_connection(self) -> Connection<S>
+        ensures { result ≡ self.connection }
+    {
+        let BatchTable {
+            connection,
+            last: _,
+        } = self;
+        connection
+    }
+}

@@ -1,0 +1,4 @@
+pub mod Asks
+pub mod ClientQueues
+pub mod Queues
+pub mod Watches

@@ -1,0 +1,164 @@
+-- A server's engine with the lines of its sessions.
+use Rattle.std.specs.Prelude.{◌≡◌, ◌⊎◌, ℕ, Bool, true, false, List, [], ◌∷◌, ◌++◌, Option, Some, None, is_some, option_map, IfSome}
+use Rattle.pres_ids.specs.declared.id.SessionId.{SessionId}
+use Rattle.pres_ids.specs.declared.id.Why.TheVariants as why
+use Rattle.pres_wire.specs.declared.up.Up.TheVariants as up
+use Rattle.pres_wire.specs.declared.down.Down.{Down}
+use Rattle.pres_log.specs.declared.entry.Entry.{Entry}
+use Rattle.pres_log.specs.Logs.{Log, entries}
+use Rattle.pres_server.specs.declared.input.Input.{Input}
+use Rattle.pres_server.specs.declared.input.Input.TheVariants as input
+use Rattle.pres_server.specs.ServerStates.{ServerState, first_client}
+use Rattle.pres_server.specs.Sessions.{is_open}
+use Rattle.pres_server.specs.Replays.{made_from}
+use Rattle.pres_server.specs.Streams.{answers}
+use Rattle.pres_server.specs.Turns.{turn, makes, moment_of, state_after}
+use Rattle.pres_ids.specs.Ids.{ClientId, same_session}
+use Rattle.pres_ring.specs.RingEnds.{OutboxState}
+use Rattle.pres_ring.specs.Transcripts.{transcript, those_for, BeginsTranscript, IsWelcome}
+use Rattle.pres_ring.specs.Lines.{SessionLine, Lines, line_at, is_slow, marked, IsFirstSlow, ChangesAt}
+use Rattle.pres_ring.specs.Deliveries.{LineAfter, LineFits}
+use Rattle.pres_faults.specs.declared.saved_fault.SavedFault.{SavedFault}
+use Rattle.pres_keeper.specs.Keepers.{Readable, IsNoServer}
+use Rattle.pres_keeper.specs.Engines.{EngineState, Runs}
+use Rattle.pres_keeper.specs.EngineTurns.{IsTurnDone, IsTurnRefused, KeepsGone}
+use Rattle.pres_faults.specs.declared.engine_fault.EngineFault.{EngineFault}
+use Rattle.pres_faults.specs.declared.engine_fault.EngineFault.TheVariants as refusal
+
+-- the engine, and what was put for each session
+pub record DispatcherState (A : Type 0) : Type 0 where
+  pub run : EngineState A
+  pub lines : Lines
+
+-- a line is an open session's, and what was put on it is what the session was told
+abbrev pub CarriesTranscript : List Entry → SessionId → Option SessionLine → Type 0
+CarriesTranscript es s None = is_open s es ≡ false
+CarriesTranscript es s (Some l) = (is_open s es ≡ true) × IfSome l.sent (λ sent. sent ≡ transcript s es)
+
+-- the lines are those of the open sessions
+abbrev pub CarryTranscripts : List Entry → Lines → Type 0
+CarryTranscripts es lines = (s : SessionId) → CarriesTranscript es s (line_at s lines)
+
+-- each line whose messages were given up is marked
+abbrev pub NoneSlow : Lines → Type 0
+NoneSlow lines = (s : SessionId) → IfSome (line_at s lines) (λ l. is_slow l ≡ false)
+
+-- a line that is marked stays so while it is there, and none comes where there is none
+abbrev pub StaysMarked : Option SessionLine → Option SessionLine → Type 0
+StaysMarked None after = after ≡ None
+StaysMarked (Some l) after = is_some l.mark ≡ true → IfSome after (λ new. is_some new.mark ≡ true)
+
+-- so it is with each line
+abbrev pub StayMarked : Lines → Lines → Type 0
+StayMarked before after = (s : SessionId) → StaysMarked (line_at s before) (line_at s after)
+
+-- it opens no session
+abbrev pub is_hello : Input → Bool
+is_hello (input.Up (up.Hello s)) = true
+is_hello _ = false
+
+-- the turn is done, and its answers are put on the lines, none of which gives one up where 256 were put at most
+abbrev pub IsAnswered : Option ServerState → Input → ℕ → Option ServerState → Lines → Lines → Type 0
+IsAnswered old input now new before after =
+    (outs : List Down) × IsTurnDone old input now new outs
+    × ((s : SessionId) → LineAfter s outs (line_at s before) (line_at s after))
+    × ((s : SessionId) → LineFits s outs (line_at s before) (line_at s after))
+
+-- the input isn't answered: memory is refused with the server as it was, or its turn isn't done
+abbrev pub IsNotAnswered : Option ServerState → Input → ℕ → Option ServerState → EngineFault → Type 0
+IsNotAnswered old input now new refusal.Memory = new ≡ old
+IsNotAnswered old input now new (refusal.Refused f) = IsTurnRefused old input now new (refusal.Refused f)
+IsNotAnswered old input now new (refusal.Keeper f) = IsTurnRefused old input now new (refusal.Keeper f)
+IsNotAnswered old input now new refusal.Down = IsTurnRefused old input now new refusal.Down
+
+-- ---- a session that is opened
+
+-- of the answers the last alone is for s, and that is all that it is told
+pub record LastIsFor (s : SessionId) (ms : List Down) : Type 0 where
+  pub others : List Down
+  pub last : Down
+  pub parted : ms ≡ others ++ last ∷ []
+  pub welcome : IsWelcome s last
+  pub silent : those_for s others ≡ []
+  pub told : BeginsTranscript s (last ∷ [])
+
+-- the line of s has the last of these messages, which the outbox gives first, and the other lines were put theirs
+pub record LinesJoined (s : SessionId) (ms : List Down) (before after : Lines) (end : OutboxState) : Type 0 where
+  pub earlier : List Down
+  pub last : Down
+  pub parted : ms ≡ earlier ++ last ∷ []
+  pub own : line_at s after ≡ Some (record { sent = Some (last ∷ []); mark = None })
+  pub others : (t : SessionId) → same_session t s ≡ false → LineAfter t ms (line_at t before) (line_at t after)
+  pub fits : (t : SessionId) → same_session t s ≡ false → LineFits t ms (line_at t before) (line_at t after)
+  pub outbox : end ≡ record { session = s; taken = []; ahead = last ∷ [] }
+
+-- the Hello of s is done, and its answers are put on the lines, behind which s has its own
+pub record IsJoined (s : SessionId) (now : ℕ) (old new : Option ServerState) (before after : Lines) (end : OutboxState) : Type 0 where
+  pub state : ServerState
+  pub made : List Entry
+  pub ran : old ≡ Some state
+  pub turned : turn state (input.Up (up.Hello s)) now ≡ makes made
+  pub runs : new ≡ Some (state_after state (moment_of state.log now) made)
+  pub lines : LinesJoined s (answers (entries state.log) made) before after end
+
+-- a session isn't opened, as its Hello isn't answered
+abbrev pub IsNotJoined : SessionId → ℕ → Option ServerState → Option ServerState → EngineFault → Type 0
+IsNotJoined s now old new e = IsNotAnswered old (input.Up (up.Hello s)) now new e
+
+-- ---- sessions that are slow
+
+-- The first session in order whose line is slow is open. Its line is marked so, and its end is answered on the lines; or
+-- it isn't, and the line stays marked.
+pub record EndsFirstSlow (now : ℕ) (s : SessionId) (old new : Option ServerState) (before after : Lines) : Type 0 where
+  pub first : IsFirstSlow s before
+  pub opened : Runs (λ t. is_open s (entries t.log) ≡ true) old
+  pub middle : Lines
+  pub marks : ChangesAt s (option_map (marked why.Slow)) before middle
+  pub ended : IsAnswered old (input.Slow s) now new middle after ⊎ ((e : EngineFault) × IsNotAnswered old (input.Slow s) now new e × (after ≡ middle))
+
+-- these sessions are ended as slow, one after the other, until no line is slow
+abbrev pub EndsSlow : ℕ → List SessionId → Option ServerState → Option ServerState → Lines → Lines → Type 0
+EndsSlow now [] old new before after = (new ≡ old) × (after ≡ before) × NoneSlow after
+EndsSlow now (s ∷ ss) old new before after =
+    (middle : Option ServerState) × (lines : Lines) × EndsFirstSlow now s old middle before lines × EndsSlow now ss middle new lines after
+
+-- each session whose line is slow is ended, in order
+abbrev pub AreEnded : ℕ → Option ServerState → Option ServerState → Lines → Lines → Type 0
+AreEnded now old new before after = (ss : List SessionId) × EndsSlow now ss old new before after
+
+-- ---- the start
+
+-- each of these clients is the first in byte order that has a session open, which is ended at the restart, one after the other
+abbrev pub EndsAtStart : ℕ → List ClientId → Option ServerState → Option ServerState → Type 0
+EndsAtStart now [] old new = new ≡ old
+EndsAtStart now (c ∷ cs) None new = ⊥
+EndsAtStart now (c ∷ cs) (Some s) new =
+    (first_client s.heard ≡ Some c) × (es : List Entry) × (turn s (input.Restart c) now ≡ makes es) × EndsAtStart now cs (Some (state_after s (moment_of s.log now) es)) new
+
+-- so are those of some
+abbrev pub AreRestarted : ℕ → Option ServerState → Option ServerState → Type 0
+AreRestarted now old new = (cs : List ClientId) × EndsAtStart now cs old new
+
+-- no client is handed out: there is no server, or memory is refused for the first one that has a session open
+abbrev pub IsNoClient : Option ServerState → EngineFault → Type 0
+IsNoClient None e = e ≡ refusal.Down
+IsNoClient (Some s) e = (e ≡ refusal.Memory) × (c : ClientId) × (first_client s.heard ≡ Some c)
+
+-- A start stops at the first client in byte order that has a session open, whose end isn't answered. The ends before it
+-- stand and are kept, and so is this one where the server went down behind its commit.
+pub record StopsAtStart (keeps : Log → Type 0) (now : ℕ) (old : Option ServerState) (e : EngineFault) : Type 0 where
+  pub middle : Option ServerState
+  pub ended : AreRestarted now old middle
+  pub client : ClientId
+  pub first : Runs (λ s. first_client s.heard ≡ Some client) middle
+  pub new : Option ServerState
+  pub refused : IsNotAnswered middle (input.Restart client) now new e
+  pub kept : Runs (λ s. keeps s.log) new
+  pub gone : KeepsGone keeps middle (input.Restart client) now e
+
+-- A start is refused: no server is made of what can be read of the keeper, which keeps its log, if it holds one; or one is
+-- made of that log, and the start stops at a client.
+abbrev pub IsNotStarted : Readable → (Log → Type 0) → (Log → Type 0) → ℕ → EngineFault → Type 0
+IsNotStarted held kept keeps now e =
+    ((f : SavedFault) × (e ≡ refusal.Keeper f) × IsNoServer held f × ((log : Log) → kept log → keeps log))
+    ⊎ ((log : Log) × ((other : Log) → kept other → log ≡ other) × StopsAtStart keeps now (Some (made_from log)) e)

@@ -1,2 +1,0 @@
-pub mod Engines
-pub mod Turned

@@ -1,0 +1,2 @@
+pub mod HubFaults
+pub mod SavedFaults

@@ -1,0 +1,106 @@
+//! A keeper that is ready where something is taken for granted.
+
+ghost use Rattle.std.specs.Prelude.{◌≡◌};
+
+use crate::keeper::Keeper;
+use pres_faults::SavedFault;
+use pres_server::{Batch, Server};
+use std::marker::{Brand, Model, PhantomData};
+
+/// What a program takes for granted, such as that the tables that were found in a file are those of the
+/// statements. Who calls a function over a premise picks it, and so has to say what it is.
+pub trait Premise {
+    // It holds.
+    ghost holds: { Type 0 };
+}
+
+impl Premise for Brand {
+    ghost use Rattle.std.specs.Prelude.{⊤};
+
+    ghost holds = { ⊤ };
+}
+
+/// A keeper that is ready where the premise holds. Contracts see the keeper; all that they promise
+/// of a store that works is promised where the premise holds too.
+pub struct Supposed<K: Keeper, P: Premise> {
+    keeper: K,
+    premise: PhantomData<P>,
+}
+
+impl<K: Keeper, P: Premise> Model for Supposed<K, P> {
+    ghost Value = { K };
+
+    ghost view = { λ s. s.keeper };
+
+    ghost invariant = { λ s. P.holds → K.ready s.keeper };
+}
+
+impl<K: Keeper + Drop, P: Premise> Drop for Supposed<K, P> {
+    fn drop(self) {
+        let Supposed {
+            keeper: _,
+            premise: _,
+        } = self;
+    }
+}
+
+impl<K: Keeper, P: Premise> Supposed<K, P> {
+    /// The keeper, under the premise.
+    pub fn new(keeper: K) -> Supposed<K, P>
+        requires ready { P.holds → K.ready keeper }
+        ensures { result ≡ keeper }
+    {
+        Supposed {
+            keeper,
+            premise: PhantomData,
+        }
+    }
+
+    /// The keeper itself.
+    pub fn into_inner(self) -> K
+        ensures keeper { result ≡ self }
+        ensures ready { P.holds → K.ready result }
+    {
+        let Supposed { keeper, premise: _ } = self;
+        keeper
+    }
+}
+
+impl<K: Keeper, P: Premise> Keeper for Supposed<K, P> {
+    ghost use Rattle.std.specs.Prelude.{◌≡◌, ⊤};
+
+    ghost ready = { λ _. ⊤ };
+
+    ghost works = { λ kept. P.holds × K.works kept };
+
+    ghost readable = { λ kept. K.readable kept };
+
+    ghost keeps = { λ kept log. K.keeps kept log };
+
+    ghost stores = { λ old batch new. K.stores old batch new };
+
+    ghost shut = { λ old new. P.holds × K.shut old new };
+
+    ghost leaves = { λ old log batch new. P.holds → K.leaves old log batch new };
+
+    ghost may_find = { λ kept held. P.holds × K.may_find kept held };
+
+    ghost outlasts = { λ kept log. P.holds → K.outlasts kept log };
+
+    ghost outlasting_is_found = { λ kept log held lasts finds.
+        K.outlasting_is_found kept log held (lasts finds.0) finds.1 };
+
+    ghost kept_is_read = { λ kept log keeps. K.kept_is_read kept log keeps };
+
+    fn commit(&mut self, batch: &Batch) -> Result<(), SavedFault> {
+        self.keeper.commit(batch)
+    }
+
+    fn batches(&mut self) -> Result<Vec<Batch>, SavedFault> {
+        self.keeper.batches()
+    }
+
+    fn server(&mut self) -> Result<Server, SavedFault> {
+        self.keeper.server()
+    }
+}

@@ -1,4 +1,0 @@
-pub mod Changes
-pub mod Marks
-pub mod Sends
-pub mod Firsts

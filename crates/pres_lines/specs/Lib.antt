@@ -1,3 +1,0 @@
-pub mod Lines
-pub mod Steps
-pub mod Places

@@ -1,9 +1,0 @@
-use Rattle.std.proofs.Common.{rules, ap, ◌∙◌}
-use Rattle.std.specs.Prelude.{filter}
-use Rattle.std.proofs.lemmas.Fn.{filter_same}
-use Rattle.pres_mail.specs.Queues.{is_write}
-use Rattle.pres_mail.specs.Mails.{Letters}
-use Rattle.pres_mail.proofs.mail.Mail.keep_writes.Goals as goal
-
-pub returns-clause-queue : goal.returns-clause-queue
-returns-clause-queue c = filter_same _ is_write _ (λ x b f' k. search rules) _ _ c.retain.ensures.filtered ∙ ap (λ (m : Letters). filter is_write m.queue) c.self.view_is

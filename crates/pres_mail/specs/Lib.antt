@@ -1,4 +1,0 @@
-pub mod Asks
-pub mod Mails
-pub mod Queues
-pub mod Watches

@@ -1,0 +1,3 @@
+pub mod LineReads
+pub mod Lines
+pub mod NoticeTexts

@@ -1,2 +1,0 @@
-pub mod Inputs
-pub mod Told

@@ -1,8 +1,0 @@
--- Sessions that ended.
-use Rattle.pres_ids.specs.declared.id.Why.{Why}
-use Rattle.pres_session.specs.Lives.{Life}
-
--- a session that is still to be paid for, as it was before its end, and why it ended
-pub record Ended (P : Type 0) : Type 0 where
-  pub session : Life P
-  pub why : Why

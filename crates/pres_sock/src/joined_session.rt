@@ -1,0 +1,155 @@
+//! A connection's place at its hub.
+
+ghost use Rattle.std.specs.Prelude.{◌≡◌, ◌≤◌, false, Some, None, Err, OnOk, OnErr, IfOk, IfErr};
+ghost use Rattle.pres_wire.specs.UpForms.{decoded};
+ghost use Rattle.pres_wire.specs.declared.fault.WireFault.{WireFault};
+ghost use Rattle.pres_wire.specs.declared.down.Down.TheVariants.{Fault};
+ghost use Rattle.pres_websocket.specs.ConnectionFaults.{is_handshake};
+ghost use Rattle.pres_sock.specs.Refusals as refusal;
+
+use pres_faults::HubFault;
+use pres_hub::{Bell, Gate, Hub, Keeper, Moment, Outbox, Parting, Seat, SessionId, Up, Why};
+use pres_websocket::SockFault;
+use pres_wire::{Code, Down, WireFault};
+use std::alloc::Global;
+use std::sync::Wait;
+use std::sync::ledger::Ledger;
+
+/// Where a connection was let in.
+#[derive(Drop)]
+pub(crate) struct HubAccess<'a, L: Ledger, K: Keeper + Drop, B, G: Gate, R> {
+    pub(crate) rt: &'a R,
+    pub(crate) alloc: Global,
+    pub(crate) hub: &'a Hub<L, K, B, G>,
+}
+
+/// The seat of a connection's session, and the end from which its messages are taken.
+pub(crate) struct JoinedSession<L: Ledger> {
+    seat: Seat<L>,
+    outbox: Outbox,
+}
+
+/// Opens the session, and hangs its bell, which is taken exactly where the session is opened. The bells
+/// of others that are due then are added to these.
+pub(crate) fn join<L: Ledger, K: Keeper + Drop, B: Bell + Clone + Drop, G: Gate, R: Wait>(
+    visit: &HubAccess<'_, L, K, B, G, R>,
+    session: &SessionId,
+    bell: &mut Option<B>,
+    due: &mut Vec<B>,
+    now: Moment,
+) -> Result<JoinedSession<L>, HubFault>
+    ensures joined { IfOk result (λ place. place.seat.made ≡ 1) }
+    ensures opened { IfOk result (λ place. place.seat.session ≡ session.now) }
+    ensures taken { OnOk result (bell.new ≡ None) }
+    ensures kept { OnErr result (bell.new ≡ bell.old) }
+{
+    let mut core = visit.hub.enter(visit.rt, 0);
+    let (seat, outbox) = core.join(session, now)?;
+    if let Some(bell) = bell.take() {
+        // without memory for it the connection only looks from time to time
+        let _ = core.hang(&seat, bell);
+    }
+    core.take_due(Some(session), due);
+    Ok(JoinedSession { seat, outbox })
+}
+
+impl<L: Ledger> JoinedSession<L> {
+    /// A fault message to the seat's session.
+    pub(crate) fn fault(&self, alloc: Global, code: Code) -> Result<Down, SockFault>
+        ensures message { IfOk result (λ m. m ≡ Fault (Some self.now.seat.session) code) }
+        ensures err { IfErr result (λ e. is_handshake e ≡ false) }
+    {
+        Ok(Down::Fault {
+            session: Some(self.seat.session().copy(alloc)?),
+            code,
+        })
+    }
+
+    /// The next message for the session.
+    pub(crate) fn take(&mut self) -> Option<Down>
+        ensures { self.new.seat ≡ self.old.seat }
+    {
+        self.outbox.take()
+    }
+
+    /// Takes a text to the hub: the fault message that answers it, where the hub's own messages
+    /// don't. The bells of others that are due then are added to these.
+    pub(crate) fn hear<K: Keeper + Drop, B: Bell + Clone + Drop, G: Gate, R: Wait>(
+        &mut self,
+        visit: &HubAccess<'_, L, K, B, G, R>,
+        due: &mut Vec<B>,
+        text: &str,
+        now: Moment,
+    ) -> Result<Option<Down>, SockFault>
+        ensures bad { (e : WireFault) → decoded text.now ≡ Err e
+            → IfOk result (refusal.AnswersBad self.old.seat.session) }
+        ensures grows { self.old.seat.made ≤ self.new.seat.made }
+        ensures err { IfErr result (λ e. is_handshake e ≡ false) }
+    {
+        let up = match Up::decode(visit.alloc, text) {
+            Ok(up) => up,
+            Err(WireFault::Memory) => return Ok(Some(self.fault(visit.alloc, Code::Busy)?)),
+            Err(_) => return Ok(Some(self.fault(visit.alloc, Code::Bad)?)),
+        };
+        match self.say(visit, due, up, now) {
+            Ok(()) => Ok(None),
+            Err(fault) => Ok(Some(self.fault(visit.alloc, code_of(fault)?)?)),
+        }
+    }
+
+    // Takes a message to the hub.
+    fn say<K: Keeper + Drop, B: Bell + Clone + Drop, G: Gate, R: Wait>(
+        &mut self,
+        visit: &HubAccess<'_, L, K, B, G, R>,
+        due: &mut Vec<B>,
+        up: Up,
+        now: Moment,
+    ) -> Result<(), HubFault>
+        ensures { self.old.seat.made ≤ self.new.seat.made }
+    {
+        let mut core = visit.hub.enter(visit.rt, 0);
+        let said = core.say(&mut self.seat, up, now);
+        core.take_due(Some(self.seat.session()), due);
+        said?;
+        Ok(())
+    }
+
+    /// Gives the seat back. The bells of others that are due then are added to these.
+    pub(crate) fn leave<K: Keeper + Drop, B: Bell + Clone + Drop, G: Gate, R: Wait>(
+        self,
+        visit: &HubAccess<'_, L, K, B, G, R>,
+        due: &mut Vec<B>,
+        now: Moment,
+    ) -> Parting<L>
+        ensures { result.made ≡ self.seat.made }
+    {
+        let JoinedSession { seat, outbox: _ } = self;
+        let mut core = visit.hub.enter(visit.rt, 0);
+        let parting = core.leave(seat, Why::Lost, now);
+        core.take_due(None, due);
+        parting
+    }
+}
+
+/// The code of a refusal. A seat that is behind or apart can't be told so.
+pub(crate) fn code_of(fault: HubFault) -> Result<Code, SockFault>
+    ensures code { IfOk result (λ code. refusal.code_of fault ≡ Some code) }
+    ensures none { IfErr result (λ _. refusal.code_of fault ≡ None) }
+    ensures err { IfErr result (λ e. is_handshake e ≡ false) }
+{
+    match fault {
+        HubFault::Memory => Ok(Code::Busy),
+        HubFault::Refused(fault) => Ok(fault.code()),
+        HubFault::Keeper(_) => Ok(Code::Busy),
+        HubFault::Down => Ok(Code::Down),
+        other => Err(SockFault::Hub(other)),
+    }
+}
+
+/// Rings these bells.
+pub(crate) fn ring<B: Bell + Drop>(due: &mut Vec<B>) {
+    for bell in due.iter() {
+        bell.ring();
+    }
+    due.clear();
+}

@@ -1,9 +1,0 @@
--- Rows that are kept as they are taken.
-use Rattle.std.proofs.Common.{◌≡◌, List, [], ◌∷◌, ◌++◌, sym, ap, ◌∙◌, append-nil, append_assoc}
-use Rattle.pres_table.specs.Saved.{Saved}
-use Rattle.pres_table.specs.Taking.{TakesAll}
-
-pub collected : {T : Type 0} (kept : T → List Saved) (rows : List Saved) (old new : T) → TakesAll (λ before row after. kept after ≡ kept before ++ row ∷ []) rows old new → kept new ≡ kept old ++ rows
-collected kept [] old new h = ap kept h ∙ sym (append-nil (kept old))
-collected kept (row ∷ more) old new h =
-    collected kept more h.0 new h.2 ∙ ap (λ rows. rows ++ more) h.1 ∙ append_assoc (kept old) (row ∷ []) more

@@ -1,0 +1,157 @@
+//! The stream.
+
+ghost use Rattle.std.specs.Prelude.{◌≡◌, IfErr};
+
+use crate::alarm::{Alarm, StreamBell};
+use crate::stream_count::{OpenStream, StreamCount};
+use mio::unix::SourceFd;
+use mio::{Events, Interest, Poll, Token, Waker};
+use std::alloc::Global;
+use std::io;
+use std::io::{ErrorKind, Read, Write};
+use std::net::{Net, TcpStream};
+use std::os::fd::AsRawFd;
+use std::sync::Arc;
+use std::time::Duration;
+
+const STREAM: Token = Token(0);
+
+const BELL: Token = Token(1);
+
+// A read is made where the system has said that there is something, so it need not wait. This bounds
+// one that waits all the same, as where the last bytes filled the buffer exactly.
+const FULL_READ_MILLIS: u64 = 1;
+
+/// A blocking stream whose reads wait for bytes or for the bell, and no longer than a set time. A
+/// read that ends by the bell or by the time answers `WouldBlock`. A write is the stream's own, with
+/// its own timeout.
+#[derive(Drop)]
+pub struct Wakeable<'a> {
+    stream: TcpStream,
+    poll: Poll,
+    events: Events,
+    alarm: Arc<Alarm, Global>,
+    place: OpenStream<'a>,
+    wait: Duration,
+    was_rung: bool,
+    // Whether there may be something to read that `poll` won't report again.
+    has_more: bool,
+    // Whether the peer has closed, which is reported once.
+    is_ended: bool,
+}
+
+// What a stream waits by: two descriptors, and what it shares with its bell.
+fn parts(
+    net: &impl Net,
+    alloc: Global,
+    stream: &TcpStream,
+) -> io::Result<(Poll, Events, Arc<Alarm, Global>, StreamBell)> {
+    stream.set_read_timeout(Some(Duration::from_millis(FULL_READ_MILLIS)))?;
+    let poll = Poll::new(net)?;
+    let events = Events::with_capacity(alloc, 2)?;
+    let fd = stream.as_raw_fd();
+    poll.registry()
+        .register(&mut SourceFd(&fd), STREAM, Interest::READABLE)?;
+    let waker = Waker::new(poll.registry(), BELL)?;
+    let Ok(alarm) = Arc::new(alloc, Alarm::new(waker)) else {
+        return Err(io::Error::from(ErrorKind::OutOfMemory));
+    };
+    match StreamBell::of(&alarm) {
+        Ok(bell) => Ok((poll, events, alarm, bell)),
+        Err(_) => Err(io::Error::from(ErrorKind::OutOfMemory)),
+    }
+}
+
+impl<'a> Wakeable<'a> {
+    /// A stream whose reads wait for this long at most, and its bell. Where the system has no two
+    /// descriptors or no memory for it, the stream comes back.
+    pub fn new(
+        net: &impl Net,
+        alloc: Global,
+        stream: TcpStream,
+        wait: Duration,
+        crowd: &'a StreamCount,
+    ) -> Result<(Wakeable<'a>, StreamBell), TcpStream>
+        ensures back { IfErr result (λ back. back ≡ stream) }
+    {
+        match parts(net, alloc, &stream) {
+            Ok((poll, events, alarm, bell)) => {
+                let stream = Wakeable {
+                    stream,
+                    poll,
+                    events,
+                    alarm,
+                    place: OpenStream::new(crowd),
+                    wait,
+                    was_rung: false,
+                    has_more: false,
+                    is_ended: false,
+                };
+                Ok((stream, bell))
+            }
+            Err(_error) => Err(stream),
+        }
+    }
+
+    // Waits until there is something to read, the bell rings or the time is up.
+    fn sleep(&mut self) -> io::Result<()> {
+        let mut wait = self.wait;
+        if self.was_rung {
+            self.was_rung = false;
+            let rest = Duration::from_millis(self.place.rest_millis());
+            self.listen(rest)?;
+            if self.has_more {
+                return Ok(());
+            }
+            wait = wait.saturating_sub(rest);
+        }
+        if !self.alarm.may_sleep() {
+            self.was_rung = true;
+            return Ok(());
+        }
+        let listened = self.listen(wait);
+        self.was_rung = self.alarm.was_rung();
+        listened
+    }
+
+    // Waits for a report on the stream. Any report is reason to read: the read finds out which.
+    fn listen(&mut self, wait: Duration) -> io::Result<()> {
+        self.poll.poll(&mut self.events, Some(wait))?;
+        for event in &self.events {
+            if event.token() == STREAM {
+                self.has_more = true;
+                if event.is_read_closed() {
+                    self.is_ended = true;
+                }
+            }
+        }
+        Ok(())
+    }
+}
+
+impl Read for Wakeable<'_> {
+    fn read(&mut self, buf: &mut [u8]) -> io::Result<usize> {
+        if !self.has_more {
+            self.sleep()?;
+        }
+        if !self.has_more {
+            return Err(io::Error::from(ErrorKind::WouldBlock));
+        }
+        let got = self.stream.read(buf);
+        self.has_more = match &got {
+            Ok(count) => *count == buf.len() || self.is_ended,
+            Err(_error) => false,
+        };
+        got
+    }
+}
+
+impl Write for Wakeable<'_> {
+    fn write(&mut self, buf: &[u8]) -> io::Result<usize> {
+        self.stream.write(buf)
+    }
+
+    fn flush(&mut self) -> io::Result<()> {
+        self.stream.flush()
+    }
+}

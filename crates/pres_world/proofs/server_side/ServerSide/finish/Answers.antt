@@ -1,0 +1,12 @@
+use Rattle.std.proofs.Common.{arith}
+use Rattle.std.proofs.lemmas.Grind.{common_steps}
+use Rattle.pres_world.proofs.server_side.ServerSide.finish.Goals as goal
+
+pub invariant_of-self-2 : goal.invariant_of-self-2
+invariant_of-self-2 c = grind (arith, common_steps)
+
+pub returns-clause-ok : goal.returns-clause-ok
+returns-clause-ok c = grind (arith, common_steps)
+
+pub returns-then-is_err-clause-err : goal.returns-then-is_err-clause-err
+returns-then-is_err-clause-err c = grind (arith, common_steps)

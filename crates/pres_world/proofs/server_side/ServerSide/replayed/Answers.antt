@@ -1,0 +1,15 @@
+use Rattle.std.proofs.Common.{subst}
+use Rattle.pres_server.specs.Replays.{IsNoLog}
+use Rattle.pres_world.proofs.Legal.{none_illegal}
+use Rattle.pres_world.proofs.server_side.ServerSide.replayed.Goals as goal
+use Rattle.std.proofs.Common.{arith}
+use Rattle.std.proofs.lemmas.Grind.{common_steps}
+
+pub unreachable-requires : goal.unreachable-requires
+unreachable-requires c =
+    let history = c.self.inside.history.items in
+    let refused = subst (λ log. IsNoLog log c.in-Err-NotLegal.field-0) c.as_slice.ensures.value c.in-Err-NotLegal.ensures.refused in
+    none_illegal history c.in-Err-NotLegal.field-0-0 c.self.invariant.legal (subst (IsNoLog history) c.in-Err-NotLegal.field-0-is refused)
+
+pub returns-in-Ok-clause-made : goal.returns-in-Ok-clause-made
+returns-in-Ok-clause-made c = grind (arith, common_steps)

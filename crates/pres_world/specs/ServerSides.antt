@@ -1,0 +1,104 @@
+-- The server's part of a world: what its events do to it, to the batches that are kept and to the messages that go out.
+use Rattle.std.specs.Prelude.{◌≡◌, ⊤, ℕ, false, List, [], ◌∷◌, ◌++◌, Option, Some, None, MatchOption}
+use Rattle.pres_ids.specs.declared.id.SessionId.{SessionId}
+use Rattle.pres_ids.specs.Ids.{ClientId}
+use Rattle.pres_wire.specs.declared.down.Down.{Down}
+use Rattle.pres_wire.specs.declared.down.Down.TheVariants.{Fault}
+use Rattle.pres_wire.specs.declared.down.Code.{Code}
+use Rattle.pres_wire.specs.declared.down.Code.TheVariants as code
+use Rattle.pres_log.specs.declared.entry.Entry.{Entry}
+use Rattle.pres_log.specs.Faults.{code_of}
+use Rattle.pres_log.specs.Logs.{Log, entries}
+use Rattle.pres_server.specs.declared.input.Input.{Input}
+use Rattle.pres_server.specs.declared.input.Input.TheVariants as input
+use Rattle.pres_server.specs.ServerStates.{ServerState, PendingTurn, heard_from, first_client}
+use Rattle.pres_server.specs.Sessions.{has_open, open_sessions_of}
+use Rattle.pres_server.specs.Streams.{answers}
+use Rattle.pres_server.specs.Turns.{Decision, refused, quiet, makes, turn, moment_of, state_after, state_heard, batch_of}
+use Rattle.pres_server.specs.Replays.{made_from}
+use Rattle.pres_server.specs.LegalLog.{IsLegal}
+use Rattle.pres_world.specs.declared.event.Ending.{Ending}
+use Rattle.pres_world.specs.declared.event.Ending.TheVariants as ending
+
+-- the server while it runs, the batches that were committed, and all messages that went out
+pub record ServerSideState : Type 0 where
+  pub server : Option ServerState
+  pub history : Log
+  pub downs : List Down
+
+-- the history is a legal log, and that of the server
+pub record ServerSideInvariant (w : ServerSideState) : Type 0 where
+  pub legal : IsLegal w.history
+  pub its_log : MatchOption w.server ⊤ (λ s. s.log ≡ w.history)
+
+-- a refusal, where there is a session that it goes to
+abbrev pub fault_for : Option SessionId → Code → List Down
+fault_for None c = []
+fault_for (Some s) c = Fault (Some s) c ∷ []
+
+-- the server after a turn
+abbrev pub state_by : Decision → ServerState → ℕ → Input → ServerState
+state_by (makes es) s moment i = state_after s moment es
+state_by quiet s moment i = state_heard s moment i
+state_by (refused f) s moment i = s
+
+-- what a turn answers
+abbrev pub answers_by : Decision → ServerState → Input → List Down
+answers_by (makes es) s i = answers (entries s.log) es
+answers_by quiet s i = []
+answers_by (refused f) s i = fault_for (heard_from i) (code_of f)
+
+-- its answers go out
+abbrev pub goes_on : List Down → Decision → ServerState → ℕ → Input → ServerSideState
+goes_on downs d s moment i = record { server = Some (state_by d s moment i); history = (state_by d s moment i).log; downs = downs ++ answers_by d s i }
+
+-- its answers are lost
+abbrev pub stops : List Down → Decision → ServerState → ℕ → Input → ServerSideState
+stops downs d s moment i = record { server = None; history = (state_by d s moment i).log; downs = downs }
+
+-- its batch is not committed
+abbrev pub keeps_nothing : List Down → Decision → ServerState → ℕ → Input → ServerSideState
+keeps_nothing downs (makes es) s moment i = record { server = Some s; history = s.log; downs = downs ++ fault_for (heard_from i) code.Busy }
+keeps_nothing downs quiet s moment i = goes_on downs quiet s moment i
+keeps_nothing downs (refused f) s moment i = goes_on downs (refused f) s moment i
+
+abbrev pub turned : Ending → List Down → Decision → ServerState → ℕ → Input → ServerSideState
+turned ending.Answered downs d s moment i = goes_on downs d s moment i
+turned ending.Stopped downs d s moment i = stops downs d s moment i
+turned ending.Refused downs d s moment i = keeps_nothing downs d s moment i
+
+-- one input, while the server runs
+abbrev pub served_by : Option ServerState → ServerSideState → Input → ℕ → Ending → ServerSideState
+served_by None w i now e = w
+served_by (Some s) w i now e = turned e w.downs (turn s i now) s (moment_of s.log now) i
+
+abbrev pub served : ServerSideState → Input → ℕ → Ending → ServerSideState
+served w i now e = served_by w.server w i now e
+
+-- the log with the batch of a turn that waits
+abbrev pub log_with : PendingTurn → Log
+log_with busy = busy.state.log ++ batch_of busy.state.log busy.moment busy.made ∷ []
+
+-- the sessions that a client has open, while the server runs
+abbrev pub open_on : Option ServerState → ClientId → List SessionId
+open_on None client = []
+open_on (Some s) client = open_sessions_of client (entries s.log)
+
+-- the server hears that the connection of the first of these sessions is lost
+abbrev pub lost : List SessionId → ServerSideState → ℕ → Ending → ServerSideState
+lost [] w now e = w
+lost (s ∷ more) w now e = served w (input.Lost s) now e
+
+-- a session of the client ends, and the batch of that stands behind those before
+abbrev pub IsEndOf : ServerState → ClientId → ℕ → ServerState → Log → Log → Type 0
+IsEndOf s c now t old new = (es : List Entry) × (turn s (input.Restart c) now ≡ makes es) × (t ≡ state_after s (moment_of s.log now) es) × (new ≡ old ++ batch_of s.log (moment_of s.log now) es ∷ [])
+
+-- The sessions of these clients end, one after the other: each time that of the first client, in byte order. Then no
+-- session is open.
+abbrev pub EndsAll : ℕ → List ClientId → ServerState → ServerState → Type 0
+EndsAll now [] s t = (t ≡ s) × ((c : ClientId) → has_open c (entries t.log) ≡ false)
+EndsAll now (c ∷ cs) s t = (es : List Entry) × (first_client s.heard ≡ Some c) × (turn s (input.Restart c) now ≡ makes es) × EndsAll now cs (state_after s (moment_of s.log now) es) t
+
+-- A server is made of the committed batches, each open session ends, and the answers of these ends are lost.
+abbrev pub IsRestarted : ServerSideState → ℕ → ServerSideState → Type 0
+IsRestarted w now v = (cs : List ClientId) × (t : ServerState) × EndsAll now cs (made_from w.history) t × (v ≡ record { server = Some t; history = t.log; downs = w.downs })

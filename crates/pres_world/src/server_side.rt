@@ -1,0 +1,358 @@
+//! The server's part of a world.
+
+ghost use Rattle.std.specs.Prelude.{◌≡◌, ◌⊎◌, ◌+◌, ◌++◌, ◌∷◌, [], ℕ, true, false, List, Some, None, IfOk, IfErr, OnOk, IfSome, IfNone, MatchOption, option_copied};
+ghost use Rattle.pres_ids.specs.Ids.{ClientId};
+ghost use Rattle.pres_log.specs.Logs.{entries};
+ghost use Rattle.pres_server.specs.ServerStates.{ServerState, heard_from, first_client, blank};
+ghost use Rattle.pres_server.specs.LegalLog.{IsLegal};
+ghost use Rattle.pres_server.specs.InternalParts.{session_with};
+ghost use Rattle.pres_server.specs.Replays.{made_from};
+ghost use Rattle.pres_server.specs.Sessions.{has_open};
+ghost use Rattle.pres_server.specs.Streams.{answers};
+ghost use Rattle.pres_server.specs.Turns.{turn, makes, quiet, state_after, state_heard};
+ghost use Rattle.pres_server.specs.declared.input.Input.{Input};
+ghost use Rattle.pres_server.specs.declared.input.Input.TheVariants as input;
+ghost use Rattle.pres_world.specs.ServerSides.{ServerSideInvariant, fault_for, turned, served, lost, log_with, open_on, EndsAll, IsEndOf, IsRestarted};
+ghost use Rattle.pres_world.specs.declared.fault.WorldFault.TheVariants.{Memory};
+
+use crate::event::Ending;
+use crate::fault::WorldFault;
+use pres_server::{
+    Batch, Busy, ClientId, Code, Down, Fault, Input, Moment, ReplayFault, Server, SessionId, Stamp,
+    Turn,
+};
+use std::alloc::{AllocError, Global};
+use std::marker::Model;
+
+/// The server while it runs, the batches that were committed, and what went out.
+#[derive(Drop)]
+pub(crate) struct ServerSide {
+    alloc: Global,
+    server: Option<Server>,
+    history: Vec<Batch>,
+    downs: Vec<Down>,
+}
+
+impl Model for ServerSide {
+    ghost use Rattle.pres_world.specs.ServerSides.{ServerSideState, ServerSideInvariant};
+
+    ghost Value = { ServerSideState };
+
+    ghost view = { λ s. record { server = s.server; history = s.history.items; downs = s.downs.items } };
+
+    ghost invariant = { λ s. ServerSideInvariant (record { server = s.server; history = s.history.items; downs = s.downs.items }) };
+}
+
+// The session whose message the input is.
+fn sender(alloc: Global, input: &Input) -> Result<Option<SessionId>, AllocError>
+    ensures { IfOk result (λ found. found ≡ heard_from input.now) }
+{
+    match input {
+        Input::Up(message) => Ok(Some(message.session().copy(alloc)?)),
+        _ => Ok(None),
+    }
+}
+
+// The first client, in byte order, that has a session open.
+fn first_open(alloc: Global, server: &Server) -> Result<Option<ClientId>, AllocError>
+    ensures first { IfOk result (λ found. found ≡ first_client server.now.heard) }
+    ensures open { IfOk result
+        (λ found. IfSome found (λ c. has_open c (entries server.now.log) ≡ true)) }
+    ensures none { IfOk result
+        (λ found. IfNone found ((c : ClientId) → has_open c (entries server.now.log) ≡ false)) }
+{
+    match server.first_open() {
+        Some(client) => Ok(Some(client.copy(alloc)?)),
+        None => Ok(None),
+    }
+}
+
+// The client's open session ends, with its batch behind those that ended before.
+fn end_one(
+    alloc: Global,
+    server: Server,
+    client: ClientId,
+    now: Moment,
+    ended: &mut Vec<Batch>,
+) -> Result<Server, WorldFault>
+    requires { has_open client (entries server.log) ≡ true }
+    ensures ended { IfOk result (λ after.
+        IsEndOf server client now after ended.old.items ended.new.items) }
+    ensures refused { IfErr result (λ e. e ≡ Memory) }
+{
+    // it ensures that the log is legal
+    let _ = server.number();
+    let busy = match server.prepare(Input::Restart(client), now) {
+        Ok(Turn::Busy(busy)) => busy,
+        Ok(Turn::Quiet(..)) => unreachable!(),
+        // the end of an open session is refused for want of memory alone
+        Err((_, server)) => {
+            drop(server);
+            return Err(WorldFault::Memory);
+        }
+    };
+    if !keep(alloc, busy.batch(), ended) {
+        drop(busy.abandon());
+        return Err(WorldFault::Memory);
+    }
+    match busy.done() {
+        Ok((server, answers)) => {
+            drop(answers);
+            Ok(server)
+        }
+        Err(_) => Err(WorldFault::Memory),
+    }
+}
+
+// The batch goes behind the others, unless memory is refused.
+fn keep(alloc: Global, batch: &Batch, batches: &mut Vec<Batch>) -> bool
+    ensures kept { result ≡ true → batches.new.items ≡ batches.old.items ++ batch.now ∷ [] }
+    ensures stays { result ≡ false → batches.new.items ≡ batches.old.items }
+{
+    match batch.copy(alloc) {
+        Ok(copied) => batches.push(copied).is_ok(),
+        Err(_) => false,
+    }
+}
+
+// Ends each session that is open, with the batches of these ends.
+fn end_all(alloc: Global, server: Server, now: Moment) -> Result<(Server, Vec<Batch>), WorldFault>
+    ensures ended { IfOk result (λ r. (cs : List ClientId) × EndsAll now cs server r.0) }
+    ensures log { IfOk result (λ r. r.0.log ≡ server.log ++ r.1.items) }
+    ensures legal { IfOk result (λ r. IsLegal r.0.log) }
+    ensures refused { IfErr result (λ e. e ≡ Memory) }
+{
+    let mut server = server;
+    let mut ended = Vec::new(alloc);
+    while let Some(client) = first_open(alloc, &server)? {
+        let next = end_one(alloc, server, client, now, &mut ended)?;
+        server = next;
+        // it ensures that the log is legal
+        let _ = server.number();
+    }
+    let _ = server.number();
+    Ok((server, ended))
+}
+
+impl ServerSide {
+    /// A server without batches.
+    pub(crate) fn new(alloc: Global) -> ServerSide
+        ensures { result ≡ record { server = Some blank; history = []; downs = [] } }
+    {
+        ServerSide {
+            alloc,
+            server: Some(Server::new(alloc)),
+            history: Vec::new(alloc),
+            downs: Vec::new(alloc),
+        }
+    }
+
+    /// The server, while it runs.
+    pub(crate) fn server(&self) -> Option<&Server>
+        ensures server { option_copied result ≡ self.now.server }
+        ensures serves { ServerSideInvariant self.now }
+    {
+        self.server.as_ref()
+    }
+
+    /// The batches that were committed.
+    pub(crate) fn history(&self) -> &[Batch]
+        ensures history { result.now ≡ self.now.history }
+        ensures legal { IsLegal self.now.history }
+    {
+        self.history.as_slice()
+    }
+
+    /// What went out.
+    pub(crate) fn downs(&self) -> &[Down]
+        ensures { result.now ≡ self.now.downs }
+    {
+        self.downs.as_slice()
+    }
+
+    // The server runs on behind a turn that makes nothing, unless it stops.
+    fn run_on(&mut self, server: Server, ending: Ending)
+        requires waits { self.old.server ≡ None }
+        requires log { server.log ≡ self.old.history }
+        ensures { (s : ServerState) (moment : ℕ) (i : Input) → server ≡ state_heard s moment i
+            → self.new ≡ turned ending self.old.downs quiet s moment i }
+    {
+        match ending {
+            Ending::Stopped => drop(server),
+            Ending::Answered | Ending::Refused => drop(self.server.replace(server)),
+        }
+    }
+
+    // A refusal goes out, where there is a session that it goes to, unless the server stops.
+    fn refuse(
+        &mut self,
+        server: Server,
+        session: Option<SessionId>,
+        code: Code,
+    ) -> Result<(), WorldFault>
+        requires log { server.log ≡ self.old.history }
+        ensures ok { OnOk result (self.new ≡ record {
+          server = Some server;
+          history = self.old.history;
+          downs = self.old.downs ++ fault_for session code;
+        }) }
+        ensures err { IfErr result (λ e. (e ≡ Memory)
+            × (self.new ≡ record self.old { server = Some server })) }
+    {
+        drop(self.server.replace(server));
+        if session.is_some() {
+            self.downs.push(Down::Fault { session, code })?;
+        }
+        Ok(())
+    }
+
+    // A turn whose batch was committed: its answers go out.
+    fn finish(&mut self, busy: Busy) -> Result<(), WorldFault>
+        requires log { self.old.history ≡ log_with busy }
+        ensures ok { OnOk result (self.new ≡ record {
+          server = Some (state_after busy.state busy.moment busy.made);
+          history = self.old.history;
+          downs = self.old.downs ++ answers (entries busy.state.log) busy.made;
+        }) }
+        ensures err { IfErr result (λ e. (e ≡ Memory) × (self.new ≡ self.old)) }
+    {
+        let Ok((server, answers)) = busy.done() else {
+            return Err(WorldFault::Memory);
+        };
+        let mut answers = answers.into_vec();
+        if self.downs.append(&mut answers).is_err() {
+            drop(server);
+            drop(answers);
+            return Err(WorldFault::Memory);
+        }
+        drop(self.server.replace(server));
+        Ok(())
+    }
+
+    // A turn that makes a batch.
+    fn settle(
+        &mut self,
+        busy: Busy,
+        session: Option<SessionId>,
+        ending: Ending,
+    ) -> Result<(), WorldFault>
+        requires waits { self.old.server ≡ None }
+        requires log { busy.state.log ≡ self.old.history }
+        ensures ok { OnOk result ((i : Input) → session ≡ heard_from i → self.new
+            ≡ turned ending self.old.downs (makes busy.made) busy.state busy.moment i) }
+        ensures err { IfErr result (λ e. (e ≡ Memory)
+            × ((self.new ≡ record self.old { server = Some busy.state })
+            ⊎ (self.new ≡ record self.old { history = log_with busy }))) }
+    {
+        if ending == Ending::Refused {
+            return self.refuse(busy.abandon(), session, Code::Busy);
+        }
+        drop(session);
+        if !keep(self.alloc, busy.batch(), &mut self.history) {
+            drop(self.server.replace(busy.abandon()));
+            return Err(WorldFault::Memory);
+        }
+        if ending == Ending::Stopped {
+            drop(busy.abandon());
+            return Ok(());
+        }
+        self.finish(busy)
+    }
+
+    /// One input at the moment. While the server is stopped it changes nothing. Memory is the one
+    /// refusal: nothing is changed, or the server has stopped.
+    pub(crate) fn turn(
+        &mut self,
+        input: Input,
+        now: Moment,
+        ending: Ending,
+    ) -> Result<(), WorldFault>
+        ensures ok { OnOk result (self.new ≡ served self.old input now ending) }
+        ensures err { IfErr result (λ e. (e ≡ Memory) × ((self.new ≡ self.old)
+            ⊎ (self.new ≡ served self.old input now Ending.Stopped))) }
+    {
+        let Ok(session) = sender(self.alloc, &input) else {
+            drop(input);
+            return Err(WorldFault::Memory);
+        };
+        let Some(server) = self.server.take() else {
+            drop(input);
+            drop(session);
+            return Ok(());
+        };
+        match server.prepare(input, now) {
+            Ok(Turn::Busy(busy)) => self.settle(busy, session, ending),
+            Ok(Turn::Quiet(server, answers)) => {
+                drop(answers);
+                drop(session);
+                self.run_on(server, ending);
+                Ok(())
+            }
+            Err((Fault::Busy, server)) => {
+                drop(session);
+                drop(self.server.replace(server));
+                Err(WorldFault::Memory)
+            }
+            Err((fault, server)) => {
+                if ending == Ending::Stopped {
+                    drop(session);
+                    drop(server);
+                    return Ok(());
+                }
+                self.refuse(server, session, fault.code())
+            }
+        }
+    }
+
+    // The stamp of the client's open session, while the server runs.
+    fn open_stamp(&self, client: &ClientId) -> Option<Stamp>
+        ensures { MatchOption result
+            (open_on self.now.server client.now ≡ [])
+            (λ stamp. open_on self.now.server client.now ≡ session_with client.now stamp ∷ []) }
+    {
+        self.server.as_ref()?.open_stamp(client)
+    }
+
+    /// The server hears that the connection of the client's open session is lost.
+    pub(crate) fn lose(&mut self, client: &ClientId, now: Moment) -> Result<(), WorldFault>
+        ensures ok { OnOk result (self.new
+            ≡ lost (open_on self.old.server client.now) self.old now Ending.Answered) }
+        ensures err { IfErr result (λ e. (e ≡ Memory) × ((self.new ≡ self.old) ⊎ (self.new
+            ≡ lost (open_on self.old.server client.now) self.old now Ending.Stopped))) }
+    {
+        let Some(stamp) = self.open_stamp(client) else {
+            return Ok(());
+        };
+        let session = SessionId::of(client.copy(self.alloc)?, stamp);
+        self.turn(Input::Lost(session), now, Ending::Answered)
+    }
+
+    // The server that the committed batches make.
+    fn replayed(&self) -> Result<Server, WorldFault>
+        ensures made { IfOk result (λ server. server ≡ made_from self.now.history) }
+        ensures refused { IfErr result (λ e. e ≡ Memory) }
+    {
+        match Server::replay(self.alloc, self.history.as_slice()) {
+            Ok(server) => Ok(server),
+            Err(ReplayFault::Memory) => Err(WorldFault::Memory),
+            Err(ReplayFault::NotLegal(_)) => unreachable!(),
+        }
+    }
+
+    /// The server starts again over the committed batches, and ends the sessions that are open.
+    /// Memory is the one refusal, and then nothing is changed.
+    pub(crate) fn restart(&mut self, now: Moment) -> Result<(), WorldFault>
+        ensures ok { OnOk result (IsRestarted self.old now self.new) }
+        ensures err { IfErr result (λ e. (e ≡ Memory) × (self.new ≡ self.old)) }
+    {
+        let server = self.replayed()?;
+        let (server, mut ended) = end_all(self.alloc, server, now)?;
+        if self.history.append(&mut ended).is_err() {
+            drop(server);
+            drop(ended);
+            return Err(WorldFault::Memory);
+        }
+        drop(self.server.replace(server));
+        Ok(())
+    }
+}
