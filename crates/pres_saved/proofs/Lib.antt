@@ -4,3 +4,4 @@ pub mod Outlasting
 pub mod Reading
 pub mod Refused
 pub mod Remade
+pub mod Watching

@@ -95,3 +95,22 @@ impl Take for Replaying {
         }
     }
 }
+
+/// Refuses the first row, and says that there was one.
+#[derive(Drop)]
+pub(crate) struct Glance {
+    pub(crate) has_read: bool,
+}
+
+impl Take for Glance {
+    ghost use Rattle.std.specs.Prelude.{◌≡◌, true};
+
+    ghost takes = { λ _ _ _. ⊥ };
+
+    ghost refuses = { λ _ _ _ new. new.has_read ≡ true };
+
+    fn take(&mut self, _row: SavedRow) -> Result<(), SavedFault> {
+        self.has_read = true;
+        Err(SavedFault::Version)
+    }
+}

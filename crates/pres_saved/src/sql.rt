@@ -14,7 +14,7 @@ ghost use Rattle.pres_saved.specs.SavedLogs.{saved_log};
 ghost use Rattle.pres_keeper.specs.Keepers.{IsUnread, IsNoServer};
 ghost use Rattle.pres_saved.specs.SqlKeepers.{IsReady, WasShut, KeepsLog, readable_in};
 
-use crate::replaying::{Batches, Replaying};
+use crate::replaying::{Batches, Glance, Replaying};
 use pres_batch_json::print_entries;
 use pres_batch_rows::BatchTable;
 use pres_faults::SavedFault;
@@ -173,6 +173,23 @@ impl<S: Alter + Drop> SqlKeeper<S> {
             return Err(fault);
         }
         Ok(made.replay.finish())
+    }
+
+    /// Whether the store still answers: reads its first row, where there is one. Refused where it gives
+    /// none, as Database where the store was shut.
+    pub fn probe(&mut self) -> Result<(), SavedFault>
+        ensures left { HasCleanDisk (state S.Store self.new.connection) → Serves S.Store self.old
+            → IsLeft (state S.Store self.old.connection) (state S.Store self.new.connection) }
+        ensures last { self.new.last ≡ self.old.last }
+        ensures crash { Survives (state S.Store self.old.connection)
+            (state S.Store self.new.connection) (λ _. ⊥) }
+        ensures serves { Serves S.Store self.old → Serves S.Store self.new }
+    {
+        let mut glance = Glance { has_read: false };
+        match self.table.each(self.alloc, &mut glance) {
+            Err(fault) if !glance.has_read => Err(fault),
+            _ => Ok(()),
+        }
     }
 
     /// The connection, with the same rows.

@@ -1,0 +1,138 @@
+//! A keeper over a database whose commits are told to who watches them.
+
+ghost use Rattle.std.specs.Prelude.{◌≡◌, ◌≤◌};
+ghost use Rattle.sqlite.specs.Held.{state};
+ghost use Rattle.sqlite.specs.State.{HasCleanDisk, Survives};
+ghost use Rattle.pres_log.specs.Logs.{Log};
+ghost use Rattle.pres_keeper.specs.Keepers.{Readable};
+ghost use Rattle.pres_saved.specs.SqlKeepers.{IsReady, Works, KeepsLog, MayFind, OutlastsLog};
+
+use crate::sql::SqlKeeper;
+use pres_faults::SavedFault;
+use pres_keeper::Keeper;
+use pres_log::Batch;
+use pres_server::Server;
+use sqlite::Alter;
+use std::marker::Model;
+
+/// What became of a commit.
+#[derive(Clone, Copy, Debug, PartialEq, Eq)]
+pub enum Commit {
+    /// It was taken.
+    Taken,
+    /// It was refused, and the next one may be taken.
+    Refused,
+    /// It was refused, and the store answers no read any more: it was shut, and refuses each later one.
+    Shut,
+}
+
+/// Who is told of each commit.
+pub trait Watch {
+    /// Takes note of it. The store's other callers wait meanwhile.
+    fn note(&self, commit: Commit);
+}
+
+/// A keeper over a database that tells of each commit what became of it. Contracts see the keeper.
+pub struct Watched<S: Alter, W: Watch> {
+    keeper: SqlKeeper<S>,
+    watch: W,
+}
+
+impl<S: Alter, W: Watch> Model for Watched<S, W> {
+    ghost use Rattle.pres_batch_rows.specs.TableStates.{TableState, kept_code};
+
+    ghost Value = { TableState S };
+
+    ghost coded = { kept_code S.code };
+
+    ghost view = { λ w. w.keeper };
+}
+
+impl<S: Alter + Drop, W: Watch + Drop> Drop for Watched<S, W> {
+    fn drop(self) {
+        let Watched {
+            keeper: _,
+            watch: _,
+        } = self;
+    }
+}
+
+impl<S: Alter + Drop, W: Watch> Watched<S, W> {
+    /// The keeper, watched from now on.
+    pub fn new(keeper: SqlKeeper<S>, watch: W) -> Watched<S, W>
+        ensures { result ≡ keeper }
+    {
+        Watched { keeper, watch }
+    }
+
+    // Tells of a commit that was refused, by whether the store still answers.
+    fn note_refusal(&mut self)
+        ensures ready { IsReady S.Store self.old → IsReady S.Store self.new }
+        ensures worked { IsReady S.Store self.old → Works S.Store self.new
+            → Works S.Store self.old }
+        ensures stays { (log : Log) → IsReady S.Store self.old → Works S.Store self.new
+            → KeepsLog S.Store self.old log → KeepsLog S.Store self.new log }
+        ensures found { (held : Readable) → IsReady S.Store self.old
+            → MayFind S.Store self.new held → MayFind S.Store self.old held }
+        ensures outlasts { (log : Log) → IsReady S.Store self.old
+            → OutlastsLog S.Store self.old log → OutlastsLog S.Store self.new log }
+        ensures crash { Survives (state S.Store self.old.connection)
+            (state S.Store self.new.connection) (λ _. ⊥) }
+    {
+        match self.keeper.probe() {
+            Err(SavedFault::Database) => self.watch.note(Commit::Shut),
+            _ => self.watch.note(Commit::Refused),
+        }
+    }
+}
+
+impl<S: Alter + Drop, W: Watch> Keeper for Watched<S, W> {
+    ghost use Rattle.std.proofs.Common.{ap};
+    ghost use Rattle.pres_saved.specs.SavedLogs.{readable_by};
+    ghost use Rattle.pres_saved.specs.SqlKeepers.{IsReady, Works, WasShut, KeepsLog, LeavesLog, MayFind, OutlastsLog, SavesBatch, readable_in};
+    ghost use Rattle.pres_saved.specs.Laws.{found_first};
+
+    ghost ready = { λ kept. IsReady S.Store kept };
+
+    ghost works = { λ kept. Works S.Store kept };
+
+    ghost readable = { λ kept. readable_in S.Store kept };
+
+    ghost keeps = { λ kept log. KeepsLog S.Store kept log };
+
+    ghost stores = { λ old batch new. SavesBatch S.Store old batch new };
+
+    ghost shut = { λ old new. WasShut S.Store old new };
+
+    ghost leaves = { λ old log batch new. LeavesLog S.Store old log batch new };
+
+    ghost may_find = { λ kept held. MayFind S.Store kept held };
+
+    ghost outlasts = { λ kept log. OutlastsLog S.Store kept log };
+
+    ghost kept_is_read = { λ kept log keeps. ap (readable_by _) keeps };
+
+    ghost outlasting_is_found = { λ kept log held lasts finds.
+        found_first _ kept log held lasts finds };
+
+    fn commit(&mut self, batch: &Batch) -> Result<(), SavedFault> {
+        match self.keeper.commit(batch) {
+            Ok(()) => {
+                self.watch.note(Commit::Taken);
+                Ok(())
+            }
+            Err(fault) => {
+                self.note_refusal();
+                Err(fault)
+            }
+        }
+    }
+
+    fn batches(&mut self) -> Result<Vec<Batch>, SavedFault> {
+        self.keeper.batches()
+    }
+
+    fn server(&mut self) -> Result<Server, SavedFault> {
+        self.keeper.server()
+    }
+}
