@@ -1,23 +1,28 @@
 //! Stops: from some call on each call on one of the two files fails, and then the machine comes back,
 //! with what was synced alone or with all that was written. What is opened then has the batches
-//! that were committed, with or without the one at which it stopped.
+//! that were committed, with or without the one at which it stopped, or is no file of ours, where it
+//! was never answered that the tables were made.
 
 ghost use Rattle.std.specs.Prelude.{IsTrue};
 
-use crate::turns::{listed, turn};
-use crate::words::{refused, said};
+use crate::turns::{listed, step};
+use crate::words::{expect_text, refused, said};
 use pres_keeper::Keeper;
-use pres_saved::SqlKeeper;
+use pres_saved::{Commit, SqlKeeper, Watch, Watched};
 use sqlite::{Alter, Connection, FileStore, Files, Options};
 use sqlite_disk::{Crash, Disk, Fuse, Memory};
 use std::alloc::Global;
 use std::process::Abort;
+use std::sync::atomic::{AtomicUsize, Ordering};
 
-// The turns of a run, each with its batch.
+// The turns of a run, each with its batch. The server stops behind the commit of the last one.
 const TURNS: &str =
     r#"1000 {"m":"hello","s":["alice",1,1]} => 1 1000 [{"e":"open","s":["alice",1,1]}]
-2000 {"m":"on","path":"/a","q":1,"s":["alice",1,1]} => 2 2000 [{"e":"on","path":"/a","q":1,"s":["alice",1,1]}]
-3000 {"m":"hello","s":["bob",1,1]} => 3 3000 [{"e":"open","s":["bob",1,1]}]"#;
+2000 {"m":"hello","s":["bob",1,1]} => 2 2000 [{"e":"open","s":["bob",1,1]}]
+stop 3000 {"m":"op","n":1,"op":{"op":"set","path":"/x","value":7},"q":1,"s":["bob",1,1]} => 3 3000 [{"e":"op","n":1,"op":{"op":"set","path":"/x","value":7},"out":{"wrote":[["/x",7]]},"q":1,"s":["bob",1,1]}]"#;
+
+// The first turn that writes is this one.
+const WRITES_AT: usize = 3;
 
 // How far a run came.
 #[derive(Clone, Copy)]
@@ -52,26 +57,58 @@ fn batches(rt: &impl Abort, alloc: Global, count: usize) -> String {
     text
 }
 
-// Makes the turns, up to the first that the keeper refuses, and reads them.
-fn kept<K: Keeper>(rt: &impl Abort, alloc: Global, keeper: &mut K) -> Ran {
-    let mut commits: usize = 0;
-    for line in TURNS.lines() {
-        let (case, _) = line.split_once(" => ").expect(rt, "a batch");
-        let text = turn(rt, alloc, keeper, case, false);
-        if text.as_str() == "Database" {
-            return Ran {
-                created: true,
-                commits,
-                stopped: true,
-            };
-        }
-        commits = commits.saturating_add(1);
+// What is to be found after so many commits: the batches, and the server that they make.
+fn wanted(rt: &impl Abort, alloc: Global, commits: usize) -> String {
+    let batches = batches(rt, alloc, commits);
+    let tree = if commits < WRITES_AT {
+        "null"
+    } else {
+        r#"{"x":7}"#
+    };
+    format!(in alloc; "{batches}; {commits} entries, {tree}").expect(rt, "memory")
+}
+
+// The batches, and the server that they make.
+fn read<K: Keeper>(rt: &impl Abort, alloc: Global, keeper: &mut K) -> String {
+    let batches = listed(rt, alloc, keeper);
+    let server = step(rt, alloc, keeper, "server");
+    format!(in alloc; "{batches}; {server}").expect(rt, "memory")
+}
+
+// Whether the keeper refuses to load the batches, which have to be so many.
+fn refuses_load<K: Keeper>(rt: &impl Abort, alloc: Global, keeper: &mut K, commits: usize) -> bool {
+    let text = read(rt, alloc, keeper);
+    if text.ends_with("Database") {
+        return true;
     }
-    let text = listed(rt, alloc, keeper);
-    Ran {
+    expect_text(rt, text, wanted(rt, alloc, commits).as_str());
+    false
+}
+
+// Makes the turns, up to the first that the keeper refuses, and then loads what is kept, as each of two
+// restarts does.
+fn kept<K: Keeper>(rt: &impl Abort, alloc: Global, keeper: &mut K) -> Ran {
+    let mut ran = Ran {
         created: true,
-        commits,
-        stopped: text.as_str() == "Database",
+        commits: 0,
+        stopped: true,
+    };
+    for line in TURNS.lines() {
+        let (turn, _) = line.split_once(" => ").expect(rt, "a batch");
+        let text = step(rt, alloc, keeper, turn);
+        if text.as_str() == "Database" {
+            return ran;
+        }
+        ran.commits = ran.commits.saturating_add(1);
+    }
+    for _ in 0..2 {
+        if refuses_load(rt, alloc, keeper, ran.commits) {
+            return ran;
+        }
+    }
+    Ran {
+        stopped: false,
+        ..ran
     }
 }
 
@@ -133,19 +170,6 @@ fn left<D: Disk + Drop>(rt: &impl Abort, alloc: Global, files: Files<D>) -> (Fil
             closed(connection, ran)
         }
         Err(files) => (files, NOT_OPENED),
-    }
-}
-
-// The batches and how many entries their server has.
-fn read<K: Keeper>(rt: &impl Abort, alloc: Global, keeper: &mut K) -> String {
-    let text = listed(rt, alloc, keeper);
-    match keeper.server() {
-        Ok(server) => {
-            let number = server.number();
-            drop(server);
-            format!(in alloc; "{text}, server {number}").expect(rt, "memory")
-        }
-        Err(fault) => refused(rt, alloc, fault),
     }
 }
 
@@ -212,12 +236,6 @@ fn one(rt: &impl Abort, alloc: Global, calls: (u64, u64), loses: bool) -> (Strin
     }
     let files = with_all_written(rt, alloc, &files);
     (reopened(rt, alloc, files), ran)
-}
-
-// What is to be found after so many commits.
-fn wanted(rt: &impl Abort, alloc: Global, commits: usize) -> String {
-    let batches = batches(rt, alloc, commits);
-    format!(in alloc; "{batches}, server {commits}").expect(rt, "memory")
 }
 
 // Whether what was found after a run is right, in a word.
@@ -293,4 +311,97 @@ fn stops_of_the_database_leave_what_was_committed(rt: HostRuntime) {
         let seen = stops(&rt, rt.alloc(), false, loses);
         assert!(rt; seen.none > 0 && seen.without > 0);
     }
+}
+
+// How often each kind of commit was reported to a watch.
+#[derive(Drop)]
+struct Reports {
+    taken: AtomicUsize,
+    refused: AtomicUsize,
+    shut: AtomicUsize,
+}
+
+// Counts the commits that are reported to it.
+#[derive(Drop)]
+struct Counting<'a> {
+    reports: &'a Reports,
+}
+
+impl Watch for Counting<'_> {
+    fn note(&self, commit: Commit) {
+        let count = match commit {
+            Commit::Taken => &self.reports.taken,
+            Commit::Refused => &self.reports.refused,
+            Commit::Shut => &self.reports.shut,
+        };
+        count.fetch_add(1, Ordering::SeqCst);
+    }
+}
+
+// A run over a keeper that is watched.
+fn watched<S: Alter + Drop>(
+    rt: &impl Abort,
+    alloc: Global,
+    connection: Connection<S>,
+    reports: &Reports,
+) -> Ran {
+    if !connection.is_autocommit() {
+        panic!(rt; "a transaction is open");
+    }
+    match SqlKeeper::create(alloc, connection) {
+        Ok(keeper) => {
+            let mut keeper = Watched::new(keeper, Counting { reports });
+            let ran = kept(rt, alloc, &mut keeper);
+            drop(keeper);
+            ran
+        }
+        Err((_, connection)) => {
+            drop(connection);
+            NOT_OPENED
+        }
+    }
+}
+
+// What a run came to whose log fails after so many calls, and how often commits were reported that were
+// taken, refused, and refused by a store that was shut.
+fn reports_of(rt: &impl Abort, alloc: Global, calls: u64) -> (Ran, [usize; 3]) {
+    let reports = Reports {
+        taken: AtomicUsize::new(0),
+        refused: AtomicUsize::new(0),
+        shut: AtomicUsize::new(0),
+    };
+    let files = Files {
+        log: Fuse::new(Memory::new(alloc), calls),
+        db: Fuse::new(Memory::new(alloc), u64::MAX),
+    };
+    let ran = match opened(alloc, files) {
+        Ok(connection) => watched(rt, alloc, connection, &reports),
+        Err(files) => {
+            drop(files);
+            NOT_OPENED
+        }
+    };
+    let counts = [
+        reports.taken.load(Ordering::SeqCst),
+        reports.refused.load(Ordering::SeqCst),
+        reports.shut.load(Ordering::SeqCst),
+    ];
+    (ran, counts)
+}
+
+// Each commit is reported once, and where a sync of the log failed, the store as shut.
+#[test]
+fn each_commit_is_reported(rt: HostRuntime) {
+    let mut all_shut: usize = 0;
+    for number in 0..1000 {
+        let (ran, [taken, refused, shut]) = reports_of(&rt, rt.alloc(), number);
+        let refusals = refused.saturating_add(shut);
+        all_shut = all_shut.saturating_add(shut);
+        assert!(rt; taken == ran.commits && refusals <= 1);
+        if !ran.stopped {
+            assert!(rt; refusals == 0 && all_shut > 0);
+            return;
+        }
+    }
+    panic!(rt; "no run without a stop")
 }

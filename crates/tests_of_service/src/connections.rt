@@ -2,9 +2,9 @@
 
 ghost use Rattle.std.specs.Prelude.{◌≡◌, ◌^◌};
 
-use crate::script::{Fails, HEAD, NONE, Script, frame, said, script_of};
+use crate::script::{HEAD, NONE, Script, frame, said, script_of};
 use crate::texts::{expect_text, fault_word};
-use pres_hub::{Core, Hub, MemKeeper, NoBell, OpenGate};
+use pres_hub::{Core, Hub, Keeper, MemKeeper, NoBell, OpenGate, Parting, Report};
 use pres_server::Moment;
 use pres_sock::{Clock, serve_stream};
 use pres_websocket::SockFault;
@@ -25,17 +25,32 @@ impl Clock for Stopped {
     }
 }
 
-// The report's number, what was accepted, seats out and total, and the end in words.
+/// The report's number, what was accepted, seats out and total, whether a session is open behind a
+/// tick, and the end in words.
 #[derive(Drop)]
-struct Outcome {
+pub(crate) struct Outcome {
     counts: (u64, u64, u64, Option<u64>),
-    ended: &'static str,
+    is_open: bool,
+    pub(crate) ended: &'static str,
 }
 
 impl Outcome {
-    // It has to have ended so, and to have counted so much.
-    fn expect(&self, rt: &impl Abort, ended: &str, counts: (u64, u64, u64, Option<u64>)) {
+    /// No session is open, no seat is out, and what was accepted is what the seats made.
+    pub(crate) fn expect_over(&self, rt: &impl Abort) {
+        let (_, accepted, out, total) = self.counts;
+        assert!(rt; !self.is_open);
+        assert_eq!(rt; (out, total), (0, Some(accepted)));
+    }
+
+    /// It has to have ended so, to be over, and to have counted so much.
+    pub(crate) fn expect(
+        &self,
+        rt: &impl Abort,
+        ended: &str,
+        counts: (u64, u64, u64, Option<u64>),
+    ) {
         assert_eq!(rt; self.ended, ended);
+        self.expect_over(rt);
         assert_eq!(rt; self.counts, counts);
     }
 }
@@ -48,7 +63,47 @@ fn end_text(ended: Result<(), SockFault>) -> &'static str {
     }
 }
 
-// One connection to a new hub, with a ledger that the caller picks.
+// A tick of the hub. It is refused nothing.
+fn tick<L: Ledger, R: Wait + Abort>(rt: &R, hub: &Hub<L, MemKeeper, NoBell, OpenGate>) {
+    let mut core = hub.enter(rt, 0);
+    let ticked = core.tick(Moment::at(1000));
+    drop(core);
+    let _ = ticked.expect(rt, "a tick");
+}
+
+// Whether a session is open in what the keeper holds.
+fn is_open(rt: &impl Abort, mut keeper: MemKeeper) -> bool {
+    let server = keeper.server().expect(rt, "rows");
+    drop(keeper);
+    let is_open = server.first_open().is_some();
+    drop(server);
+    is_open
+}
+
+// What the hub's report tells, and the end.
+fn reported<L: Ledger>(
+    rt: &impl Abort,
+    mut report: Report<L, MemKeeper>,
+    parting: Option<Parting<L>>,
+    ended: Result<(), SockFault>,
+) -> Outcome {
+    if let Some(parting) = parting {
+        report.gather(parting);
+    }
+    let counts = (
+        report.number(),
+        report.accepted(),
+        report.seats_out(),
+        report.total(),
+    );
+    Outcome {
+        counts,
+        is_open: is_open(rt, report.into_keeper()),
+        ended: end_text(ended),
+    }
+}
+
+// One connection to a new hub, with a ledger that the caller picks, and then a tick.
 fn served_with<L: Ledger + Send + Sync, R: Wait + Threads + Abort + Sync>(
     rt: &R,
     alloc: Global,
@@ -66,29 +121,22 @@ fn served_with<L: Ledger + Send + Sync, R: Wait + Threads + Abort + Sync>(
     };
     let hub = Hub::new(core, OpenGate);
     let (parting, ended) = serve_stream(rt, alloc, &hub, stream, &mut None, &mut Stopped);
-    let mut report = hub.into_core().finish();
-    if let Some(parting) = parting {
-        report.gather(parting);
-    }
-    Outcome {
-        counts: (
-            report.number(),
-            report.accepted(),
-            report.seats_out(),
-            report.total(),
-        ),
-        ended: end_text(ended),
-    }
+    tick(rt, &hub);
+    reported(rt, hub.into_core().finish(), parting, ended)
 }
 
-// One connection to a new hub.
-fn served<R: Wait + Threads + Abort + Sync>(rt: &R, alloc: Global, stream: Script) -> Outcome {
+/// One connection to a new hub, and then a tick.
+pub(crate) fn served<R: Wait + Threads + Abort + Sync>(
+    rt: &R,
+    alloc: Global,
+    stream: Script,
+) -> Outcome {
     served_with::<Brand, R>(rt, alloc, Blank::new(1 << 53), stream)
 }
 
-// The pieces of a stream: the request, and a frame for each line, whose first word is its kind; behind
-// `nothing` a read gives nothing.
-fn pieces(rt: &impl Abort, alloc: Global, lines: &str) -> Vec<Vec<u8>> {
+/// The pieces of a stream: the request, and a frame for each line, whose first word is its kind; behind
+/// `nothing` a read gives nothing.
+pub(crate) fn pieces(rt: &impl Abort, alloc: Global, lines: &str) -> Vec<Vec<u8>> {
     let mut pieces = Vec::new(alloc);
     let mut head = Vec::new(alloc);
     head.extend_from_slice(HEAD).expect(rt, "memory");
@@ -122,11 +170,10 @@ fn answered<R: Wait + Threads + Abort + Sync>(
     rt: &R,
     alloc: Global,
     lines: &str,
-    fails: Fails,
 ) -> (String, Outcome) {
-    let (stream, written) = script_of(rt, alloc, pieces(rt, alloc, lines), fails);
+    let (stream, traces) = script_of(rt, alloc, pieces(rt, alloc, lines), NONE);
     let served = served(rt, alloc, stream);
-    (said(rt, alloc, written), served)
+    (said(rt, alloc, traces), served)
 }
 
 // A connection of these lines has to be answered so, and closed, and to make as many entries as this,
@@ -138,13 +185,14 @@ fn check_closed<R: Wait + Threads + Abort + Sync>(
     answers: &str,
     entries: (u64, u64),
 ) {
-    let (said, served) = answered(rt, alloc, lines, NONE);
+    let (said, served) = answered(rt, alloc, lines);
     expect_text(rt, said, answers);
     let (number, accepted) = entries;
     served.expect(rt, "closed", (number, accepted, 0, Some(accepted)));
 }
 
-const BAD: &str = r#"text {"m":"hello","s":["alice",1,1]}
+/// A Hello, what is no message in three ways, a ping and a write.
+pub(crate) const BAD: &str = r#"text {"m":"hello","s":["alice",1,1]}
 text {"m":"beat"
 binary 1
 long
@@ -152,7 +200,8 @@ ping
 text {"m":"op","n":1,"op":{"op":"set","path":"/a","value":1},"q":1,"s":["alice",1,1]}
 close"#;
 
-const BAD_ANSWERS: &str = r#"{"m":"welcome","ops":0,"s":["alice",1,1],"z":1}
+/// What is answered to them.
+pub(crate) const BAD_ANSWERS: &str = r#"{"m":"welcome","ops":0,"s":["alice",1,1],"z":1}
 {"code":1,"m":"fault","s":["alice",1,1]}
 {"code":1,"m":"fault","s":["alice",1,1]}
 {"code":1,"m":"fault","s":["alice",1,1]}
@@ -213,63 +262,6 @@ fn what_comes_behind_a_rest_is_answered(rt: HostRuntime) {
     check_closed(&rt, rt.alloc(), lines.as_str(), BYE_ANSWERS, (2, 2));
 }
 
-const SHORT: &str = r#"text {"m":"hello","s":["alice",1,1]}
-binary 1
-text {"m":"op","n":1,"op":{"op":"set","path":"/a","value":1},"q":1,"s":["alice",1,1]}
-close"#;
-
-// How many runs, in which a read or a write fails, leave a seat out or a session open.
-fn left_behind<R: Wait + Threads + Abort + Sync>(rt: &R, alloc: Global) -> u32 {
-    let mut left: u32 = 0;
-    for number in 1..20 {
-        for fails in [
-            Fails {
-                read: number,
-                write: 0,
-            },
-            Fails {
-                read: 0,
-                write: number,
-            },
-        ] {
-            let (_, served) = answered(rt, alloc, SHORT, fails);
-            let (number, accepted, out, total) = served.counts;
-            if out != 0 || total != Some(accepted) || number == accepted && number != 0 {
-                left = left.saturating_add(1);
-            }
-        }
-    }
-    left
-}
-
-// A session that was opened has an end: so there is an entry more than what was accepted.
-#[test]
-fn each_failure_ends_the_session(rt: HostRuntime) {
-    assert_eq!(rt; left_behind(&rt, rt.alloc()), 0);
-}
-
-// How a connection ends that opens a session, whose peer is silent for so many reads and then goes.
-fn ended_silent<R: Wait + Threads + Abort + Sync>(rt: &R, alloc: Global, reads: u32) -> Outcome {
-    let mut pieces = pieces(rt, alloc, HELLO);
-    // one read gives nothing behind the Hello
-    for _ in 1..reads {
-        pieces.push(Vec::new(alloc)).expect(rt, "memory");
-    }
-    let (stream, written) = script_of(rt, alloc, pieces, NONE);
-    drop(written);
-    served(rt, alloc, stream)
-}
-
-const HELLO: &str = r#"text {"m":"hello","s":["alice",1,1]}"#;
-
-#[test]
-fn a_silent_peer_is_out_of_turns(rt: HostRuntime) {
-    let gone = ended_silent(&rt, rt.alloc(), 1_999);
-    gone.expect(&rt, "stream", (2, 1, 0, Some(1)));
-    let spent = ended_silent(&rt, rt.alloc(), 2_000);
-    spent.expect(&rt, "turns", (2, 1, 0, Some(1)));
-}
-
 #[test]
 fn no_handshake_is_no_seat(rt: HostRuntime) {
     let mut pieces = Vec::new(rt.alloc());
@@ -277,8 +269,8 @@ fn no_handshake_is_no_seat(rt: HostRuntime) {
     head.extend_from_slice(b"GET / HTTP/1.1\r\nHost: x\r\n\r\n")
         .expect(&rt, "memory");
     pieces.push(head).expect(&rt, "memory");
-    let (stream, written) = script_of(&rt, rt.alloc(), pieces, NONE);
-    drop(written);
+    let (stream, traces) = script_of(&rt, rt.alloc(), pieces, NONE);
+    drop(traces);
     let ended = served(&rt, rt.alloc(), stream);
     ended.expect(&rt, "handshake", (0, 0, 0, Some(0)));
 }

@@ -7,6 +7,8 @@
 #[cfg(test)]
 mod board;
 #[cfg(test)]
+mod broken;
+#[cfg(test)]
 mod command;
 #[cfg(test)]
 mod connections;

@@ -11,7 +11,8 @@ pub(crate) const HEAD: &[u8] =
     b"GET / HTTP/1.1\r\nHost: x\r\nUpgrade: websocket\r\nConnection: Upgrade\r\nSec-WebSocket-Key: dGhlIHNhbXBsZSBub25jZQ==\r\nSec-WebSocket-Version: 13\r\n\r\n";
 
 /// A stream that gives its pieces one after the other, behind each a read that gives nothing, and
-/// then ends. What is written goes into a ring. The read and the write of these numbers fail.
+/// then ends. What is written goes into a ring. The read and the write of these numbers fail, and
+/// each failure leaves a byte in another ring.
 #[derive(Drop)]
 pub(crate) struct Script {
     pieces: Vec<Vec<u8>>,
@@ -21,6 +22,14 @@ pub(crate) struct Script {
     writes: u32,
     fails: Fails,
     output: Producer<u8, Global>,
+    failures: Producer<u8, Global>,
+}
+
+/// The ends from which is taken what a stream was written, and how often it failed.
+#[derive(Drop)]
+pub(crate) struct Traces {
+    output: Consumer<u8, Global>,
+    failures: Consumer<u8, Global>,
 }
 
 /// Which read and which write fail, from 1 on; 0 for none.
@@ -33,14 +42,15 @@ pub(crate) struct Fails {
 /// None fails.
 pub(crate) const NONE: Fails = Fails { read: 0, write: 0 };
 
-/// A stream of these pieces, and the end from which what is written is taken.
+/// A stream of these pieces, and what it leaves.
 pub(crate) fn script_of(
     rt: &impl Abort,
     alloc: Global,
     pieces: Vec<Vec<u8>>,
     fails: Fails,
-) -> (Script, Consumer<u8, Global>) {
+) -> (Script, Traces) {
     let (output, written) = RingBuffer::new(alloc, 1 << 16).expect(rt, "memory");
+    let (failures, failed) = RingBuffer::new(alloc, 2).expect(rt, "memory");
     let script = Script {
         pieces,
         piece: 0,
@@ -49,15 +59,28 @@ pub(crate) fn script_of(
         writes: 0,
         fails,
         output,
+        failures,
     };
-    (script, written)
+    let traces = Traces {
+        output: written,
+        failures: failed,
+    };
+    (script, traces)
+}
+
+impl Script {
+    // The call fails, which is told.
+    fn fail(&mut self, kind: ErrorKind) -> io::Error {
+        let _ = self.failures.push(1);
+        io::Error::from(kind)
+    }
 }
 
 impl Read for Script {
     fn read(&mut self, buf: &mut [u8]) -> io::Result<usize> {
         self.reads = self.reads.saturating_add(1);
         if self.reads == self.fails.read {
-            return Err(io::Error::from(ErrorKind::ConnectionReset));
+            return Err(self.fail(ErrorKind::ConnectionReset));
         }
         let Some(piece) = self.pieces.get(self.piece) else {
             return Ok(0);
@@ -79,7 +102,7 @@ impl Write for Script {
     fn write(&mut self, buf: &[u8]) -> io::Result<usize> {
         self.writes = self.writes.saturating_add(1);
         if self.writes == self.fails.write {
-            return Err(io::Error::from(ErrorKind::BrokenPipe));
+            return Err(self.fail(ErrorKind::BrokenPipe));
         }
         for byte in buf {
             if self.output.push(*byte).is_err() {
@@ -144,16 +167,13 @@ fn bytes_of(rt: &impl Abort, alloc: Global, mut written: Consumer<u8, Global>) -
     bytes
 }
 
-// Behind the answer to the request.
-fn frames_in(bytes: &[u8]) -> &[u8] {
+// What is behind the answer to the request, where that is whole.
+fn frames_in(bytes: &[u8]) -> Option<&[u8]> {
     let end = b"\r\n\r\n";
-    match bytes
+    let at = bytes
         .windows(end.len())
-        .position(|part| part == end.as_slice())
-    {
-        Some(at) => bytes.get(at.saturating_add(end.len())..).unwrap_or(&[]),
-        None => &[],
-    }
+        .position(|part| part == end.as_slice())?;
+    bytes.get(at.saturating_add(end.len())..)
 }
 
 // The opcode and the payload of the first frame, and what comes behind it. Payloads are short, and
@@ -175,10 +195,9 @@ fn first_frame(bytes: &[u8]) -> Option<(u8, &[u8], &[u8])> {
     Some((opcode, payload, behind))
 }
 
-/// The texts that were sent, each on a line, and `close` for a close.
-pub(crate) fn said(rt: &impl Abort, alloc: Global, written: Consumer<u8, Global>) -> String {
-    let bytes = bytes_of(rt, alloc, written);
-    let mut rest = frames_in(bytes.as_slice());
+// The texts of these frames, each on a line, and `close` for a close.
+fn texts_in(rt: &impl Abort, alloc: Global, frames: &[u8]) -> String {
+    let mut rest = frames;
     let mut said = String::new(alloc);
     for _ in 0..1000 {
         let Some((opcode, payload, behind)) = first_frame(rest) else {
@@ -195,4 +214,33 @@ pub(crate) fn said(rt: &impl Abort, alloc: Global, written: Consumer<u8, Global>
         rest = behind;
     }
     said
+}
+
+/// What a stream told: whether one of its calls failed, and the texts that were sent behind a whole
+/// answer to the request, where there was one.
+#[derive(Drop)]
+pub(crate) struct Heard {
+    pub(crate) failed: bool,
+    pub(crate) sent: Option<String>,
+}
+
+/// What a stream told.
+pub(crate) fn told(rt: &impl Abort, alloc: Global, traces: Traces) -> Heard {
+    let Traces {
+        output,
+        mut failures,
+    } = traces;
+    let failed = failures.pop().is_ok();
+    let bytes = bytes_of(rt, alloc, output);
+    let sent = match frames_in(bytes.as_slice()) {
+        Some(frames) => Some(texts_in(rt, alloc, frames)),
+        None => None,
+    };
+    Heard { failed, sent }
+}
+
+/// The texts that were sent, each on a line, and `close` for a close.
+pub(crate) fn said(rt: &impl Abort, alloc: Global, traces: Traces) -> String {
+    let Heard { failed: _, sent } = told(rt, alloc, traces);
+    sent.unwrap_or(String::new(alloc))
 }
