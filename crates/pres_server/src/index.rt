@@ -204,7 +204,7 @@ impl Index {
             (λ m. answer_on self.old made (entry.Again session.now q n) ≡ m ∷ []) }
     {
         let r = self.places.answer(&session.client, made.moment);
-        let Verdict::Again(row) = self.retry.find(&session.client, n) else {
+        let Verdict::Again(answer) = self.retry.find(&session.client, n) else {
             unreachable!()
         };
         Ok(Down::Reply {
@@ -213,8 +213,8 @@ impl Index {
             z: made.number,
             q,
             n,
-            done: row.done,
-            out: row.kept.copy(alloc)?,
+            done: answer.done,
+            out: answer.kept.copy(alloc)?,
         })
     }
 
