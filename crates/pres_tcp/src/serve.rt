@@ -1,9 +1,13 @@
 //! A hub's connections.
 
 use crate::alarm::StreamBell;
+use crate::door::{Door, rest};
+use crate::ending::{Ending, WRITE_MILLIS};
+use crate::health::{Halt, Health, is_odd};
 use crate::stop::Stop;
 use crate::stream_count::StreamCount;
 use crate::wakeable::Wakeable;
+use pres_faults::HubFault;
 use pres_hub::{Bell, Hub, Keeper, Moment, OpenGate};
 use pres_sock::serve_stream;
 use pres_websocket::SockFault;
@@ -18,12 +22,6 @@ use std::time::{Clock, Duration, SystemTime, UNIX_EPOCH};
 
 // How long a read waits for bytes or for its bell, in milliseconds.
 const READ_MILLIS: u64 = 50;
-
-// How long a write waits for a peer that doesn't read.
-const WRITE_MILLIS: u64 = 5_000;
-
-// How long nothing is accepted behind a connection that could not be, as where no descriptor is left.
-const REFUSED_MILLIS: u64 = 50;
 
 // How often it is looked which sessions are to end.
 const TICK_MILLIS: u64 = 1_000;
@@ -64,31 +62,50 @@ impl<R: Clock> pres_sock::Clock for WallClock<'_, R> {
 }
 
 /// Serves each connection that comes in a thread of its own, and ends the sessions that are to end
-/// each second in a further one. With a count it returns once so many connections have ended; else
-/// it doesn't. A push ends the wait of its connection at once; where the system has no descriptors
-/// for that, it goes out within 50 ms.
+/// each second. With a count it returns once so many connections have ended; else it goes on. It ends
+/// early where the server can't go on: then no connection is accepted any more, those that are open are
+/// closed, and it says why. It says on the stream for faults when commits begin to be refused, and when
+/// they are taken again.
+///
+/// A push ends the wait of its connection at once; where the system has no descriptors for that, it
+/// goes out within 50 ms.
 pub fn serve_connections<
     L: Ledger + Send + Sync,
     K: Keeper + Drop + Send,
     R: Net<Listener = TcpListener, Stream = TcpStream> + Threads + Wait + Clock + Sync,
+    F: Write,
 >(
     rt: &R,
     alloc: Global,
     hub: &Hub<L, K, StreamBell, OpenGate>,
     listener: &TcpListener,
     count: Option<u32>,
-) {
+    health: &Health,
+    faults: &mut F,
+) -> Result<(), Halt> {
     let stop = Stop::new();
     let shared = &stop;
     thread::scope(thread::scope_env(), rt, |scope| {
-        let ticker = scope.spawn(move || tick_on(rt, alloc, hub, shared));
-        drop(ticker);
-        accept_all(rt, alloc, hub, listener, count);
-        shared.end(rt);
+        let acceptor = scope.spawn(move || {
+            accept_all(rt, alloc, hub, listener, count, health);
+            shared.end(rt);
+        });
+        if acceptor.is_err() {
+            health.end(Halt::Down);
+            shared.end(rt);
+        }
+        drop(acceptor);
+        tick_on(rt, alloc, hub, shared, health, faults);
     });
+    match health.halt() {
+        Some(halt) => Err(halt),
+        None => Ok(()),
+    }
 }
 
-// Accepts connections, each of which has a thread of its own, until all of so many have ended.
+// Accepts connections, each of which has a thread of its own, until all of so many have ended, or the
+// server can't go on.
+#[inline(never)]
 fn accept_all<
     L: Ledger + Send + Sync,
     K: Keeper + Drop + Send,
@@ -99,18 +116,26 @@ fn accept_all<
     hub: &Hub<L, K, StreamBell, OpenGate>,
     listener: &TcpListener,
     count: Option<u32>,
+    health: &Health,
 ) {
     let crowd = StreamCount::new();
     let shared = &crowd;
     thread::scope(thread::scope_env(), rt, |scope| {
+        let mut door = Door::at(rt, alloc, listener);
         let mut accepted = 0u32;
         for stream in listener.incoming() {
-            let Ok(stream) = stream else {
-                thread::sleep(rt, Duration::from_millis(REFUSED_MILLIS));
-                continue;
+            if health.halt().is_some() {
+                break;
+            }
+            let stream = match stream {
+                Ok(stream) => stream,
+                Err(error) => {
+                    rest(rt, &mut door, &error);
+                    continue;
+                }
             };
             // a connection for which there is no thread is closed
-            let _ = scope.spawn(move || connection(rt, alloc, hub, shared, stream));
+            let _ = scope.spawn(move || connection(rt, alloc, hub, shared, health, stream));
             accepted = accepted.saturating_add(1);
             if count == Some(accepted) {
                 break;
@@ -130,6 +155,7 @@ fn connection<
     alloc: Global,
     hub: &Hub<L, K, StreamBell, OpenGate>,
     crowd: &StreamCount,
+    health: &Health,
     stream: TcpStream,
 ) {
     let (_, _) = (
@@ -138,10 +164,12 @@ fn connection<
     );
     let wait = Duration::from_millis(READ_MILLIS);
     match Wakeable::new(rt, alloc, stream, wait, crowd) {
-        Ok((mut stream, bell)) => attend(rt, alloc, hub, &mut stream, Some(bell)),
-        Err(mut stream) => {
+        Ok((stream, bell)) => {
+            attend(rt, alloc, hub, &mut Ending::new(stream, health), Some(bell));
+        }
+        Err(stream) => {
             if stream.set_read_timeout(Some(wait)).is_ok() {
-                attend(rt, alloc, hub, &mut stream, None);
+                attend(rt, alloc, hub, &mut Ending::new(stream, health), None);
             }
         }
     }
@@ -168,28 +196,75 @@ fn attend<
     }
 }
 
-// Ends the sessions that are to end, each second. What is refused is tried again a second later.
-#[inline(never)]
-fn tick_on<L: Ledger, K: Keeper + Drop, R: Wait + Clock>(
+// Ends the sessions that are to end, each second and once more at the end. What is refused is tried again
+// a second later. It finds out whether the hub is down, and says what became of commits.
+fn tick_on<L: Ledger, K: Keeper + Drop, R: Wait + Clock, F: Write>(
     rt: &R,
     alloc: Global,
     hub: &Hub<L, K, StreamBell, OpenGate>,
     stop: &Stop,
+    health: &Health,
+    faults: &mut F,
 ) {
     let mut clock = WallClock::new(rt);
     let mut due = Vec::new(alloc);
+    let mut told = 0;
     for _ in rt.forever() {
-        if stop.wait(rt, Duration::from_millis(TICK_MILLIS)) {
+        let is_over = stop.wait(rt, Duration::from_millis(TICK_MILLIS));
+        if !tick(
+            rt,
+            hub,
+            Moment::at(pres_sock::Clock::now(&mut clock)),
+            &mut due,
+        ) {
+            health.end(Halt::Down);
+        }
+        let changes = health.changes();
+        tell_commits(told, changes, faults);
+        told = changes;
+        if is_over {
             return;
         }
-        let now = Moment::at(pres_sock::Clock::now(&mut clock));
-        let mut core = hub.enter(rt, 0);
-        let _ = core.tick(now);
-        core.take_due(None, &mut due);
-        drop(core);
-        for bell in due.iter() {
-            bell.ring();
-        }
-        due.clear();
     }
+}
+
+// Ends the sessions that are to end: whether the hub isn't down.
+#[inline(never)]
+fn tick<L: Ledger, K: Keeper + Drop, R: Wait>(
+    rt: &R,
+    hub: &Hub<L, K, StreamBell, OpenGate>,
+    now: Moment,
+    due: &mut Vec<StreamBell>,
+) -> bool {
+    let mut core = hub.enter(rt, 0);
+    let ticked = core.tick(now);
+    core.take_due(None, due);
+    drop(core);
+    for bell in due.iter() {
+        bell.ring();
+    }
+    due.clear();
+    !matches!(ticked, Err(HubFault::Down))
+}
+
+// Says that commits are refused, or taken again, where that changed since it was told last: both, where
+// it changed and changed back.
+fn tell_commits<F: Write>(told: usize, changes: usize, faults: &mut F) {
+    if changes == told {
+        return;
+    }
+    if is_odd(changes) == is_odd(told) {
+        tell_commit(!is_odd(told), faults);
+    }
+    tell_commit(is_odd(changes), faults);
+}
+
+// Where the stream for faults fails nothing is left to say.
+fn tell_commit<F: Write>(is_refused: bool, faults: &mut F) {
+    let line: &[u8] = if is_refused {
+        b"presence: commits are refused\n"
+    } else {
+        b"presence: commits are taken again\n"
+    };
+    let _ = faults.write_all(line);
 }

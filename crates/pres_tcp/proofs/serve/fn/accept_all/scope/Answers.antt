@@ -5,7 +5,8 @@ use Rattle.pres_hub.proofs.gate.OpenGate.TheSendSync.{the_sync as gate_is}
 use Rattle.pres_hub.proofs.Crossing.{hub_sync}
 use Rattle.pres_tcp.proofs.alarm.StreamBell.TheSendSync.{the_send as bell_is}
 use Rattle.pres_tcp.proofs.stream_count.StreamCount.TheSendSync.{the_sync as crowd_is}
+use Rattle.pres_tcp.proofs.health.Health.TheSendSync.{the_sync as health_is}
 use Rattle.pres_tcp.proofs.serve.fn.accept_all.scope.Goals as goal
 
 pub spawn-requires-send-F : goal.spawn-requires-send-F
-spawn-requires-send-F g c κs within = search (hub_sync, stream_is, gate_is, bell_is, crowd_is, global_is, c.requires.1.1.1, crosses, sendable) depth 60 fits 20000
+spawn-requires-send-F g c κs within = search (hub_sync, stream_is, gate_is, bell_is, crowd_is, health_is, global_is, c.requires.1.1.1, crosses, sendable) depth 60 fits 20000
