@@ -5,4 +5,4 @@ mod program;
 mod words;
 
 pub use program::{explain_unread, presence_run};
-pub use words::{ClientWords, Request, read_words};
+pub use words::{ClientWords, Listing, Request, Viewing, read_words};

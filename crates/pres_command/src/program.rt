@@ -1,23 +1,26 @@
 //! The program, over its words and streams.
 
-ghost use Rattle.std.specs.Prelude.{◌≡◌, ◌⊎◌, ◌≢◌, ◌++◌, ℕ, IfSome, List, codes, map};
+ghost use Rattle.std.specs.Prelude.{◌≡◌, ◌⊎◌, ◌≢◌, ◌++◌, ℕ, IfSome, IsOk, List, codes, map};
 ghost use Rattle.std.specs.Io.KnownBytes.{Appends};
 ghost use Rattle.clap.specs.Words.{Row, kind_of};
 ghost use Rattle.pres_apply.specs.Lines.{Finished, Stopped};
 ghost use Rattle.pres_service.specs.Outputs.{listening_line, number_line};
 ghost use Rattle.pres_sim.specs.Scripts.{IsScript};
 ghost use Rattle.pres_service.specs.ClientRuns.{HasRunClient};
-ghost use Rattle.pres_command.specs.Runs.{Asks, HasCalled, HasServed};
+ghost use Rattle.pres_inspect.specs.Reports.{PrintsSome, check_text, tree_text};
+ghost use Rattle.pres_command.specs.Runs.{Asks, HasCalled, HasListed, HasServed, HasViewed, path_given};
 ghost use Rattle.pres_command.specs.Statuses.{IsStatus};
 ghost use Rattle.pres_command.specs.Words.{AreTaken, AsksApply, AsksAnother, IsMistake};
 
-use crate::words::{ClientWords, Request, read_words};
+use crate::words::{ClientWords, Listing, Request, Viewing, read_words};
 use clap::Error;
 use clap::error::ErrorKind;
 use pres_apply::{RunFault, apply_run};
 use pres_ids::{ClientId, IdFault};
+use pres_inspect::{InspectFault, check_run, history_run, tree_run};
 use pres_service::{ClientOptions, ServeOptions, ServiceFault, client_run, serve_run};
 use pres_sim::sim_run;
+use pres_tree::{Path, TreeFault};
 use std::alloc::Global;
 use std::io;
 use std::io::{Read, Write};
@@ -64,6 +67,15 @@ pub fn presence_run<
     ensures played { (rows : List Row)
         → Asks (codes "sim") rows (map (λ word. word.now) words.now) → result ≡ 0
         → IfSome (R.remaining input.old) IsScript }
+    ensures checked { (rows : List Row)
+        → Asks (codes "check") rows (map (λ word. word.now) words.now) → result ≡ 0
+        → PrintsSome check_text (W.contents output.old) (W.contents output.new) }
+    ensures viewed { (rows : List Row)
+        → Asks (codes "tree") rows (map (λ word. word.now) words.now) → result ≡ 0
+        → HasViewed rows (W.contents output.old) (W.contents output.new) }
+    ensures listed { (rows : List Row)
+        → Asks (codes "history") rows (map (λ word. word.now) words.now) → result ≡ 0
+        → HasListed rows (W.contents output.old) (W.contents output.new) }
     ensures untaken { ¬ AreTaken (map (λ word. word.now) words.now) → input.new ≡ input.old }
     ensures done { ¬ AsksAnother (map (λ word. word.now) words.now) → result ≡ 0
         → Finished (R.remaining input.old) (W.contents output.old) (W.contents output.new)
@@ -83,6 +95,12 @@ pub fn presence_run<
         Ok(Request::Sim) => sim_status(alloc, input, output, faults),
         Ok(Request::Serve(serving)) => serve_status(host, rt, alloc, serving, output, faults),
         Ok(Request::Client(calling)) => client_status(rt, alloc, calling, input, output, faults),
+        Ok(Request::Check(file)) => status_of(check_run(host, file, output), faults),
+        Ok(Request::Tree(viewing)) => tree_status(host, viewing, output, faults),
+        Ok(Request::History(listing)) => {
+            let from = listing.from.unwrap_or(1);
+            status_of(history_run(host, listing.file, from, output), faults)
+        }
         Err(error) => explain(&error, output, faults),
     }
 }
@@ -197,6 +215,51 @@ fn client_status<
     match client_run(rt, alloc, visit, input, output) {
         Ok(()) => DONE,
         Err(fault) => tell_fault(&fault, faults),
+    }
+}
+
+// Runs `presence tree`, and answers the exit status: that of bad words where the path is none.
+fn tree_status<W: Write, F: Write>(
+    host: &HostRuntime,
+    viewing: Viewing<'_>,
+    output: &mut W,
+    faults: &mut F,
+) -> u8
+    ensures status { IsStatus result }
+    ensures words { result ≡ 2 → output.new ≡ output.old }
+    ensures done { result ≡ 0 → PrintsSome (tree_text (path_given viewing.entry))
+        (W.contents output.old) (W.contents output.new) }
+{
+    let path = match Path::parse(host.alloc(), viewing.path.unwrap_or("")) {
+        Ok(path) => path,
+        Err(TreeFault::Memory) => {
+            tell(NO_MEMORY, faults);
+            return NO_MEMORY;
+        }
+        Err(_) => {
+            let _ = faults.write_all(b"presence: bad path\n");
+            return BAD_WORDS;
+        }
+    };
+    let status = status_of(tree_run(host, viewing.file, &path, output), faults);
+    drop(path);
+    status
+}
+
+// The exit status of a look at a file: where it ended early, it says on the stream for faults why, and
+// what to do.
+fn status_of<F: Write>(looked: Result<(), InspectFault>, faults: &mut F) -> u8
+    ensures status { IsStatus result }
+    ensures words { result ≢ 2 }
+    ensures done { result ≡ 0 → IsOk looked }
+{
+    match looked {
+        Ok(()) => DONE,
+        Err(fault) => {
+            let status = fault.status();
+            let _ = write!(faults, "presence: {fault}\npresence: {}\n", fault.advice());
+            status
+        }
     }
 }
 

@@ -24,17 +24,17 @@ impl Write for Clogged {
     }
 }
 
-// What a run wrote, and its exit status.
+/// What a run wrote, and its exit status.
 #[derive(Drop)]
-struct Ran {
+pub(crate) struct Ran {
     status: u8,
     output: Vec<u8>,
     faults: Vec<u8>,
 }
 
 impl Ran {
-    // It has to have written this, and come to this status.
-    fn expect(&self, rt: &impl Abort, status: u8, output: &str, faults: &str) {
+    /// It has to have written this, and come to this status.
+    pub(crate) fn expect(&self, rt: &impl Abort, status: u8, output: &str, faults: &str) {
         assert_eq!(rt; self.status, status, "{output}");
         assert!(rt; self.output.as_slice() == output.as_bytes(), "{output}");
         assert!(rt; self.faults.as_slice() == faults.as_bytes(), "{output}");
@@ -48,7 +48,8 @@ impl Ran {
     }
 }
 
-fn run<
+/// Runs the program with the words and the input.
+pub(crate) fn run<
     H: Net<Listener = TcpListener, Stream = TcpStream>
         + Threads
         + Wait
@@ -119,7 +120,22 @@ fn reads_its_words(rt: HostRuntime) {
     check(&rt, &rt, "presence client 127.0.0.1:1 alice 0", 2);
     check(&rt, &rt, "presence client 127.0.0.1:1 a! 1", 2);
     check(&rt, &rt, "presence client 127.0.0.1:1 alice 1", 4);
+    check(&rt, &rt, "presence check", 2);
+    check(&rt, &rt, "presence check f g", 2);
+    check(&rt, &rt, "presence check /no/such/folder/f", 3);
+    check(&rt, &rt, "presence tree", 2);
+    check(&rt, &rt, "presence tree f /a.b", 2);
+    check(&rt, &rt, "presence tree f /a /b", 2);
+    check(&rt, &rt, "presence tree /no/such/folder/f", 3);
+    check(&rt, &rt, "presence history", 2);
+    check(&rt, &rt, "presence history f --from 0", 2);
+    check(&rt, &rt, "presence history f --from 9007199254740992", 2);
+    check(&rt, &rt, "presence history f --from", 2);
+    check(&rt, &rt, "presence history /no/such/folder/f", 3);
     check(&rt, &rt, "presence --help", 0);
+    check(&rt, &rt, "presence check --help", 0);
+    check(&rt, &rt, "presence tree --help", 0);
+    check(&rt, &rt, "presence history --help", 0);
     check(&rt, &rt, "presence --version", 0);
     check(&rt, &rt, "presence apply", 0);
 }
