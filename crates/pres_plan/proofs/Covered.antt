@@ -3,9 +3,9 @@ use Rattle.std.proofs.Common.{refl, sym, ◌∙◌, ap, subst, ◌≡◌, ◌≤
 use Rattle.std.specs.List.{list_any, AllByRecursion}
 use Rattle.std.specs.List.Sorted.{IsStrictlySortedBy}
 use Rattle.std.specs.Map.{keys_of, values_of, lookup}
-use Rattle.std.specs.BTreeMap.{BTreeMap, get, is_at, IsOrdered}
+use Rattle.std.specs.BTreeMap.{is_at}
 use Rattle.std.specs.Cmp.{both_ways, tied_itself}
-use Rattle.std.specs.Ordering.{nat_cmp}
+use Rattle.std.specs.Ordering.{nat_cmp, ordering_reverse}
 use Rattle.std.proofs.lemmas.Bool.{or_cases, or_left, or_right, or_parts, or_from, and_parts, and_from, false_from_ne_true}
 use Rattle.std.proofs.lemmas.List.{map-append, length-map}
 use Rattle.std.proofs.lemmas.List.Elements.{filter-append}
@@ -13,16 +13,16 @@ use Rattle.std.proofs.lemmas.List.Filters.{length-filter_both}
 use Rattle.std.proofs.lemmas.List.Folds.{list_any-append}
 use Rattle.std.proofs.lemmas.Map.{lookup-none}
 use Rattle.std.proofs.lemmas.Map.Keys.{sorted_head, sorted_tail}
-use Rattle.std.proofs.lemmas.Map.Views.{All-found}
 use Rattle.pres_tree.specs.Paths.{Path, path_cmp, same_path, is_prefix, meet, overlap}
 use Rattle.pres_tree.specs.Falls.{path_total}
 use Rattle.pres_tree.proofs.PathOrder.{path_same, path_itself, same_by_cmp}
 use Rattle.pres_tree.proofs.Values.{above_one}
 use Rattle.pres_plan.specs.declared.row.PlanRow.{PlanRow}
-use Rattle.pres_plan.specs.declared.standing.Spot.{Spot}
+use Rattle.pres_plan.specs.declared.places.Spot.{Spot}
+use Rattle.pres_plan.specs.Places.{Spots, spot_at}
 use Rattle.pres_plan.specs.Plans.{path_of, is_left}
 use Rattle.pres_plan.specs.Standing.{Entries, numbers_at, numbers_of, before_of, numbers_below, Tells, IsStanding}
-use Rattle.pres_plan.proofs.Numbers.{filter_map_later, filter_either_way, filter_all, filter_alike, all_then, by_recursion, any_mapped, any_nothing, any_so, at, has, none_before, one_path, all_have, one_each}
+use Rattle.pres_plan.proofs.Numbers.{filter_map_later, filter_either_way, filter_all, filter_alike, all_then, any_mapped, any_nothing, any_so, at, has, none_before, one_path, all_have, one_each}
 
 -- ---- lists
 
@@ -54,7 +54,7 @@ sorted_front (x ∷ xs) ys o = (front xs o.0, sorted_front xs ys o.1) where
   front (z ∷ zs) a = (a.0, front zs a.1)
 
 -- the rows behind others have greater numbers
-sorted_behind : (xs ys : Entries) → IsStrictlySortedBy nat_cmp (keys_of (xs ++ ys)) → AllByRecursion (λ y. AllByRecursion (λ k. nat_cmp k y.0 ≡ Less) (keys_of xs)) ys
+pub sorted_behind : (xs ys : Entries) → IsStrictlySortedBy nat_cmp (keys_of (xs ++ ys)) → AllByRecursion (λ y. AllByRecursion (λ k. nat_cmp k y.0 ≡ Less) (keys_of xs)) ys
 sorted_behind [] ys o = none ys where
   none : (zs : Entries) → AllByRecursion (λ y. AllByRecursion (λ k. nat_cmp k y.0 ≡ Less) []) zs
   none [] = tt
@@ -83,14 +83,28 @@ told_has n q s es t h =
     ∙ list_any-append (λ m. eqb m n) (before_of s.before) (s.row ∷ [])
     ∙ or_right (list_any (λ m. eqb m n) (before_of s.before)) _ (or_left (eqb s.row n) false h)
 
+-- each spot is that of its path
+pub all_found : (places : Spots) → IsStrictlySortedBy path_cmp (keys_of places) → AllByRecursion (λ e. spot_at e.0 places ≡ Some e.1) places
+all_found [] o = tt
+all_found (x ∷ places) o = (
+  ap (λ b. cond b (Some x.1) (spot_at x.0 places)) (sym (same_by_cmp x.0 x.0) ∙ path_itself x.0),
+  later places (sorted_head path_cmp x.0 (keys_of places) o) (all_found places (sorted_tail path_cmp x.0 (keys_of places) o)),
+) where
+  apart : (y : Path) → path_cmp x.0 y ≡ Less → is_at (path_cmp y) x.0 ≡ false
+  apart y l = ap is_eq (path_total.antisymm y x.0 ∙ ap ordering_reverse l)
+
+  later : (ys : Spots) → AllByRecursion (λ k. path_cmp x.0 k ≡ Less) (keys_of ys) → AllByRecursion (λ e. spot_at e.0 places ≡ Some e.1) ys → AllByRecursion (λ e. spot_at e.0 (x ∷ places) ≡ Some e.1) ys
+  later [] a b = tt
+  later (y ∷ ys) a b = (ap (λ b. cond b (Some x.1) (spot_at y.0 places)) (apart y.0 a.0) ∙ b.0, later ys a.1 b.1)
+
 -- a number that stands somewhere below the path, if it is told there
-told_where : (n : ℕ) (p : Path) (es : Entries) (places : BTreeMap Path Spot) (R : Type 0) → IsOrdered path_cmp places → Tells places es →
-    ((y : Path) → is_prefix p y ≡ true → has n y es ≡ true → R) → list_any (λ m. eqb m n) (numbers_below p places.entries) ≡ true → R
+told_where : (n : ℕ) (p : Path) (es : Entries) (places : Spots) (R : Type 0) → IsStrictlySortedBy path_cmp (keys_of places) → Tells places es →
+    ((y : Path) → is_prefix p y ≡ true → has n y es ≡ true → R) → list_any (λ m. eqb m n) (numbers_below p places) ≡ true → R
 told_where n p es places R o tells f h =
-    any_so (λ e. get path_cmp places e.0 ≡ Some e.1) (λ e. is_prefix p e.0 && eqb e.1.row n) R places.entries (by_recursion (λ e. get path_cmp places e.0 ≡ Some e.1) places.entries (All-found path_total places o))
+    any_so (λ e. spot_at e.0 places ≡ Some e.1) (λ e. is_prefix p e.0 && eqb e.1.row n) R places (all_found places o)
     (λ e found k.
     let parts = and_parts (is_prefix p e.0) _ k in
-    f e.0 parts.0 (told_has n e.0 e.1 es (ap numbers_of (sym found) ∙ tells e.0) parts.1)) (sym (any-below n p places.entries) ∙ h)
+    f e.0 parts.0 (told_has n e.0 e.1 es (ap numbers_of (sym found) ∙ tells e.0) parts.1)) (sym (any-below n p places) ∙ h)
 
 -- the one number that a spot tells
 only_one : (n : ℕ) (o : Option Spot) (numbers : List ℕ) → numbers_of o ≡ numbers → length numbers ≤ 1 → list_any (λ m. eqb m n) numbers ≡ true → (s : Spot) × (o ≡ Some s) × (eqb s.row n ≡ true)
@@ -108,15 +122,15 @@ only_one n (Some s) numbers t few h = by s.before t where
   by (Some b) e = absurd (omega (arith, few, ap length e))
 
 -- the number of a row is told below a path exactly where the row's path is
-pub told_below : (p y : Path) (n : ℕ) (es : Entries) (places : BTreeMap Path Spot) → IsStrictlySortedBy nat_cmp (keys_of es) → IsOrdered path_cmp places → Tells places es → OneEach es → has n y es ≡ true →
-    list_any (λ m. eqb m n) (numbers_below p places.entries) ≡ is_prefix p y
+pub told_below : (p y : Path) (n : ℕ) (es : Entries) (places : Spots) → IsStrictlySortedBy nat_cmp (keys_of es) → IsStrictlySortedBy path_cmp (keys_of places) → Tells places es → OneEach es → has n y es ≡ true →
+    list_any (λ m. eqb m n) (numbers_below p places) ≡ is_prefix p y
 told_below p y n es places sorted o tells one h =
     both_ways _ _ (told_where n p es places (is_prefix p y ≡ true) o tells (λ z up k. ap (is_prefix p) (one_path n y z es sorted h k) ∙ up))
-    (λ up. let it = only_one n (get path_cmp places y) (numbers_at y es) (tells y) (one y) h in
-    any-below n p places.entries ∙ any_looked (λ e. is_prefix p e.0 && eqb e.1.row n) y it.0 places.entries it.1 (and_from (is_prefix p y) _ up it.2))
+    (λ up. let it = only_one n (spot_at y places) (numbers_at y es) (tells y) (one y) h in
+    any-below n p places ∙ any_looked (λ e. is_prefix p e.0 && eqb e.1.row n) y it.0 places it.1 (and_from (is_prefix p y) _ up it.2))
 
 -- a number of no row is told nowhere
-not_told : (p : Path) (n : ℕ) (es : Entries) (places : BTreeMap Path Spot) → IsOrdered path_cmp places → Tells places es → AllByRecursion (λ k. nat_cmp k n ≡ Less) (keys_of es) → list_any (λ m. eqb m n) (numbers_below p places.entries) ≡ false
+not_told : (p : Path) (n : ℕ) (es : Entries) (places : Spots) → IsStrictlySortedBy path_cmp (keys_of places) → Tells places es → AllByRecursion (λ k. nat_cmp k n ≡ Less) (keys_of es) → list_any (λ m. eqb m n) (numbers_below p places) ≡ false
 not_told p n es places o tells low = false_from_ne_true _ (λ h. true≢false (told_where n p es places (true ≡ false) o tells (λ y up k. sym k ∙ none_before n y es low) h))
 
 -- ---- rows without those that are covered
@@ -132,8 +146,8 @@ kept_values numbers f es a =
     ∙ filter_map_later (λ (e : ℕ × PlanRow). e.1) (λ row. not (f (path_of row.action))) es
 
 -- the rows that are left where the numbers below a path go
-pub after_taken : (p : Path) (numbers : List ℕ) (old : Entries) (places : BTreeMap Path Spot) → IsStrictlySortedBy nat_cmp (keys_of old) → IsOrdered path_cmp places → Tells places old → OneEach old →
-    numbers ≡ numbers_below p places.entries → values_of (filter (λ e. not (gone numbers e)) old) ≡ filter (λ row. not (is_prefix p (path_of row.action))) (values_of old)
+pub after_taken : (p : Path) (numbers : List ℕ) (old : Entries) (places : Spots) → IsStrictlySortedBy nat_cmp (keys_of old) → IsStrictlySortedBy path_cmp (keys_of places) → Tells places old → OneEach old →
+    numbers ≡ numbers_below p places → values_of (filter (λ e. not (gone numbers e)) old) ≡ filter (λ row. not (is_prefix p (path_of row.action))) (values_of old)
 after_taken p numbers old places sorted o tells one is =
     kept_values numbers (is_prefix p) old
     (all_then (λ e. has e.0 (path_of e.1.action) old ≡ true) (λ e. gone numbers e ≡ is_prefix p (path_of e.1.action))
@@ -143,21 +157,21 @@ any_alike : {A : Type 0} (f g : A → Bool) (xs : List A) → ((x : A) → f x �
 any_alike f g xs h = λ i. list_any (λ x. h x i) xs
 
 -- the rows that are left where those that new ones cover go
-pub after_covered : (rows : List PlanRow) (numbers : List ℕ) (old more : Entries) (places : BTreeMap Path Spot) → IsStrictlySortedBy nat_cmp (keys_of (old ++ more)) → IsOrdered path_cmp places → Tells places old → OneEach old →
-    ((n : ℕ) → list_any (λ m. eqb m n) numbers ≡ list_any (λ row. list_any (λ m. eqb m n) (numbers_below (path_of row.action) places.entries)) rows) →
+pub after_covered : (rows : List PlanRow) (numbers : List ℕ) (old more : Entries) (places : Spots) → IsStrictlySortedBy nat_cmp (keys_of (old ++ more)) → IsStrictlySortedBy path_cmp (keys_of places) → Tells places old → OneEach old →
+    ((n : ℕ) → list_any (λ m. eqb m n) numbers ≡ list_any (λ row. list_any (λ m. eqb m n) (numbers_below (path_of row.action) places)) rows) →
     values_of (filter (λ e. not (gone numbers e)) (old ++ more)) ≡ filter (is_left rows) (values_of old) ++ values_of more
 after_covered rows numbers old more places sorted o tells one is =
     ap values_of (filter-append (λ e. not (gone numbers e)) old more)
     ∙ map-append (λ (e : ℕ × PlanRow). e.1) (filter (λ e. not (gone numbers e)) old) (filter (λ e. not (gone numbers e)) more)
     ∙ (λ i. kept_values numbers (λ y. list_any (λ l. is_prefix (path_of l.action) y) rows) old
     (all_then (λ e. has e.0 (path_of e.1.action) old ≡ true) (λ e. gone numbers e ≡ list_any (λ l. is_prefix (path_of l.action) (path_of e.1.action)) rows)
-    (λ e h. is e.0 ∙ any_alike (λ row. list_any (λ m. eqb m e.0) (numbers_below (path_of row.action) places.entries)) (λ l. is_prefix (path_of l.action) (path_of e.1.action)) rows (λ l. told_below (path_of l.action) (path_of e.1.action) e.0 old places (sorted_front old more sorted) o tells one h))
+    (λ e h. is e.0 ∙ any_alike (λ row. list_any (λ m. eqb m e.0) (numbers_below (path_of row.action) places)) (λ l. is_prefix (path_of l.action) (path_of e.1.action)) rows (λ l. told_below (path_of l.action) (path_of e.1.action) e.0 old places (sorted_front old more sorted) o tells one h))
     old (all_have [] old)) i
     ++ values_of (filter_all (λ e. not (gone numbers e)) more
     (all_then (λ y. AllByRecursion (λ k. nat_cmp k y.0 ≡ Less) (keys_of old)) (λ e. not (gone numbers e) ≡ true)
-    (λ e low. ap not (is e.0 ∙ any_nothing (λ row. list_any (λ m. eqb m e.0) (numbers_below (path_of row.action) places.entries)) rows (each rows e low))) more (sorted_behind old more sorted)) i))
+    (λ e low. ap not (is e.0 ∙ any_nothing (λ row. list_any (λ m. eqb m e.0) (numbers_below (path_of row.action) places)) rows (each rows e low))) more (sorted_behind old more sorted)) i))
   where
-    each : (ls : List PlanRow) (e : ℕ × PlanRow) → AllByRecursion (λ k. nat_cmp k e.0 ≡ Less) (keys_of old) → AllByRecursion (λ row. list_any (λ m. eqb m e.0) (numbers_below (path_of row.action) places.entries) ≡ false) ls
+    each : (ls : List PlanRow) (e : ℕ × PlanRow) → AllByRecursion (λ k. nat_cmp k e.0 ≡ Less) (keys_of old) → AllByRecursion (λ row. list_any (λ m. eqb m e.0) (numbers_below (path_of row.action) places) ≡ false) ls
     each [] e low = tt
     each (l ∷ ls) e low = (not_told (path_of l.action) e.0 old places o tells low, each ls e low)
 
@@ -265,8 +279,8 @@ pub count_values : (f : Path → Bool) (es : Entries) → length (filter (λ e. 
 count_values f es = sym (length-map (filter (λ e. f (path_of e.1.action)) es) (λ (e : ℕ × PlanRow). e.1)) ∙ ap length (filter_map_later (λ (e : ℕ × PlanRow). e.1) (λ row. f (path_of row.action)) es)
 
 -- the spots count the rows at a path and below it
-pub count_is : (p : Path) (es : Entries) (places : BTreeMap Path Spot) → IsOrdered path_cmp places → IsStanding es places → length (numbers_below p places.entries) ≡ length (filter (λ row. is_prefix p (path_of row.action)) (values_of es))
-count_is p es places o standing = counted p places.entries es o standing.tells (λ q. one_each q es standing.plan) ∙ count_values (is_prefix p) es
+pub count_is : (p : Path) (es : Entries) (places : Spots) → IsStrictlySortedBy path_cmp (keys_of places) → IsStanding es places → length (numbers_below p places) ≡ length (filter (λ row. is_prefix p (path_of row.action)) (values_of es))
+count_is p es places o standing = counted p places es o standing.tells (λ q. one_each q es standing.plan) ∙ count_values (is_prefix p) es
 
 -- how many rows are left without those that pass a test
 pub left_count : (f : PlanRow → Bool) (es : Entries) (rows : List PlanRow) (n m : ℕ) → values_of es ≡ rows → n ≡ length es → m ≡ length (filter f (values_of es)) → n - m ≡ length (filter (λ row. not (f row)) rows)

@@ -7,7 +7,7 @@ pub mod Kept
 pub mod Left
 pub mod Numbers
 pub mod Orders
-pub mod Ranges
+pub mod Searches
 pub mod Spots
 pub mod Steps
 pub mod Tops

@@ -1,11 +1,10 @@
 -- Rows by their numbers.
-use Rattle.std.proofs.Common.{refl, sym, ◌∙◌, ap, subst, ◌≡◌, ◌<◌, ◌≤◌, ℕ, arith, List, [], ◌∷◌, ◌++◌, map, length, append_assoc, Bool, true, false, not, cond, ◌||◌, true≢false, filter, All, is_some, ◌⊎◌, inl, inr, eqb, Less, Greater, Equal, is_eq}
+use Rattle.std.proofs.Common.{refl, sym, ◌∙◌, ap, subst, ◌≡◌, ◌≤◌, ℕ, arith, List, [], ◌∷◌, ◌++◌, map, length, append_assoc, Bool, true, false, cond, ◌||◌, true≢false, filter, All, is_some, ◌⊎◌, inl, inr, eqb, Less, Greater, Equal, is_eq}
 use Rattle.std.specs.List.{list_any, AllByRecursion}
 use Rattle.std.specs.List.Sorted.{IsStrictlySortedBy}
-use Rattle.std.specs.Map.{keys_of, values_of, remove_entry}
-use Rattle.std.specs.BTreeMap.{is_at, insert_entry}
+use Rattle.std.specs.Map.{keys_of, values_of}
 use Rattle.std.specs.Cmp.{nat_cmp_is, both_ways}
-use Rattle.std.specs.Ordering.{nat_cmp, match_ordering}
+use Rattle.std.specs.Ordering.{nat_cmp}
 use Rattle.std.proofs.lemmas.Bool.{or_cases, or_left, or_right, false_from_ne_true, eqb-true, eq-eqb, ne_eqb, cases_order}
 use Rattle.std.proofs.lemmas.List.{map-append}
 use Rattle.std.proofs.lemmas.List.Elements.{All-head, All-tail, filter-append}
@@ -103,35 +102,6 @@ less_differs n k h = sym (same_number n k) ∙ ap is_eq h
 
 pub eqb_flip : (n k : ℕ) → eqb n k ≡ eqb k n
 eqb_flip n k = both_ways _ _ (λ h. eq-eqb k n (sym (eqb-true n k h))) (λ h. eq-eqb n k (sym (eqb-true k n h)))
-
--- a number after those of all rows goes behind them
-pub inserted_last : (n : ℕ) (row : PlanRow) (es : Entries) → All (λ e. e.0 < n) es → insert_entry nat_cmp es n row ≡ es ++ (n, row) ∷ []
-inserted_last n row [] h = refl
-inserted_last n row (e ∷ es) h =
-    ap (λ o. match_ordering o ((n, row) ∷ e ∷ es) ((e.0, row) ∷ es) (e ∷ insert_entry nat_cmp es n row)) (sym (nat_cmp_is n e.0 Greater (All-head (λ e. e.0 < n) e es h)))
-    ∙ ap (λ l. e ∷ l) (inserted_last n row es (All-tail (λ e. e.0 < n) e es h))
-
--- to remove the entry of a number is to keep the others
-pub removed-others : (n : ℕ) (es : Entries) → IsStrictlySortedBy nat_cmp (keys_of es) → remove_entry (is_at (nat_cmp n)) es ≡ filter (λ e. not (eqb n e.0)) es
-removed-others n [] o = refl
-removed-others n (e ∷ es) o = by (eqb n e.0) refl (removed-others n es (sorted_tail nat_cmp e.0 (keys_of es) o)) where
-  keep : ℕ × PlanRow → Bool
-  keep f = not (eqb n f.0)
-
-  later : eqb n e.0 ≡ true → AllByRecursion (λ f. keep f ≡ true) es
-  later h =
-      all_mapped (λ f. f.0) (λ k. not (eqb n k) ≡ true) es
-      (all_then (λ k. nat_cmp e.0 k ≡ Less) (λ k. not (eqb n k) ≡ true) (λ k l. ap not (ap (λ m. eqb m k) (eqb-true n e.0 h) ∙ less_differs e.0 k l)) (keys_of es) (sorted_head nat_cmp e.0 (keys_of es) o))
-
-  by : (b : Bool) → eqb n e.0 ≡ b → remove_entry (is_at (nat_cmp n)) es ≡ filter keep es → remove_entry (is_at (nat_cmp n)) (e ∷ es) ≡ filter keep (e ∷ es)
-  by true h r =
-      ap (λ b. cond b es (e ∷ remove_entry (is_at (nat_cmp n)) es)) (same_number n e.0 ∙ h)
-      ∙ sym (filter_all keep es (later h))
-      ∙ sym (ap (λ b. cond (not b) (e ∷ filter keep es) (filter keep es)) h)
-  by false h r =
-      ap (λ b. cond b es (e ∷ remove_entry (is_at (nat_cmp n)) es)) (same_number n e.0 ∙ h)
-      ∙ ap (λ l. e ∷ l) r
-      ∙ sym (ap (λ b. cond (not b) (e ∷ filter keep es) (filter keep es)) h)
 
 -- ---- the numbers at a path
 

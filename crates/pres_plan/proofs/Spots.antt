@@ -1,27 +1,23 @@
 -- Spots, as rows come and go.
-use Rattle.std.proofs.Common.{refl, sym, ◌∙◌, ap, subst, ◌≡◌, ◌<◌, ◌+◌, ◌^◌, ◌↔◌, ℕ, length-append, IsSome, is_some, is_lt, take, arith, List, [], ◌∷◌, ◌++◌, map, length, Bool, true, false, not, cond, ◌||◌, true≢false, filter, All, Option, Some, None, IfSome, Less, is_eq, eqb}
-use Rattle.std.specs.List.{list_any}
+use Rattle.std.proofs.Common.{refl, sym, ◌∙◌, ap, subst, ◌≡◌, ◌<◌, ℕ, length-append, take, arith, List, [], ◌∷◌, ◌++◌, map, length, Bool, true, false, not, cond, ◌||◌, true≢false, filter, Option, Some, None, IfSome, MatchOption, Less, is_eq, eqb}
+use Rattle.std.specs.List.{list_any, AllByRecursion}
 use Rattle.std.specs.List.Sorted.{IsStrictlySortedBy}
 use Rattle.std.specs.Map.{keys_of, values_of, lookup}
-use Rattle.std.specs.BTreeMap.{BTreeMap, get, is_at}
+use Rattle.std.specs.BTreeMap.{is_at}
 use Rattle.std.specs.Ordering.{nat_cmp}
 use Rattle.std.proofs.lemmas.Bool.{or_parts, or_left, or_right, false_from_ne_true, eq-eqb}
-use Rattle.std.specs.Option.{SomeIff}
 use Rattle.std.proofs.lemmas.List.{same_from_push, take-append-le}
-use Rattle.std.proofs.lemmas.List.Elements.{filter-append, All-nil, All-cons, All-head, All-tail}
-use Rattle.std.proofs.lemmas.Map.Keys.{ge_from_not_lt}
+use Rattle.std.proofs.lemmas.List.Elements.{filter-append}
 use Rattle.std.proofs.lemmas.List.Folds.{list_any-append}
 use Rattle.pres_tree.specs.Paths.{Path, path_cmp, same_path}
 use Rattle.pres_tree.proofs.PathOrder.{path_same, path_itself, path_flip, same_by_cmp}
 use Rattle.pres_plan.specs.declared.row.PlanRow.{PlanRow}
-use Rattle.pres_plan.specs.declared.standing.Spot.{Spot}
+use Rattle.pres_plan.specs.declared.places.Spot.{Spot}
+use Rattle.pres_plan.specs.Places.{Spots, spot_at, Sets}
 use Rattle.pres_plan.specs.Plans.{path_of, IsPlan}
 use Rattle.pres_plan.specs.Standing.{Entries, numbers_at, numbers_of, before_of, without, Tells, IsTop, AreTops, IsStanding}
-use Rattle.pres_plan.proofs.Numbers.{filter_all, all_then, all_mapped, by_recursion, same_number, eqb_flip, at, has, has-append, all_have, one_path, numbers_at-append, numbers_at-one, numbers_at-kept}
-
--- the spot at one path changes
-abbrev pub Sets : Path → Option Spot → BTreeMap Path Spot → BTreeMap Path Spot → Type 0
-Sets p w old new = (q : Path) → get path_cmp new q ≡ cond (is_at (path_cmp p) q) w (get path_cmp old q)
+use Rattle.pres_plan.proofs.Covered.{sorted_behind}
+use Rattle.pres_plan.proofs.Numbers.{filter_all, all_then, all_mapped, same_number, eqb_flip, at, has, has-append, all_have, one_path, numbers_at-append, numbers_at-one, numbers_at-kept}
 
 at_path : (p q : Path) → is_at (path_cmp p) q ≡ same_path p q
 at_path p q = sym (same_by_cmp p q)
@@ -31,7 +27,7 @@ at_it p q h = at_path p q ∙ ap (same_path p) (path_same q p h) ∙ path_itself
 
 -- ---- a row more
 
-pub added_tells : (p : Path) (n : ℕ) (row : PlanRow) (spot : Spot) (es new : Entries) (places after : BTreeMap Path Spot) →
+pub added_tells : (p : Path) (n : ℕ) (row : PlanRow) (spot : Spot) (es new : Entries) (places after : Spots) →
     p ≡ path_of row.action → new ≡ es ++ (n, row) ∷ [] → spot.row ≡ n → before_of spot.before ≡ numbers_at p es → Tells places es → Sets p (Some spot) places after → Tells after new
 added_tells p n row spot es new places after p_is new_is n_is before tells sets q =
     ap numbers_of (sets q)
@@ -42,49 +38,49 @@ added_tells p n row spot es new places after p_is new_is n_is before tells sets 
     append_nothing [] = refl
     append_nothing (x ∷ l) = ap (λ m. x ∷ m) (append_nothing l)
 
-    by : (b : Bool) → same_path q p ≡ b → numbers_of (cond (is_at (path_cmp p) q) (Some spot) (get path_cmp places q)) ≡ numbers_at q es ++ cond (same_path q p) (n ∷ []) []
+    by : (b : Bool) → same_path q p ≡ b → numbers_of (cond (is_at (path_cmp p) q) (Some spot) (spot_at q places)) ≡ numbers_at q es ++ cond (same_path q p) (n ∷ []) []
     by true h =
-        ap (λ b. numbers_of (cond b (Some spot) (get path_cmp places q))) (at_it p q h)
+        ap (λ b. numbers_of (cond b (Some spot) (spot_at q places))) (at_it p q h)
         ∙ (λ i. before i ++ n_is i ∷ [])
         ∙ ap (λ y. numbers_at y es ++ n ∷ []) (sym (path_same q p h))
         ∙ sym (ap (λ b. numbers_at q es ++ cond b (n ∷ []) []) h)
     by false h =
-        ap (λ b. numbers_of (cond b (Some spot) (get path_cmp places q))) (at_path p q ∙ path_flip q p h)
+        ap (λ b. numbers_of (cond b (Some spot) (spot_at q places))) (at_path p q ∙ path_flip q p h)
         ∙ tells q ∙ append_nothing (numbers_at q es)
         ∙ sym (ap (λ b. numbers_at q es ++ cond b (n ∷ []) []) h)
 
 -- the tops after the spot at one path changes
-pub tops_set : (p : Path) (w : Option Spot) (places after : BTreeMap Path Spot) → Sets p w places after → (rows : List PlanRow) → IfSome w (λ s. IsTop rows p s.top) → AreTops rows places → AreTops rows after
+pub tops_set : (p : Path) (w : Option Spot) (places after : Spots) → Sets p w places after → (rows : List PlanRow) → IfSome w (λ s. IsTop rows p s.top) → AreTops rows places → AreTops rows after
 tops_set p w places after sets rows top tops q = subst (λ (o : Option Spot). IfSome o (λ s. IsTop rows q s.top)) (sym (sets q)) (by (same_path q p) refl) where
-  by : (b : Bool) → same_path q p ≡ b → IfSome (cond (is_at (path_cmp p) q) w (get path_cmp places q)) (λ s. IsTop rows q s.top)
+  by : (b : Bool) → same_path q p ≡ b → IfSome (cond (is_at (path_cmp p) q) w (spot_at q places)) (λ s. IsTop rows q s.top)
   by true h =
-      subst (λ (b : Bool). IfSome (cond b w (get path_cmp places q)) (λ s. IsTop rows q s.top)) (sym (at_it p q h))
+      subst (λ (b : Bool). IfSome (cond b w (spot_at q places)) (λ s. IsTop rows q s.top)) (sym (at_it p q h))
       (subst (λ (y : Path). IfSome w (λ s. IsTop rows y s.top)) (sym (path_same q p h)) top)
-  by false h = subst (λ (b : Bool). IfSome (cond b w (get path_cmp places q)) (λ s. IsTop rows q s.top)) (sym (at_path p q ∙ path_flip q p h)) (tops q)
+  by false h = subst (λ (b : Bool). IfSome (cond b w (spot_at q places)) (λ s. IsTop rows q s.top)) (sym (at_path p q ∙ path_flip q p h)) (tops q)
 
 -- ---- a row less
 
 -- the number is told at the path no more
-abbrev pub Forgets : ℕ → Path → BTreeMap Path Spot → BTreeMap Path Spot → Type 0
-Forgets n p old new = (q : Path) → numbers_of (get path_cmp new q) ≡ cond (same_path q p) (without n (numbers_of (get path_cmp old q))) (numbers_of (get path_cmp old q))
+abbrev pub Forgets : ℕ → Path → Spots → Spots → Type 0
+Forgets n p old new = (q : Path) → numbers_of (spot_at q new) ≡ cond (same_path q p) (without n (numbers_of (spot_at q old))) (numbers_of (spot_at q old))
 
-pub forgets : (n : ℕ) (p : Path) (w : Option Spot) (places after : BTreeMap Path Spot) → Sets p w places after → numbers_of w ≡ without n (numbers_of (get path_cmp places p)) → Forgets n p places after
+pub forgets : (n : ℕ) (p : Path) (w : Option Spot) (places after : Spots) → Sets p w places after → numbers_of w ≡ without n (numbers_of (spot_at p places)) → Forgets n p places after
 forgets n p w places after sets is q = ap numbers_of (sets q) ∙ by (same_path q p) refl where
-  by : (b : Bool) → same_path q p ≡ b → numbers_of (cond (is_at (path_cmp p) q) w (get path_cmp places q)) ≡ cond (same_path q p) (without n (numbers_of (get path_cmp places q))) (numbers_of (get path_cmp places q))
+  by : (b : Bool) → same_path q p ≡ b → numbers_of (cond (is_at (path_cmp p) q) w (spot_at q places)) ≡ cond (same_path q p) (without n (numbers_of (spot_at q places))) (numbers_of (spot_at q places))
   by true h =
-      ap (λ b. numbers_of (cond b w (get path_cmp places q))) (at_it p q h)
-      ∙ is ∙ ap (λ y. without n (numbers_of (get path_cmp places y))) (sym (path_same q p h))
-      ∙ sym (ap (λ b. cond b (without n (numbers_of (get path_cmp places q))) (numbers_of (get path_cmp places q))) h)
+      ap (λ b. numbers_of (cond b w (spot_at q places))) (at_it p q h)
+      ∙ is ∙ ap (λ y. without n (numbers_of (spot_at y places))) (sym (path_same q p h))
+      ∙ sym (ap (λ b. cond b (without n (numbers_of (spot_at q places))) (numbers_of (spot_at q places))) h)
   by false h =
-      ap (λ b. numbers_of (cond b w (get path_cmp places q))) (at_path p q ∙ path_flip q p h)
-      ∙ sym (ap (λ b. cond b (without n (numbers_of (get path_cmp places q))) (numbers_of (get path_cmp places q))) h)
+      ap (λ b. numbers_of (cond b w (spot_at q places))) (at_path p q ∙ path_flip q p h)
+      ∙ sym (ap (λ b. cond b (without n (numbers_of (spot_at q places))) (numbers_of (spot_at q places))) h)
 
 -- where no spot stands at the path none changes
-pub forgets_none : (n : ℕ) (p : Path) (places : BTreeMap Path Spot) → get path_cmp places p ≡ None → Forgets n p places places
+pub forgets_none : (n : ℕ) (p : Path) (places : Spots) → spot_at p places ≡ None → Forgets n p places places
 forgets_none n p places none q = by (same_path q p) refl where
-  by : (b : Bool) → same_path q p ≡ b → numbers_of (get path_cmp places q) ≡ cond b (without n (numbers_of (get path_cmp places q))) (numbers_of (get path_cmp places q))
+  by : (b : Bool) → same_path q p ≡ b → numbers_of (spot_at q places) ≡ cond b (without n (numbers_of (spot_at q places))) (numbers_of (spot_at q places))
   by true h =
-      let gone : get path_cmp places q ≡ None = ap (get path_cmp places) (path_same q p h) ∙ none in
+      let gone : spot_at q places ≡ None = ap (λ y. spot_at y places) (path_same q p h) ∙ none in
       ap numbers_of gone ∙ sym (ap (λ o. without n (numbers_of o)) gone)
   by false h = refl
 
@@ -95,7 +91,7 @@ without_absent n (m ∷ ns) h =
     ap (λ b. cond (not b) (m ∷ without n ns) (without n ns)) (eqb_flip n m ∙ parts.0) ∙ ap (λ l. m ∷ l) (without_absent n ns parts.1)
 
 -- the spots tell which rows are left
-pub forgot_tells : (n : ℕ) (p : Path) (es new : Entries) (places after : BTreeMap Path Spot) → IsStrictlySortedBy nat_cmp (keys_of es) → has n p es ≡ true → new ≡ filter (λ e. not (eqb n e.0)) es → Tells places es → Forgets n p places after → Tells after new
+pub forgot_tells : (n : ℕ) (p : Path) (es new : Entries) (places after : Spots) → IsStrictlySortedBy nat_cmp (keys_of es) → has n p es ≡ true → new ≡ filter (λ e. not (eqb n e.0)) es → Tells places es → Forgets n p places after → Tells after new
 forgot_tells n p es new places after sorted stood new_is tells told q =
     told q
     ∙ ap (λ l. cond (same_path q p) (without n l) l) (tells q)
@@ -120,11 +116,21 @@ looked_has n row (e ∷ es) h = by (is_at (nat_cmp n) e.0) refl h (looked_has n 
       ∙ or_left (eqb e.0 n) _ (eqb_flip e.0 n ∙ sym (same_number n e.0) ∙ t)
   by false t k rest = has-append n p (e ∷ []) es ∙ or_right (has n p (e ∷ [])) _ (rest k)
 
+-- where no row has the number none goes
+pub none_taken : (n : ℕ) (es : Entries) → lookup (is_at (nat_cmp n)) es ≡ None → filter (λ e. not (eqb n e.0)) es ≡ es
+none_taken n [] h = refl
+none_taken n (e ∷ es) h = by (is_at (nat_cmp n) e.0) refl h (none_taken n es) where
+  by : (b : Bool) → is_at (nat_cmp n) e.0 ≡ b → cond b (Some e.1) (lookup (is_at (nat_cmp n)) es) ≡ None → (lookup (is_at (nat_cmp n)) es ≡ None → filter (λ e. not (eqb n e.0)) es ≡ es) → filter (λ e. not (eqb n e.0)) (e ∷ es) ≡ e ∷ es
+  by true t k rest = absurd cc
+  by false t k rest =
+      ap (λ b. cond (not b) (e ∷ filter (λ f. not (eqb n f.0)) es) (filter (λ f. not (eqb n f.0)) es)) (sym (same_number n e.0) ∙ t)
+      ∙ ap (λ l. e ∷ l) (rest k)
+
 -- the last row goes
-pub last_gone : (n : ℕ) (row : PlanRow) (es : Entries) → All (λ k. nat_cmp k n ≡ Less) (keys_of es) → es ≡ filter (λ e. not (eqb n e.0)) (es ++ (n, row) ∷ [])
+pub last_gone : (n : ℕ) (row : PlanRow) (es : Entries) → AllByRecursion (λ k. nat_cmp k n ≡ Less) (keys_of es) → es ≡ filter (λ e. not (eqb n e.0)) (es ++ (n, row) ∷ [])
 last_gone n row es low =
     sym (filter-append (λ e. not (eqb n e.0)) es ((n, row) ∷ [])
-    ∙ (λ i. filter_all (λ e. not (eqb n e.0)) es (all_mapped (λ (e : ℕ × PlanRow). e.0) (λ k. not (eqb n k) ≡ true) es (all_then (λ k. nat_cmp k n ≡ Less) (λ k. not (eqb n k) ≡ true) (λ k l. ap not (eqb_flip n k ∙ sym (same_number k n) ∙ ap is_eq l)) (keys_of es) (by_recursion (λ k. nat_cmp k n ≡ Less) (keys_of es) low))) i
+    ∙ (λ i. filter_all (λ e. not (eqb n e.0)) es (all_mapped (λ (e : ℕ × PlanRow). e.0) (λ k. not (eqb n k) ≡ true) es (all_then (λ k. nat_cmp k n ≡ Less) (λ k. not (eqb n k) ≡ true) (λ k l. ap not (eqb_flip n k ∙ sym (same_number k n) ∙ ap is_eq l)) (keys_of es) low)) i
     ++ cond (not (eq-eqb n n refl i)) ((n, row) ∷ []) [])
     ∙ append_nothing es)
   where
@@ -136,10 +142,10 @@ pub last_has : (n : ℕ) (row : PlanRow) (es : Entries) → has n (path_of row.a
 last_has n row es = has-append n (path_of row.action) es ((n, row) ∷ []) ∙ or_right (has n (path_of row.action) es) _ (all_have [] ((n, row) ∷ [])).0
 
 -- the spots tell which rows are left without the last one
-pub last_forgot : (n : ℕ) (row : PlanRow) (p : Path) (es new : Entries) (places after : BTreeMap Path Spot) → IsStrictlySortedBy nat_cmp (keys_of es) → es ≡ new ++ (n, row) ∷ [] → All (λ k. nat_cmp k n ≡ Less) (keys_of new) → p ≡ path_of row.action → Tells places es → Forgets n p places after → Tells after new
-last_forgot n row p es new places after sorted is low p_is tells told =
+pub last_forgot : (n : ℕ) (row : PlanRow) (p : Path) (es new : Entries) (places after : Spots) → IsStrictlySortedBy nat_cmp (keys_of es) → es ≡ new ++ (n, row) ∷ [] → p ≡ path_of row.action → Tells places es → Forgets n p places after → Tells after new
+last_forgot n row p es new places after sorted is p_is tells told =
     forgot_tells n p es new places after sorted (ap (λ y. has n y es) p_is ∙ ap (has n (path_of row.action)) is ∙ last_has n row new)
-    (last_gone n row new low ∙ ap (filter (λ e. not (eqb n e.0))) (sym is)) tells told
+    (last_gone n row new (sorted_behind new ((n, row) ∷ []) (subst (λ (l : Entries). IsStrictlySortedBy nat_cmp (keys_of l)) is sorted)).0 ∙ ap (filter (λ e. not (eqb n e.0))) (sym is)) tells told
 
 -- and the first rows are the same
 pub first_same : (len : ℕ) (es new : Entries) (e : ℕ × PlanRow) → es ≡ new ++ e ∷ [] → len < length es → take len new ≡ take len es
@@ -170,24 +176,12 @@ one_more_gone n ns (e ∷ es) = by (list_any (λ m. eqb m e.0) ns) (eqb n e.0) r
       ∙ sym (ap (λ c. cond (not c) (e ∷ G) G) (k ∙ ap (λ c. c || false) t))
 
 -- the row that was put last is taken off again
-pub popped : (r : Option (ℕ × PlanRow)) (es now left : Entries) (e : ℕ × PlanRow) → now ≡ es ++ e ∷ [] → (IsSome r ↔ (0 < length now)) → IfSome r (λ p. now ≡ left ++ p ∷ []) → left ≡ es
-popped None es now left e is some h =
-    let there : is_some {T = ℕ × PlanRow} None ≡ true = some.1 (omega (arith, ap length is, length-append es (e ∷ []))) in
-    absurd (true≢false (sym there))
-popped (Some p) es now left e is some h = (same_from_push left es p e (sym h ∙ is)).0
-
--- what a checked sum gives comes after all rows
-pub after_last : (r : Option ℕ) (last : ℕ) (es : Entries) → SomeIff r (last + 1 < 2 ^ 64) (last + 1) → All (λ q. is_lt (nat_cmp last q) ≡ false) (keys_of es) → IfSome r (λ n. All (λ e. e.0 < n) es)
-after_last None last es h low = tt
-after_last (Some n) last es h low = all es low where
-  all : (xs : Entries) → All (λ q. is_lt (nat_cmp last q) ≡ false) (keys_of xs) → All (λ e. e.0 < n) xs
-  all [] a = All-nil (λ e. e.0 < n)
-  all (x ∷ xs) a =
-      All-cons (λ e. e.0 < n) x xs (omega (arith, h.1, ge_from_not_lt last x.0 (All-head (λ q. is_lt (nat_cmp last q) ≡ false) x.0 (keys_of xs) a)))
-      (all xs (All-tail (λ q. is_lt (nat_cmp last q) ≡ false) x.0 (keys_of xs) a))
+pub popped : (r : Option (ℕ × PlanRow)) (es now left : Entries) (e : ℕ × PlanRow) → now ≡ es ++ e ∷ [] → MatchOption r (now ≡ []) (λ p. now ≡ left ++ p ∷ []) → left ≡ es
+popped None es now left e is none = absurd (omega (arith, ap length is, ap length none, length-append es (e ∷ [])))
+popped (Some p) es now left e is some = (same_from_push left es p e (sym some ∙ is)).0
 
 -- where no rows and no spots are
-pub nothing_stands : (rows : Entries) (places : BTreeMap Path Spot) → rows ≡ [] → places.entries ≡ [] → IsPlan [] → IsStanding rows places
+pub nothing_stands : (rows : Entries) (places : Spots) → rows ≡ [] → places ≡ [] → IsPlan [] → IsStanding rows places
 nothing_stands rows places no_rows no_places plan = record {
   plan = subst (λ (es : Entries). IsPlan (values_of es)) (sym no_rows) plan;
   tells = λ q. ap (λ es. numbers_of (lookup (is_at (path_cmp q)) es)) no_places ∙ ap (numbers_at q) (sym no_rows);

@@ -2,9 +2,6 @@
 use Rattle.std.proofs.Common.{refl, sym, ◌∙◌, ap, subst, ◌≡◌, ◌<◌, ◌≤◌, ℕ, zero, suc, arith, List, [], ◌∷◌, ◌++◌, map, length, take, append_assoc, length-take, Bool, true, false, not, cond, ◌||◌, ◌&&◌, true≢false, filter, Option, Some, None, is_some, IfSome, IsSome, ◌⊎◌, inl, inr, Less, Greater, Equal, is_eq, is_gt, is_lt, eqb}
 use Rattle.std.specs.List.{list_any, AllByRecursion}
 use Rattle.std.specs.Map.{values_of}
-use Rattle.std.specs.BTreeMap.{BTreeMap, get}
-use Rattle.std.specs.BTreeMap.Range.{IsRangeOf}
-use Rattle.std.specs.declared.ops.Bound.TheVariants.{Excluded, Unbounded}
 use Rattle.std.specs.Cmp.{both_ways, tied_itself}
 use Rattle.std.specs.Cmp.Lexicographic.{nat_list_cmp_total, pointwise, texts_ties}
 use Rattle.std.specs.Ordering.{ordering_then, ordering_reverse}
@@ -20,7 +17,8 @@ use Rattle.pres_tree.proofs.Values.{cons_prefix}
 use Rattle.pres_tree.proofs.PathOrder.{path_same, path_itself}
 use Rattle.pres_write.proofs.Overlaps.{between}
 use Rattle.pres_plan.specs.declared.row.PlanRow.{PlanRow}
-use Rattle.pres_plan.specs.declared.standing.Spot.{Spot}
+use Rattle.pres_plan.specs.declared.places.Spot.{Spot}
+use Rattle.pres_plan.specs.Places.{Spots, spot_at, IsBefore}
 use Rattle.pres_plan.specs.Plans.{path_of, is_put, is_left, lasting, puts_above, matters, IsPlan}
 use Rattle.pres_plan.specs.Standing.{Entries, numbers_at, numbers_of, before_of, stands, above, Tells, IsTop, AreTops}
 use Rattle.pres_plan.proofs.Left.{any_implies, prefix_trans, lasting-plan}
@@ -147,25 +145,13 @@ told_back y es s h = true_from_ne_false _ (λ k. true≢false (no_empty s (h ∙
 
 -- ---- the spot before a path
 
--- the last spot before the path
-pub record IsBefore (places : BTreeMap Path Spot) (p x : Path) (spot : Spot) : Type 0 where
-  pub found : get path_cmp places x ≡ Some spot
-  pub less : path_cmp x p ≡ Less
-  pub last : (q : Path) → path_cmp q p ≡ Less → IsSome (get path_cmp places q) → is_lt (path_cmp x q) ≡ false
-
--- what a range before the path ends with
-pub before_is : (places : BTreeMap Path Spot) (p x : Path) (spot : Spot) (r rest : List (Path × Spot)) → IsRangeOf path_cmp Unbounded (Excluded p) places r → r ≡ rest ++ (x, spot) ∷ [] → IsBefore places p x spot
-before_is places p x spot r rest range ends =
-    let here = range.3 (x, spot) rest ends in
-    record { found = here.1; less = here.0.1; last = λ q low some. range.4 (x, spot) rest ends q (tt, low) some }
-
-pub top_is : (rows : List PlanRow) (places : BTreeMap Path Spot) (x : Path) (spot : Spot) → get path_cmp places x ≡ Some spot → AreTops rows places → IsTop rows x spot.top
+pub top_is : (rows : List PlanRow) (places : Spots) (x : Path) (spot : Spot) → spot_at x places ≡ Some spot → AreTops rows places → IsTop rows x spot.top
 top_is rows places x spot found tops = subst (λ (o : Option Spot). IfSome o (λ s. IsTop rows x s.top)) found (tops x)
 
 -- a path above the path at which a row stands is above the last one before it too
-near : (es : Entries) (places : BTreeMap Path Spot) (p x : Path) (spot : Spot) → IsBefore places p x spot → Tells places es →
+near : (es : Entries) (places : Spots) (p x : Path) (spot : Spot) → IsBefore places p x spot → Tells places es →
     (y : Path) → is_prefix y p ≡ true → is_prefix p y ≡ false → stands y (values_of es) ≡ true → is_prefix y x ≡ true
-near es places p x spot b tells y up strict there = by (path_cmp x y) refl (b.last y (prefix_less y p up strict) (told y es (get path_cmp places y) (tells y) there)) where
+near es places p x spot b tells y up strict there = by (path_cmp x y) refl (b.last y (prefix_less y p up strict) (told y es (spot_at y places) (tells y) there)) where
   by : (o : Ordering) → path_cmp x y ≡ o → is_lt o ≡ false → is_prefix y x ≡ true
   by Less e h = absurd (true≢false h)
   by Equal e h = ap (is_prefix y) (path_apart x y e) ∙ itself y
@@ -185,7 +171,7 @@ own_top p rows none = record {
   ];
 }
 
-pub top_found : (es : Entries) (places : BTreeMap Path Spot) (p x : Path) (spot : Spot) → IsBefore places p x spot → Tells places es → AreTops (values_of es) places →
+pub top_found : (es : Entries) (places : Spots) (p x : Path) (spot : Spot) → IsBefore places p x spot → Tells places es → AreTops (values_of es) places →
     spot.top < length p → is_prefix (take spot.top x) p ≡ true → (true ≡ above p (values_of es)) × IsTop (values_of es) p spot.top
 top_found es places p x spot b tells tops low starts = (
   sym (above_at p start rows standing starts (ap (is_prefix p) is ∙ not_below t p low)),
@@ -219,7 +205,7 @@ top_found es places p x spot b tells tops low starts = (
     | inr h ↦ ap (λ y. stands y rows) (take_all t x h) ∙ told_back x es spot (ap numbers_of (sym b.found) ∙ tells x)
   ]
 
-pub none_found : (es : Entries) (places : BTreeMap Path Spot) (p x : Path) (spot : Spot) → IsBefore places p x spot → Tells places es → AreTops (values_of es) places →
+pub none_found : (es : Entries) (places : Spots) (p x : Path) (spot : Spot) → IsBefore places p x spot → Tells places es → AreTops (values_of es) places →
     (spot.top < length p → is_prefix (take spot.top x) p ≡ true → true ≡ false) → above p (values_of es) ≡ false
 none_found es places p x spot b tells tops other = false_from_ne_true _ (λ h. true≢false (stands_so (λ z. is_prefix z p && not (is_prefix p z)) (true ≡ false) (values_of es) (λ y there e.
     let strict = and_parts (is_prefix y p) _ e in
@@ -229,7 +215,7 @@ none_found es places p x spot b tells tops other = false_from_ne_true _ (λ h. t
     let less = shorter y p strict.0 apart in
     other (omega (arith, low, less)) (prefix_trans (take spot.top x) y p (within spot.top y x up low) strict.0)) h))
 
-pub none_before : (es : Entries) (places : BTreeMap Path Spot) (p : Path) → Tells places es → ((q : Path) → path_cmp q p ≡ Less → get path_cmp places q ≡ None) → above p (values_of es) ≡ false
+pub none_before : (es : Entries) (places : Spots) (p : Path) → Tells places es → ((q : Path) → path_cmp q p ≡ Less → spot_at q places ≡ None) → above p (values_of es) ≡ false
 none_before es places p tells none = false_from_ne_true _ (λ h. true≢false (stands_so (λ z. is_prefix z p && not (is_prefix p z)) (true ≡ false) (values_of es) (λ y there e.
     let strict = and_parts (is_prefix y p) _ e in
     let gone = none y (prefix_less y p strict.0 (not-true _ strict.1)) in
@@ -304,8 +290,8 @@ top_stays old new q t apart top there = record {
   ]
 
 -- the spots of the rows that are left and of the new ones have their tops
-pub tops_after : (old new : List PlanRow) (places : BTreeMap Path Spot) (es : Entries) → values_of es ≡ filter (is_left new) old ++ new → Apart new → Tells places es → AreTops old places → AreTops (values_of es) places
-tops_after old new places es is apart tells tops q = by (get path_cmp places q) (tells q) (tops q) where
+pub tops_after : (old new : List PlanRow) (places : Spots) (es : Entries) → values_of es ≡ filter (is_left new) old ++ new → Apart new → Tells places es → AreTops old places → AreTops (values_of es) places
+tops_after old new places es is apart tells tops q = by (spot_at q places) (tells q) (tops q) where
   by : (o : Option Spot) → numbers_of o ≡ numbers_at q es → IfSome o (λ s. IsTop old q s.top) → IfSome o (λ s. IsTop (values_of es) q s.top)
   by None t h = tt
   by (Some s) t h =
@@ -313,8 +299,8 @@ tops_after old new places es is apart tells tops q = by (get path_cmp places q) 
       (top_stays old new q s.top apart h (ap (stands q) (sym is) ∙ told_back q es s t))
 
 -- and so have those that a path that goes leaves
-pub tops_left : (old : List PlanRow) (p : Path) (places : BTreeMap Path Spot) (es : Entries) → values_of es ≡ filter (λ r. not (is_prefix p (path_of r.action))) old → Tells places es → AreTops old places → AreTops (values_of es) places
-tops_left old p places es is tells tops q = by (get path_cmp places q) (tells q) (tops q) where
+pub tops_left : (old : List PlanRow) (p : Path) (places : Spots) (es : Entries) → values_of es ≡ filter (λ r. not (is_prefix p (path_of r.action))) old → Tells places es → AreTops old places → AreTops (values_of es) places
+tops_left old p places es is tells tops q = by (spot_at q places) (tells q) (tops q) where
   kept : (y : Path) → stands y (filter (λ r. not (is_prefix p (path_of r.action))) old) ≡ (not (is_prefix p y) && stands y old)
   kept y = stands-kept (λ r. not (is_prefix p (path_of r.action))) (not (is_prefix p y)) y old (λ r e. ap (λ z. not (is_prefix p z)) e)
 

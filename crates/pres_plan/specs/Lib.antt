@@ -1,3 +1,4 @@
 pub mod Faults
+pub mod Places
 pub mod Plans
 pub mod Standing

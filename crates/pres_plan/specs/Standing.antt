@@ -2,10 +2,10 @@
 use Rattle.std.specs.Prelude.{◌≡◌, ◌<◌, ◌≤◌, ◌==◌, ◌&&◌, ℕ, Bool, true, not, Option, Some, None, List, [], ◌∷◌, ◌++◌, IfSome, map, length, filter, take}
 use Rattle.std.specs.List.{list_any}
 use Rattle.std.specs.Map.{values_of}
-use Rattle.std.specs.BTreeMap.{BTreeMap, get}
-use Rattle.pres_tree.specs.Paths.{Path, path_cmp, same_path, is_prefix}
+use Rattle.pres_tree.specs.Paths.{Path, same_path, is_prefix}
 use Rattle.pres_plan.specs.declared.row.PlanRow.{PlanRow}
-use Rattle.pres_plan.specs.declared.standing.Spot.{Spot}
+use Rattle.pres_plan.specs.declared.places.Spot.{Spot}
+use Rattle.pres_plan.specs.Places.{Spots, spot_at}
 use Rattle.pres_plan.specs.Plans.{path_of, IsPlan}
 
 -- rows with their numbers
@@ -32,11 +32,11 @@ numbers_of None = []
 numbers_of (Some spot) = before_of spot.before ++ spot.row ∷ []
 
 -- the spot of each path tells which rows stand there
-abbrev pub Tells : BTreeMap Path Spot → Entries → Type 0
-Tells places rows = (path : Path) → numbers_of (get path_cmp places path) ≡ numbers_at path rows
+abbrev pub Tells : Spots → Entries → Type 0
+Tells places rows = (path : Path) → numbers_of (spot_at path places) ≡ numbers_at path rows
 
 -- the rows that the spots at the path and below it tell
-abbrev pub numbers_below : Path → List (Path × Spot) → List ℕ
+abbrev pub numbers_below : Path → Spots → List ℕ
 numbers_below path spots = map (λ e. e.1.row) (filter (λ e. is_prefix path e.0) spots)
 
 -- ---- the shortest paths at which rows stand
@@ -56,13 +56,13 @@ pub record IsTop (rows : List PlanRow) (path : Path) (top : ℕ) : Type 0 where
   pub first : (other : Path) → is_prefix other path ≡ true → stands other rows ≡ true → top ≤ length other
 
 -- each spot has the top of its path
-abbrev pub AreTops : List PlanRow → BTreeMap Path Spot → Type 0
-AreTops rows places = (path : Path) → IfSome (get path_cmp places path) (λ spot. IsTop rows path spot.top)
+abbrev pub AreTops : List PlanRow → Spots → Type 0
+AreTops rows places = (path : Path) → IfSome (spot_at path places) (λ spot. IsTop rows path spot.top)
 
 -- ---- what stands
 
 -- the rows are a plan, and the spots are those of their paths
-pub record IsStanding (rows : Entries) (places : BTreeMap Path Spot) : Type 0 where
+pub record IsStanding (rows : Entries) (places : Spots) : Type 0 where
   pub plan : IsPlan (values_of rows)
   pub tells : Tells places rows
   pub tops : AreTops (values_of rows) places

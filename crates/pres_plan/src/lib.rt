@@ -3,6 +3,8 @@
 
 mod fault;
 pub mod laws;
+mod numbered;
+mod places;
 mod plan;
 mod row;
 mod rows;

@@ -38,9 +38,9 @@ impl Model for Plan {
 
     ghost Value = { List PlanRow };
 
-    ghost view = { λ p. values_of p.standing.rows.entries };
+    ghost view = { λ p. values_of p.standing.rows };
 
-    ghost invariant = { λ p. IsStanding p.standing.rows.entries p.standing.places };
+    ghost invariant = { λ p. IsStanding p.standing.rows p.standing.places };
 }
 
 impl Pays for Plan {
@@ -67,7 +67,7 @@ impl Plan {
         ensures few { length self.now ≤ most_rows }
         ensures in_order { IsStrictlySortedBy row_cmp self.now }
     {
-        PlanRows::of(&self.standing.rows)
+        PlanRows::of(self.standing.rows.as_slice())
     }
 
     /// Whether an update of these places leaves at most `MOST_ROWS` rows.
@@ -172,8 +172,8 @@ impl Plan {
         ensures rows { IfOk result (λ made. made.items ≡ due_rows tree.now moment self.now) }
         ensures err { IfErr result (λ e. e ≡ Memory) }
     {
-        let mut made = Vec::new(alloc);
-        for row in self.standing.rows.values() {
+        let mut made = Vec::with_capacity(alloc, self.standing.rows.len())?;
+        for (_, row) in self.standing.rows.as_slice() {
             made.push(row.due(alloc, tree, moment)?)?;
         }
         Ok(made)
@@ -189,8 +189,8 @@ impl Plan {
         ensures writes { IfOk result (λ made. made ≡ due tree.now moment self.now) }
         ensures err { IfErr result (λ e. e ≡ Memory) }
     {
-        let mut made = Vec::new(alloc);
-        for row in self.standing.rows.values() {
+        let mut made = Vec::with_capacity(alloc, self.standing.rows.len())?;
+        for (_, row) in self.standing.rows.as_slice() {
             made.push(row.action.write(alloc, tree, moment)?)?;
         }
         Ok(Items::of(made))

@@ -10,8 +10,6 @@ use crate::row::PlanRow;
 use pres_ids::Number;
 use pres_tree::Path;
 use pres_write::Draft;
-use std::collections::BTreeMap;
-use std::collections::btree_map::Values;
 use std::marker::Model;
 
 /// The rows of a plan that are left to go over, in order: of each the number of the message that
@@ -19,26 +17,25 @@ use std::marker::Model;
 /// list of the rows.
 #[derive(Drop)]
 pub struct PlanRows<'a> {
-    rest: Values<'a, u64, PlanRow>,
+    rest: &'a [(u64, PlanRow)],
 }
 
 impl<'a> Model for PlanRows<'a> {
     ghost use Rattle.std.specs.Prelude.{List};
+    ghost use Rattle.std.specs.Map.{values_of};
     ghost use Rattle.pres_plan.specs.declared.row.PlanRow.{PlanRow};
 
     ghost Value = { List PlanRow };
 
-    ghost view = { λ it. it.rest };
+    ghost view = { λ it. values_of it.rest.now };
 }
 
 impl<'a> PlanRows<'a> {
-    // Those of the map, in the order of their numbers.
-    pub(crate) fn of(rows: &'a BTreeMap<u64, PlanRow>) -> PlanRows<'a>
-        ensures { result ≡ values_of rows.now.entries }
+    // Those of the list.
+    pub(crate) fn of(rows: &'a [(u64, PlanRow)]) -> PlanRows<'a>
+        ensures { result ≡ values_of rows.now }
     {
-        PlanRows {
-            rest: rows.values(),
-        }
+        PlanRows { rest: rows }
     }
 }
 
@@ -50,7 +47,8 @@ impl<'a> Iterator for PlanRows<'a> {
     ghost remaining = { λ s. at_most (length s) };
 
     fn next(&mut self) -> Option<(Number, &'a Path, Option<&'a Draft>)> {
-        let row = self.rest.next()?;
+        let ((_, row), rest) = self.rest.split_first()?;
+        self.rest = rest;
         Some(row.parts())
     }
 }

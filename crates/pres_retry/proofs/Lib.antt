@@ -1,2 +1,3 @@
 pub mod Puts
 pub mod Records
+pub mod Shelves

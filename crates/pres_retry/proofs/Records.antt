@@ -1,7 +1,6 @@
 -- One row more, client by client.
-use Rattle.std.proofs.Common.{◌≡◌, ◌≢◌, ℕ, ◌+◌, Bool, true, false, cond, List, [], ◌∷◌, ◌++◌, length, Option, Some, None, unwrap_or, ◌≤◌, Vec, Global, append-nil, length-append, refl, sym, ◌∙◌, ap, subst, arith}
+use Rattle.std.proofs.Common.{◌≡◌, ◌≢◌, ℕ, ◌+◌, Bool, true, false, cond, List, [], ◌∷◌, ◌++◌, length, Option, Some, None, unwrap_or, ◌≤◌, append-nil, length-append, refl, sym, ◌∙◌, ap, subst, arith}
 use Rattle.std.specs.Prelude.{IfSome, if◌then◌else◌}
-use Rattle.std.specs.Option.{option_map}
 use Rattle.std.specs.Map.{lookup}
 use Rattle.std.specs.BTreeMap.{is_at}
 use Rattle.std.specs.Cmp.{IsTotalOrder, eq_by_cmp_equiv}
@@ -10,16 +9,15 @@ use Rattle.std.specs.FinMap.Entries.{find, put, find-put}
 use Rattle.pres_ids.specs.Ids.{ClientId, client_cmp, same_client}
 use Rattle.pres_ids.specs.Numbers.{IsNumber, greatest_number}
 use Rattle.pres_retry.specs.declared.table.Row.{Row}
-use Rattle.pres_retry.specs.Tables.{Table, AreNumbered, recorded, rows_of, table_of, with_row}
-use Rattle.pres_retry.proofs.Puts.{find_shown}
+use Rattle.pres_retry.specs.Tables.{Table, AreNumbered, recorded, rows_of, with_row}
+use Rattle.pres_retry.proofs.Puts.{find_lookup}
 
 pub clients_total : IsTotalOrder client_cmp
 clients_total = nat_list_cmp_total
 
--- a map of vectors has the rows of a client
-pub rows_at : (client : ClientId) (entries : List (ClientId × Vec Row Global)) (kept : Option (Vec Row Global)) → lookup (is_at (client_cmp client)) entries ≡ kept
-    → rows_of client (table_of entries) ≡ unwrap_or (option_map (λ rows. rows.items) kept) []
-rows_at client entries kept has = ap (λ found. unwrap_or found []) (find_shown client_cmp (λ rows. rows.items) client entries ∙ ap (option_map (λ rows. rows.items)) has)
+-- a map has the rows of a client
+pub rows_at : (client : ClientId) (table : Table) (found : Option (List Row)) → lookup (is_at (client_cmp client)) table ≡ found → rows_of client table ≡ unwrap_or found []
+rows_at client table found has = ap (λ rows. unwrap_or rows []) (find_lookup client_cmp client table ∙ has)
 
 pub rows_counted : (client : ClientId) (table : Table) → AreNumbered table → length (rows_of client table) ≤ greatest_number
 rows_counted client table numbered = by (find client_cmp client table) (numbered client) where

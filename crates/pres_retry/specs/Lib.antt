@@ -1,3 +1,4 @@
 pub mod Faults
+pub mod Shelves
 pub mod Tables
 pub mod Verdicts

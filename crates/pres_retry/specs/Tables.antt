@@ -1,6 +1,5 @@
 -- The answered writes of each client, which are numbered 1, 2, .. without a gap.
-use Rattle.std.specs.Prelude.{ℕ, List, [], ◌∷◌, ◌++◌, length, map, unwrap_or, IfSome, Vec}
-use Rattle.std.specs.declared.alloc.Global.{Global}
+use Rattle.std.specs.Prelude.{ℕ, List, [], ◌∷◌, ◌++◌, length, unwrap_or, IfSome}
 use Rattle.std.specs.FinMap.Entries.{find, put}
 use Rattle.pres_ids.specs.Ids.{ClientId, client_cmp}
 use Rattle.pres_ids.specs.Numbers.{IsNumber}
@@ -29,7 +28,3 @@ recorded client n row table = with_row client row table
 -- each client of the table has rows of its writes 1 to a number
 abbrev pub AreNumbered : Table → Type 0
 AreNumbered table = (client : ClientId) → IfSome (find client_cmp client table) (λ rows. IsNumber (length rows))
-
--- the table that a map of vectors is
-abbrev pub table_of : List (ClientId × Vec Row Global) → Table
-table_of entries = map (λ e. (e.0, e.1.items)) entries

@@ -2,8 +2,10 @@
 //! had.
 #![tactic(auto)]
 
+mod answers;
 mod fault;
 mod table;
 
+pub use answers::{Answer, Answers, AnswersIter, KeptRef, Verdict};
 pub use fault::RetryFault;
-pub use table::{RetryTable, Row, Verdict};
+pub use table::{RetryTable, Row};

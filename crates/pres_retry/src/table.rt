@@ -1,12 +1,12 @@
 //! The table of kept answers.
 
-ghost use Rattle.std.specs.Prelude.{◌≡◌, ◌≢◌, ◌+◌, ◌++◌, ◌∷◌, ◌≤◌, [], length, IfErr, IfOk, OnOk};
+ghost use Rattle.std.specs.Prelude.{◌≡◌, ◌≢◌, ◌+◌, ◌++◌, ◌∷◌, [], length, IfErr, IfOk, MatchOption, OnOk};
 ghost use Rattle.pres_ids.specs.Ids.{ClientId};
-ghost use Rattle.pres_ids.specs.Numbers.{greatest_number};
-ghost use Rattle.pres_retry.specs.Tables.{row, recorded, rows_of, table_of, with_row};
+ghost use Rattle.pres_retry.specs.Tables.{row, recorded, rows_of, with_row};
 ghost use Rattle.pres_retry.specs.Verdicts.{verdict, status_of};
 ghost use Rattle.pres_retry.specs.declared.fault.RetryFault.TheVariants.{Memory};
 
+use crate::answers::{Answers, Verdict};
 use crate::fault::RetryFault;
 use pres_ids::{ClientId, Count, Number};
 use pres_write::Kept;
@@ -35,54 +35,45 @@ impl Row {
     }
 }
 
-/// What a write with a number is.
-#[derive(Drop)]
-pub enum Verdict<'a> {
-    /// The client's next one.
-    New,
-    /// One that was answered, with what was kept of it.
-    Again(&'a Row),
-    /// One past the next.
-    Gap,
-}
-
 /// The answers to the writes of each client, which are numbered 1, 2, .. Contracts see the list of
 /// the clients that have any, in byte order, each with its rows in the order of their numbers.
 #[derive(Drop)]
 pub struct RetryTable {
     alloc: Global,
-    rows: BTreeMap<ClientId, Vec<Row>>,
+    clients: BTreeMap<ClientId, Answers>,
 }
 
 impl Model for RetryTable {
-    ghost use Rattle.pres_retry.specs.Tables.{Table, table_of, AreNumbered};
+    ghost use Rattle.pres_retry.specs.Tables.{Table, AreNumbered};
 
     ghost Value = { Table };
 
-    ghost view = { λ t. table_of t.rows.entries };
+    ghost view = { λ t. t.clients.entries };
 
-    ghost invariant = { λ t. AreNumbered (table_of t.rows.entries) };
+    ghost invariant = { λ t. AreNumbered t.clients.entries };
 }
 
-// Puts a row behind those of the client. Memory is the one refusal.
+// Keeps the answer to the client's next write. Memory is the one refusal.
 fn push(
-    rows: &mut BTreeMap<ClientId, Vec<Row>>,
+    clients: &mut BTreeMap<ClientId, Answers>,
     alloc: Global,
     client: ClientId,
-    row: Row,
+    n: Number,
+    new: Row,
 ) -> Result<(), RetryFault>
+    requires { n ≡ length (rows_of client clients.old.entries) + 1 }
     ensures pushed { OnOk result
-        (table_of rows.new.entries ≡ with_row client row (table_of rows.old.entries)) }
+        (clients.new.entries ≡ with_row client new clients.old.entries) }
     ensures err { IfErr result
-        (λ e. (e ≡ Memory) × (table_of rows.new.entries ≡ table_of rows.old.entries)) }
+        (λ e. (e ≡ Memory) × (clients.new.entries ≡ clients.old.entries)) }
 {
-    if let Some(kept) = rows.get_mut(&client) {
-        kept.push(row)?;
-        return Ok(());
+    let Row { done, kept } = new;
+    if let Some(answers) = clients.get_mut(&client) {
+        return answers.push(alloc, n, done, kept);
     }
-    let mut kept = Vec::new(alloc);
-    kept.push(row)?;
-    drop(rows.insert(client, kept)?);
+    let mut answers = Answers::new(alloc);
+    answers.push(alloc, n, done, kept)?;
+    drop(clients.insert(client, answers)?);
     Ok(())
 }
 
@@ -93,29 +84,26 @@ impl RetryTable {
     {
         RetryTable {
             alloc,
-            rows: BTreeMap::new(alloc),
+            clients: BTreeMap::new(alloc),
         }
     }
 
-    // What is kept of the client's writes, in their order.
-    fn kept(&self, client: &ClientId) -> &[Row]
-        ensures rows { result.now ≡ rows_of client.now self.now }
-        ensures count { length result.now ≤ greatest_number }
+    /// The answers to the client's writes, none for a stranger. It takes no memory.
+    pub fn answers(&self, client: &ClientId) -> Option<&Answers>
+        ensures { MatchOption result (rows_of client.now self.now ≡ [])
+            (λ answers. answers.now ≡ rows_of client.now self.now) }
     {
-        match self.rows.get(client) {
-            Some(rows) => rows.as_slice(),
-            None => &[],
-        }
+        self.clients.get(client)
     }
 
     /// The number of the client's last write that has an answer, 0 for a stranger.
     pub fn last(&self, client: &ClientId) -> Count
         ensures { result ≡ length (rows_of client.now self.now) }
     {
-        let Some(last) = Count::new(self.kept(client).len() as u64) else {
-            unreachable!()
-        };
-        last
+        match self.answers(client) {
+            Some(answers) => answers.count(),
+            None => Count::zero(),
+        }
     }
 
     /// What is kept of the client's writes, in their order, copied.
@@ -123,24 +111,19 @@ impl RetryTable {
         ensures rows { IfOk result (λ rows. rows.items ≡ rows_of client.now self.now) }
         ensures err { IfErr result (λ e. e ≡ Memory) }
     {
-        let mut rows = Vec::new(alloc);
-        for row in self.kept(client) {
-            rows.push(row.copy(alloc)?)?;
+        match self.answers(client) {
+            Some(answers) => answers.rows(alloc),
+            None => Ok(Vec::new(alloc)),
         }
-        Ok(rows)
     }
 
-    /// What the client's write with the number is.
+    /// What the client's write with the number is. It takes no memory.
     pub fn find(&self, client: &ClientId, n: Number) -> Verdict<'_>
         ensures { status_of result ≡ verdict n (rows_of client.now self.now) }
     {
-        let rows = self.kept(client);
-        let place = (n.get() - 1) as usize;
-        if place == rows.len() {
-            return Verdict::New;
-        }
-        match rows.get(place) {
-            Some(row) => Verdict::Again(row),
+        match self.answers(client) {
+            Some(answers) => answers.find(n),
+            None if n.get() == 1 => Verdict::New,
             None => Verdict::Gap,
         }
     }
@@ -163,7 +146,7 @@ impl RetryTable {
     {
         // it ensures that no number is past the greatest one
         let _ = n.get();
-        push(&mut self.rows, self.alloc, client, Row { done, kept })?;
+        push(&mut self.clients, self.alloc, client, n, Row { done, kept })?;
         Ok(())
     }
 }

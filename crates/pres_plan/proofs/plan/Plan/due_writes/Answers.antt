@@ -1,25 +1,34 @@
-use Rattle.std.proofs.Common.{◌++◌, ◌∷◌, [], sym, ◌∙◌, ap, append_assoc, append-nil}
+use Rattle.std.proofs.Common.{◌+◌, ◌++◌, ◌∷◌, [], sym, ◌∙◌, ap, drop, append_assoc, append-nil}
+use Rattle.std.specs.Map.{values_of}
+use Rattle.std.proofs.Math.ListN.{drop_of_length-le}
+use Rattle.std.proofs.lemmas.List.{drop_more}
 use Rattle.pres_plan.specs.Plans.{due}
 use Rattle.pres_plan.proofs.plan.Plan.due_writes.Goals as goal
 
 pub loop-row-init : goal.loop-row-init
-loop-row-init c =
-    let rows = c.into_iter-row-iterator.ensures.into_iter_gives ∙ c.values-row-items.ensures.rest ∙ c.self.view_is in
-    λ i. c.new-made.ensures.items i ++ due c.args.tree.now c.args.moment (rows i)
+loop-row-init c = ap (λ l. l ++ due c.args.tree.now c.args.moment (values_of c.as_slice-row-items.result.now)) c.in_ok-made.ensures.items
 
 pub loop-row-preserved : goal.loop-row-preserved
 loop-row-preserved c =
-    let rest = due c.args.tree.now c.args.moment c.next.new.self in
+    let rows = c.as_slice-row-items.result.now in
+    let i = c.loop-row.row-index in
+    let row = c.loop-row-item.result in
     let made = c.loop-row.made.items in
+    let rest = due c.args.tree.now c.args.moment (values_of (drop (i + 1) rows)) in
+    let more = drop_more rows i row c.loop-row-test.true ∙ ap (λ e. e ∷ drop (i + 1) rows) (sym c.loop-row-item.is) in
     ap (λ l. l ++ rest) c.in_ok-push.ensures.items
     ∙ append_assoc made (c.in_ok-write.field-0 ∷ []) rest
     ∙ ap (λ x. made ++ x ∷ rest) c.in_ok-write.ensures
-    ∙ ap (λ rows. made ++ due c.args.tree.now c.args.moment rows) (sym c.in-Some.ensures.steps)
+    ∙ ap (λ es. made ++ due c.args.tree.now c.args.moment (values_of es)) (sym more)
     ∙ c.loop-row.invariant
 
 pub returns-clause-writes : goal.returns-clause-writes
 returns-clause-writes c =
+    let rows = c.as_slice-row-items.result.now in
+    let made = c.loop-row.made.items in
     c.of.ensures
-    ∙ sym (append-nil c.loop-row.made.items)
-    ∙ ap (λ rows. c.loop-row.made.items ++ due c.args.tree.now c.args.moment rows) (sym c.in-None.ensures.steps.0)
+    ∙ sym (append-nil made)
+    ∙ ap (λ es. made ++ due c.args.tree.now c.args.moment (values_of es)) (sym (drop_of_length-le rows c.loop-row-test.false))
     ∙ c.loop-row.invariant
+    ∙ ap (λ es. due c.args.tree.now c.args.moment (values_of es)) c.as_slice-row-items.ensures
+    ∙ ap (due c.args.tree.now c.args.moment) c.self.view_is

@@ -1,6 +1,7 @@
-use Rattle.std.proofs.Common.{◌≡◌, ◌++◌}
+use Rattle.std.proofs.Common.{◌≡◌, ◌++◌, drop}
+use Rattle.std.specs.Map.{values_of}
 use Rattle.pres_plan.specs.Plans.{due}
 use Rattle.pres_plan.proofs.plan.Plan.due_writes.Given as goal
 
 abbrev pub invariant-loop-row : goal.invariant-loop-row
-invariant-loop-row l = l.made.items ++ due l.tree l.moment l.row-iterator ≡ due l.tree l.moment l.self
+invariant-loop-row l = l.made.items ++ due l.tree l.moment (values_of (drop l.row-index l.row-items)) ≡ due l.tree l.moment (values_of l.row-items)

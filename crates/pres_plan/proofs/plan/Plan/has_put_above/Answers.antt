@@ -9,5 +9,5 @@ pub returns : goal.returns
 returns c =
     c.is_some.ensures
     ∙ c.top_above.ensures.above
-    ∙ sym (put_above c.args.path.now (values_of c.self.inside.standing.rows.entries) c.self.invariant.plan)
+    ∙ sym (put_above c.args.path.now (values_of c.self.inside.standing.rows) c.self.invariant.plan)
     ∙ ap (list_any (puts_above c.args.path.now)) c.self.view_is

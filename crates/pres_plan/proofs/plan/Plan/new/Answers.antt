@@ -12,4 +12,4 @@ no_plan : IsPlan []
 no_plan = record { whole = refl; few = omega arith; in_order = none_in_order }
 
 pub invariant_of-result : goal.invariant_of-result
-invariant_of-result c = nothing_stands c.new.result.rows.entries c.new.result.places c.new.ensures.rows c.new.ensures.places no_plan
+invariant_of-result c = nothing_stands c.new.result.rows c.new.result.places c.new.ensures.rows c.new.ensures.places no_plan

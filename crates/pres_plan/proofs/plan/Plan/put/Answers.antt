@@ -30,9 +30,9 @@ returns-in_err-replace-clause-full c =
     c.if-not-has_room.false c.args.q)
     c.from_residual-in_err-replace.ensures
 
-done : (c : goal.In_ok-replace) → (values_of c.replace.new.self.rows.entries) ≡ plan_of (c.args.self.now ++ puts c.args.q (c.args.placement ∷ []))
+done : (c : goal.In_ok-replace) → (values_of c.replace.new.self.rows) ≡ plan_of (c.args.self.now ++ puts c.args.q (c.args.placement ∷ []))
 done c =
-    puts_done (values_of c.self.inside.standing.rows.entries) c.into_vec-rows.result.items (values_of c.replace.new.self.rows.entries) c.args.q (c.args.placement ∷ []) c.self.invariant.plan refl (c.into_vec-rows.ensures ∙ c.in_ok-one.ensures) c.in_ok-replace.ensures.ok
+    puts_done (values_of c.self.inside.standing.rows) c.into_vec-rows.result.items (values_of c.replace.new.self.rows) c.args.q (c.args.placement ∷ []) c.self.invariant.plan refl (c.into_vec-rows.ensures ∙ c.in_ok-one.ensures) c.in_ok-replace.ensures.ok
     ∙ ap (λ l. plan_of (l ++ puts c.args.q (c.args.placement ∷ []))) c.self.view_is
 
 few : (c : goal.In_ok-replace) → length (plan_of (c.args.self.now ++ puts c.args.q (c.args.placement ∷ []))) ≤ 256
@@ -44,7 +44,7 @@ few c =
 pub invariant_of-self-2 : goal.invariant_of-self-2
 invariant_of-self-2 c = record {
   plan =
-      is_plan (c.args.self.now ++ puts c.args.q (c.args.placement ∷ [])) (values_of c.replace.new.self.rows.entries) (done c) (subst (λ (l : List PlanRow). length l ≤ 256) (sym (done c)) (few c))
+      is_plan (c.args.self.now ++ puts c.args.q (c.args.placement ∷ [])) (values_of c.replace.new.self.rows) (done c) (subst (λ (l : List PlanRow). length l ≤ 256) (sym (done c)) (few c))
       (put_in_order c.args.self.now c.args.q c.args.placement (is_same_plan c.self.view_is c.self.invariant.plan).in_order c.requires.last);
   tells = c.in_ok-replace.ensures.tells;
   tops = c.in_ok-replace.ensures.tops;

@@ -29,9 +29,9 @@ returns-in_err-replace-clause-full c =
     c.if-not-may_update.false c.args.q)
     c.from_residual-in_err-replace.ensures
 
-done : (c : goal.In_ok-replace) → (values_of c.replace.new.self.rows.entries) ≡ plan_of (c.args.self.now ++ puts c.args.q c.args.placements)
+done : (c : goal.In_ok-replace) → (values_of c.replace.new.self.rows) ≡ plan_of (c.args.self.now ++ puts c.args.q c.args.placements)
 done c =
-    puts_done (values_of c.self.inside.standing.rows.entries) c.in_ok-rows.rows.items (values_of c.replace.new.self.rows.entries) c.args.q c.args.placements c.self.invariant.plan c.into_items.ensures.apart (c.in_ok-rows.ensures ∙ ap (puts c.args.q) c.into_items.ensures.placements) c.in_ok-replace.ensures.ok
+    puts_done (values_of c.self.inside.standing.rows) c.in_ok-rows.rows.items (values_of c.replace.new.self.rows) c.args.q c.args.placements c.self.invariant.plan c.into_items.ensures.apart (c.in_ok-rows.ensures ∙ ap (puts c.args.q) c.into_items.ensures.placements) c.in_ok-replace.ensures.ok
     ∙ ap (λ l. plan_of (l ++ puts c.args.q c.args.placements)) c.self.view_is
 
 few : (c : goal.In_ok-replace) → length (plan_of (c.args.self.now ++ puts c.args.q c.args.placements)) ≤ 256
@@ -43,7 +43,7 @@ few c =
 pub invariant_of-self-2 : goal.invariant_of-self-2
 invariant_of-self-2 c = record {
   plan =
-      is_plan (c.args.self.now ++ puts c.args.q c.args.placements) (values_of c.replace.new.self.rows.entries) (done c) (subst (λ (l : List PlanRow). length l ≤ 256) (sym (done c)) (few c))
+      is_plan (c.args.self.now ++ puts c.args.q c.args.placements) (values_of c.replace.new.self.rows) (done c) (subst (λ (l : List PlanRow). length l ≤ 256) (sym (done c)) (few c))
       (puts_in_order c.args.self.now c.args.q c.args.placements (is_same_plan c.self.view_is c.self.invariant.plan).in_order c.into_items.ensures.in_order c.requires.last);
   tells = c.in_ok-replace.ensures.tells;
   tops = c.in_ok-replace.ensures.tops;

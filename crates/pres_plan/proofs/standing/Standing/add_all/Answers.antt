@@ -23,6 +23,6 @@ add-requires-clause-one c =
     subst (λ (a : Arrival). a.place ≡ path_of a.row.action) (sym turn.1) (All-get_or (λ (a : Arrival). a.place ≡ path_of a.row.action) all (length done) x turn.0 c.requires.places) in
     let more = c.loop-arrival.invariant.rows in
     subst (λ (es : Entries). length (numbers_at x.place es) ≤ 1) (sym more.1)
-    (subst (λ (p : Path). length (numbers_at p (c.args.self.now.rows.entries ++ more.0)) ≤ 1)
+    (subst (λ (p : Path). length (numbers_at p (c.args.self.now.rows ++ more.0)) ≤ 1)
     (sym placed)
-    (one_stands c.args.self.now.rows.entries more.0 all done x c.requires.plan more.2 c.requires.apart (at_turn all done x so_far turn.0 turn.1)))
+    (one_stands c.args.self.now.rows more.0 all done x c.requires.plan more.2 c.requires.apart (at_turn all done x so_far turn.0 turn.1)))

@@ -8,7 +8,7 @@ abbrev pub invariant-loop-arrival : goal.invariant-loop-arrival
 invariant-loop-arrival l = record {
   can_next : (goal.iterator-loop-arrival).can_next l.arrival-iterator;
   is_finite : (goal.iterator-loop-arrival).is_finite l.arrival-iterator;
-  tells : Tells l.self.places l.self.rows.entries;
+  tells : Tells l.self.places l.self.rows;
   tops : (rows : List PlanRow) → AreTops rows l.fn.self.places → All (λ a. IsTop rows a.place a.top) l.fn.new.items → AreTops rows l.self.places;
-  rows : (more : Entries) × (l.self.rows.entries ≡ l.fn.self.rows.entries ++ more) × (values_of more ≡ map (λ a. a.row) l.yielded);
+  rows : (more : Entries) × (l.self.rows ≡ l.fn.self.rows ++ more) × (values_of more ≡ map (λ a. a.row) l.yielded);
 }

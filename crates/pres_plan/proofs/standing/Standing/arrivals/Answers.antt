@@ -11,7 +11,7 @@ pub loop-row-preserved : goal.loop-row-preserved
 loop-row-preserved c =
     let a : Arrival = record { row = c.in-Some.row; place = c.in_ok-place.place; top = c.unwrap_or-top.result } in
     let before = c.loop-row.made.items in
-    let values = values_of c.args.self.now.rows.entries in
+    let values = values_of c.args.self.now.rows in
     let push = c.in_ok-push.ensures.items in
     record {
       can_next = search rules;

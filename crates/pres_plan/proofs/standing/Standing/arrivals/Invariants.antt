@@ -10,5 +10,5 @@ invariant-loop-row l = record {
   is_finite : (goal.iterator-loop-row).is_finite l.row-iterator;
   rows : map (λ a. a.row) l.made.items ≡ l.yielded;
   places : All (λ a. a.place ≡ path_of a.row.action) l.made.items;
-  tops : All (λ a. IsTop (values_of l.self.rows.entries) a.place a.top) l.made.items;
+  tops : All (λ a. IsTop (values_of l.self.rows) a.place a.top) l.made.items;
 }

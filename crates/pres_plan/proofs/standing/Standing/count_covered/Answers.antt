@@ -10,15 +10,15 @@ use Rattle.pres_plan.proofs.standing.Standing.count_covered.Goals.{After-count_b
 use Rattle.pres_plan.proofs.standing.Standing.count_covered.Goals as goal
 
 pub loop-placement-init : goal.loop-placement-init
-loop-placement-init c = sym (none_covered (values_of c.args.self.now.rows.entries))
+loop-placement-init c = sym (none_covered (values_of c.args.self.now.rows))
 
 step : (c : After-count_below-count) → c.loop-placement.count + c.count_below-count.result
-    ≡ length (filter (λ row. list_any (λ p. is_prefix p.0 (path_of row.action)) (take (c.loop-placement.placement-index + 1) c.args.placements.now)) (values_of c.args.self.now.rows.entries))
+    ≡ length (filter (λ row. list_any (λ p. is_prefix p.0 (path_of row.action)) (take (c.loop-placement.placement-index + 1) c.args.placements.now)) (values_of c.args.self.now.rows))
 step c =
     let ps = c.args.placements.now in
     let i = c.loop-placement.placement-index in
     let p = c.placement-item.result in
-    let rows = values_of c.args.self.now.rows.entries in
+    let rows = values_of c.args.self.now.rows in
     let more = take_more ps i p c.loop-placement-test.true ∙ ap (λ q. take i ps ++ q ∷ []) (sym c.placement-item.is) in
     let all = sym (take-append-drop i ps) ∙ ap (λ l. take i ps ++ l) (drop_more ps i p c.loop-placement-test.true ∙ ap (λ q. q ∷ drop (i + 1) ps) (sym c.placement-item.is)) in
     (λ j. c.loop-placement.invariant j + (c.count_below-count.ensures ∙ ap (λ q. length (filter (λ row. is_prefix q (path_of row.action)) rows)) c.path.ensures.path) j)
@@ -27,7 +27,7 @@ step c =
 
 pub overflow_add-count : goal.overflow_add-count
 overflow_add-count c =
-    let rows = values_of c.args.self.now.rows.entries in
+    let rows = values_of c.args.self.now.rows in
     let few = c.requires.standing.plan.few in
     omega (arith, step c, few, length-kept (λ row. list_any (λ p. is_prefix p.0 (path_of row.action)) (take (c.loop-placement.placement-index + 1) c.args.placements.now)) rows)
 
@@ -37,4 +37,4 @@ loop-placement-preserved c = step c
 pub returns : goal.returns
 returns c =
     c.loop-placement.invariant
-    ∙ ap (λ l. length (filter (λ row. list_any (λ p. is_prefix p.0 (path_of row.action)) l) (values_of c.args.self.now.rows.entries))) (take_all c.loop-placement.placement-index c.args.placements.now c.loop-placement-test.false)
+    ∙ ap (λ l. length (filter (λ row. list_any (λ p. is_prefix p.0 (path_of row.action)) l) (values_of c.args.self.now.rows))) (take_all c.loop-placement.placement-index c.args.placements.now c.loop-placement-test.false)

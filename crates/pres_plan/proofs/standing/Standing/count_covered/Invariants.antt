@@ -6,4 +6,4 @@ use Rattle.pres_plan.specs.Plans.{path_of}
 use Rattle.pres_plan.proofs.standing.Standing.count_covered.Given as goal
 
 abbrev pub invariant-loop-placement : goal.invariant-loop-placement
-invariant-loop-placement l = l.count ≡ length (filter (λ row. list_any (λ p. is_prefix p.0 (path_of row.action)) (take l.placement-index l.placements)) (values_of l.self.rows.entries))
+invariant-loop-placement l = l.count ≡ length (filter (λ row. list_any (λ p. is_prefix p.0 (path_of row.action)) (take l.placement-index l.placements)) (values_of l.self.rows))

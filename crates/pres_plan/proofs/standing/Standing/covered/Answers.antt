@@ -18,7 +18,7 @@ loop-row-preserved c = λ n.
     let rows = c.args.rows.now in
     let i = c.loop-row.row-index in
     let row = c.row-item.result in
-    let spots = c.args.self.now.places.entries in
+    let spots = c.args.self.now.places in
     let more = take_more rows i row c.loop-row-test.true ∙ ap (λ q. take i rows ++ q ∷ []) (sym c.row-item.is) in
     ap (list_any (λ m. eqb m n)) c.in_ok-push_below.ensures.numbers
     ∙ list_any-append (λ m. eqb m n) c.loop-row.made.items (numbers_below c.path.result.now spots)
@@ -29,4 +29,4 @@ loop-row-preserved c = λ n.
 pub returns-clause-numbers : goal.returns-clause-numbers
 returns-clause-numbers c = λ n.
     c.loop-row.invariant n
-    ∙ ap (list_any (λ row. list_any (λ m. eqb m n) (numbers_below (path_of row.action) c.args.self.now.places.entries))) (take_all c.loop-row.row-index c.args.rows.now c.loop-row-test.false)
+    ∙ ap (list_any (λ row. list_any (λ m. eqb m n) (numbers_below (path_of row.action) c.args.self.now.places))) (take_all c.loop-row.row-index c.args.rows.now c.loop-row-test.false)

@@ -6,4 +6,4 @@ use Rattle.pres_plan.proofs.standing.Standing.covered.Given as goal
 
 abbrev pub invariant-loop-row : goal.invariant-loop-row
 invariant-loop-row l =
-    (n : ℕ) → list_any (λ m. eqb m n) l.made.items ≡ list_any (λ row. list_any (λ m. eqb m n) (numbers_below (path_of row.action) l.self.places.entries)) (take l.row-index l.rows)
+    (n : ℕ) → list_any (λ m. eqb m n) l.made.items ≡ list_any (λ row. list_any (λ m. eqb m n) (numbers_below (path_of row.action) l.self.places)) (take l.row-index l.rows)

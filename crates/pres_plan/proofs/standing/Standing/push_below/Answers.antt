@@ -1,46 +1,31 @@
-use Rattle.std.proofs.Common.{◌≡◌, ◌++◌, sym, ◌∙◌, ap, subst, append-nil, append_assoc, filter}
-use Rattle.std.specs.BTreeMap.Range.{range_contains}
-use Rattle.std.specs.declared.ops.Bound.TheVariants.{Included, Unbounded}
-use Rattle.pres_tree.specs.Paths.{path_cmp}
-use Rattle.pres_plan.specs.Standing.{numbers_below}
-use Rattle.pres_plan.proofs.Ranges.{Run, run_begun, below_begun, run_next, run_stops, numbers_below-more}
+use Rattle.std.proofs.Common.{◌+◌, ◌++◌, ◌∷◌, [], sym, ◌∙◌, ap, refl, map, drop, append_assoc, append-nil}
+use Rattle.std.proofs.Math.ListN.{drop_of_length-le}
+use Rattle.std.proofs.lemmas.List.{drop_more}
+use Rattle.pres_tree.specs.Paths.{Path}
+use Rattle.pres_plan.specs.declared.places.Spot.{Spot}
 use Rattle.pres_plan.proofs.standing.Standing.push_below.Goals as goal
 
-pub loop-place-init : goal.loop-place-init
-loop-place-init c =
-    let p = c.args.path.now in
-    let spots = c.args.self.now.places.entries in
-    let from : c.into_iter-place-iterator.result ≡ filter (λ e. range_contains path_cmp (Included p) Unbounded e.0) spots =
-    c.into_iter-place-iterator.ensures.into_iter_gives ∙ c.range-place-items.ensures.between tt in (
-      ap (λ l. c.args.numbers.now.items ++ l) (below_begun p spots c.into_iter-place-iterator.result from),
-      run_begun p spots c.into_iter-place-iterator.result c.range-place-items.ensures.ordered from,
-    )
+pub loop-spot-init : goal.loop-spot-init
+loop-spot-init c = refl
 
-pub returns-then-not-is_prefix_of-clause-numbers : goal.returns-then-not-is_prefix_of-clause-numbers
-returns-then-not-is_prefix_of-clause-numbers c =
-    let p = c.args.path.now in
-    let ns = c.loop-place.numbers.items in
-    sym (append-nil ns)
-    ∙ ap (λ l. ns ++ l) (sym (run_stops p _ _ (sym c.if-not-is_prefix_of.ensures) (subst (Run p) c.in-Some.ensures.steps c.loop-place.invariant.1)))
-    ∙ ap (λ it. ns ++ numbers_below p it) (sym c.in-Some.ensures.steps)
-    ∙ c.loop-place.invariant.0
-
-pub loop-place-preserved : goal.loop-place-preserved
-loop-place-preserved c =
-    let p = c.args.path.now in
-    let ns = c.loop-place.numbers.items in
-    let rest = c.next.new.self in (
-      ap (λ l. l ++ numbers_below p rest) c.in_ok-push.ensures.items
-          ∙ append_assoc ns _ (numbers_below p rest)
-          ∙ ap (λ l. ns ++ l) (sym (numbers_below-more p c.in-Some.place.now c.in-Some.spot.now rest (sym c.if-not-is_prefix_of.ensures)))
-          ∙ ap (λ it. ns ++ numbers_below p it) (sym c.in-Some.ensures.steps)
-          ∙ c.loop-place.invariant.0,
-      run_next p _ rest (subst (Run p) c.in-Some.ensures.steps c.loop-place.invariant.1),
-    )
+pub loop-spot-preserved : goal.loop-spot-preserved
+loop-spot-preserved c =
+    let spots = c.below-spot-items.result.now in
+    let i = c.loop-spot.spot-index in
+    let spot = c.loop-spot-item.result in
+    let numbers = c.loop-spot.numbers.items in
+    let rest = map (λ (e : Path × Spot). e.1.row) (drop (i + 1) spots) in
+    let more = drop_more spots i spot c.loop-spot-test.true ∙ ap (λ e. e ∷ drop (i + 1) spots) (sym c.loop-spot-item.is) in
+    ap (λ l. l ++ rest) c.in_ok-push.ensures.items
+    ∙ append_assoc numbers (spot.1.row ∷ []) rest
+    ∙ ap (λ es. numbers ++ map (λ (e : Path × Spot). e.1.row) es) (sym more)
+    ∙ c.loop-spot.invariant
 
 pub returns-clause-numbers : goal.returns-clause-numbers
 returns-clause-numbers c =
-    let ns = c.loop-place.numbers.items in
-    sym (append-nil ns)
-    ∙ ap (λ it. ns ++ numbers_below c.args.path.now it) (sym c.in-None.ensures.steps.0)
-    ∙ c.loop-place.invariant.0
+    let spots = c.below-spot-items.result.now in
+    let numbers = c.loop-spot.numbers.items in
+    sym (append-nil numbers)
+    ∙ ap (λ es. numbers ++ map (λ (e : Path × Spot). e.1.row) es) (sym (drop_of_length-le spots c.loop-spot-test.false))
+    ∙ c.loop-spot.invariant
+    ∙ ap (λ es. c.args.numbers.now.items ++ map (λ (e : Path × Spot). e.1.row) es) c.below-spot-items.ensures.entries

@@ -1,7 +1,5 @@
-use Rattle.std.proofs.Common.{◌≡◌, ◌++◌}
-use Rattle.pres_plan.specs.Standing.{numbers_below}
-use Rattle.pres_plan.proofs.Ranges.{Run}
+use Rattle.std.proofs.Common.{◌≡◌, ◌++◌, map, drop}
 use Rattle.pres_plan.proofs.standing.Standing.push_below.Given as goal
 
-abbrev pub invariant-loop-place : goal.invariant-loop-place
-invariant-loop-place l = (l.numbers.items ++ numbers_below l.path l.place-iterator ≡ l.fn.numbers.items ++ numbers_below l.path l.self.places.entries) × Run l.path l.place-iterator
+abbrev pub invariant-loop-spot : goal.invariant-loop-spot
+invariant-loop-spot l = l.numbers.items ++ map (λ e. e.1.row) (drop l.spot-index l.spot-items) ≡ l.fn.numbers.items ++ map (λ e. e.1.row) l.spot-items

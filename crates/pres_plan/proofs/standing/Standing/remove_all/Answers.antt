@@ -5,13 +5,13 @@ use Rattle.pres_plan.proofs.Spots.{none_gone, one_more_gone}
 use Rattle.pres_plan.proofs.standing.Standing.remove_all.Goals as goal
 
 pub loop-number-init : goal.loop-number-init
-loop-number-init c = record { tells = c.requires.tells; tops = λ rows h. h; rows = none_gone c.args.self.now.rows.entries; ordered = c.len.ensures.ordered }
+loop-number-init c = record { tells = c.requires.tells; tops = λ rows h. h; rows = none_gone c.args.self.now.rows }
 
 pub loop-number-preserved : goal.loop-number-preserved
 loop-number-preserved c =
     let ns = c.args.numbers.now in
     let i = c.loop-number.number-index in
-    let old = c.args.self.now.rows.entries in
+    let old = c.args.self.now.rows in
     record {
       tells = c.remove.ensures.tells;
       tops = λ rows h. c.remove.ensures.tops rows (c.loop-number.invariant.tops rows h);
@@ -19,5 +19,4 @@ loop-number-preserved c =
           ∙ ap (filter (λ e. not (eqb (get_or ns i 0) e.0))) c.loop-number.invariant.rows
           ∙ one_more_gone (get_or ns i 0) (take i ns) old
           ∙ ap (λ l. filter (λ e. not (list_any (λ n. eqb n e.0) l)) old) (sym (take_more ns i 0 c.loop-number-test.true));
-      ordered = c.remove.ensures.ordered;
     }

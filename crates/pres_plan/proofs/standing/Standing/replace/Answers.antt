@@ -17,9 +17,9 @@ pub add_all-requires-clause-apart : goal.add_all-requires-clause-apart
 add_all-requires-clause-apart c =
     ap overlap (sym (map_twice (λ a. a.row) (λ (row : PlanRow). path_of row.action) c.in_ok-arrivals.arrivals.items) ∙ ap (map (λ row. path_of row.action)) c.in_ok-arrivals.ensures.rows) ∙ c.requires.apart
 
-left : (c : goal.After-drop-covered-in-Ok) → values_of c.remove_all.new.self.rows.entries ≡ filter (is_left c.args.rows.items) (values_of c.args.self.now.rows.entries) ++ c.args.rows.items
+left : (c : goal.After-drop-covered-in-Ok) → values_of c.remove_all.new.self.rows ≡ filter (is_left c.args.rows.items) (values_of c.args.self.now.rows) ++ c.args.rows.items
 left c =
-    let old = c.args.self.now.rows.entries in
+    let old = c.args.self.now.rows in
     let places = c.args.self.now.places in
     let rows = c.args.rows.items in
     let numbers = c.deref-in-Ok.result.now in
@@ -31,7 +31,7 @@ left c =
     (λ n.
     ap (list_any (λ m. eqb m n)) c.deref-in-Ok.ensures.value
     ∙ c.in_ok-covered.ensures.numbers n
-    ∙ ap (list_any (λ row. list_any (λ m. eqb m n) (numbers_below (path_of row.action) places.entries))) c.deref.ensures.value)
+    ∙ ap (list_any (λ row. list_any (λ m. eqb m n) (numbers_below (path_of row.action) places))) c.deref.ensures.value)
     ∙ ap (λ l. filter (is_left rows) (values_of old) ++ l) (more.2 ∙ c.in_ok-arrivals.ensures.rows)
 
 pub returns-in-Ok-clause-ok : goal.returns-in-Ok-clause-ok
@@ -39,6 +39,6 @@ returns-in-Ok-clause-ok c = left c
 
 pub returns-in-Ok-clause-tops : goal.returns-in-Ok-clause-tops
 returns-in-Ok-clause-tops c =
-    let old = values_of c.args.self.now.rows.entries in
-    tops_after old c.args.rows.items c.remove_all.new.self.places c.remove_all.new.self.rows.entries (left c) c.requires.apart c.remove_all.ensures.tells
+    let old = values_of c.args.self.now.rows in
+    tops_after old c.args.rows.items c.remove_all.new.self.places c.remove_all.new.self.rows (left c) c.requires.apart c.remove_all.ensures.tells
     (c.remove_all.ensures.tops old (c.in-Ok.ensures.tops old c.requires.standing.tops c.in_ok-arrivals.ensures.tops))
