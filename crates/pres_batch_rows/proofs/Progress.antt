@@ -37,25 +37,29 @@ open_if_begun g sql params old new (inr h) = open_if_shown sql params (state g o
 
 -- ---- the rows so far
 
-taken_push : {T : Type 0} (takes : T → RowContent → T → Type 0) (given : List RowContent) (row : RowContent) (old mid new : T) → TakesAll takes given old mid → takes mid row new → TakesAll takes (given ++ row ∷ []) old new
+pub taken_push : {T : Type 0} (takes : T → RowContent → T → Type 0) (given : List RowContent) (row : RowContent) (old mid new : T) → TakesAll takes given old mid → takes mid row new → TakesAll takes (given ++ row ∷ []) old new
 taken_push takes [] row old mid new h one = (new, subst (λ m. takes m row new) h one, refl)
 taken_push takes (first ∷ given) row old mid new h one = (h.0, h.1, taken_push takes given row h.0 mid new h.2 one)
 
--- the query has given so many rows, and what they save was taken
-pub record Progress {S T : Type 0} (g : Ghosts S) (takes : T → RowContent → T → Type 0) (first : Held S) (start : T) (held : Held S) (taker : T) (count : ℕ) : Type 0 where
+-- the query has given so many rows, which save these
+pub record Progress {S : Type 0} (g : Ghosts S) (first held : Held S) (saved : List RowContent) (count : ℕ) : Type 0 where
   pub given : List Row
-  pub saved : List RowContent
   pub has : HasGiven g select_text [] held given
   pub same : IsUnchanged (state g first) (state g held)
   pub reads : saved_from 1 given ≡ Ok saved
-  pub taken : TakesAll takes saved start taker
   pub counted : count ≡ length given
 
+-- these were taken, and the query gave them where the disk is clean
+pub record SoFar {S T : Type 0} (g : Ghosts S) (takes : T → RowContent → T → Type 0) (first : Held S) (start : T) (held : Held S) (taker : T) (count : ℕ) : Type 0 where
+  pub saved : List RowContent
+  pub taken : TakesAll takes saved start taker
+  pub read : HasCleanDisk (state g held) → (k : ℕ) → Awaits (state g first) k → Progress g first held saved count
+
 module _ {S T : Type 0} (g : Ghosts S) (takes : T → RowContent → T → Type 0) (refuses : T → RowContent → SavedFault → T → Type 0) (first : Held S) (start : T) (ours : IsOurs (state g first)) where
-  pub progress_begins : (held : Held S) → HasBegun g select_text [] first held → Progress g takes first start held start 0
+  pub progress_begins : (held : Held S) → HasBegun g select_text [] first held → Progress g first held [] 0
   progress_begins held begun =
       let it = begun_same select_text rows_are_read g first held begun in
-      record { given = []; saved = []; has = it.0; same = it.1; reads = refl; taken = refl; counted = refl }
+      record { given = []; has = it.0; same = it.1; reads = refl; counted = refl }
 
   ours_later : (held : Held S) → IsUnchanged (state g first) (state g held) → IsOurs (state g held)
   ours_later held same = record {
@@ -73,23 +77,28 @@ module _ {S T : Type 0} (g : Ghosts S) (takes : T → RowContent → T → Type 
       let it = begins (state g held) given (ours_later held same) (given_begin g select_text [] held given has) in
       (it.0, it.1 ∙ shown_later held same)
 
-  module _ (held : Held S) (taker : T) (count : ℕ) (p : Progress g takes first start held taker count) where
+  module _ (held : Held S) (taker : T) (count : ℕ) (saved : List RowContent) (taken : TakesAll takes saved start taker) (p : Progress g first held saved count) where
     -- no row is to come
+    pub read_all : (new : Held S) → Advances g held new None → saved_rows (shown_rows (state g first)) ≡ Ok saved
+    read_all new moved =
+        let all : p.given ≡ shown_rows (state g first) = loads (state g held) (state g new) p.given (ours_later held p.same) (moved select_text [] p.given p.has) ∙ shown_later held p.same in
+        ap saved_rows (sym all) ∙ p.reads
+
     pub ends : (new : Held S) → Advances g held new None → GoesOver takes refuses (shown_rows (state g first)) start taker (Ok tt)
     ends new moved =
         let all : p.given ≡ shown_rows (state g first) = loads (state g held) (state g new) p.given (ours_later held p.same) (moved select_text [] p.given p.has) ∙ shown_later held p.same in
-        let front : saved_front (shown_rows (state g first)) ≡ p.saved = ap saved_front (sym all) ∙ front_all 1 p.given p.saved p.reads in
-        (ap saved_rows (sym all) ∙ p.reads ∙ ap Ok (sym front), subst (λ rows. TakesAll takes rows start taker) (sym front) p.taken)
+        let front : saved_front (shown_rows (state g first)) ≡ saved = ap saved_front (sym all) ∙ front_all 1 p.given saved p.reads in
+        (ap saved_rows (sym all) ∙ p.reads ∙ ap Ok (sym front), subst (λ rows. TakesAll takes rows start taker) (sym front) taken)
 
     -- the database gives no more, or memory is refused
     pub stops : (e : SavedFault) → (e ≡ Memory) ⊎ (e ≡ DatabaseFault) → GoesOver takes refuses (shown_rows (state g first)) start taker (Err e)
     stops e why =
         let all = all_rows held p.given p.has p.same in
         inr (inr (record {
-          given = p.saved;
+          given = saved;
           rest = front_from (1 + length p.given) all.0;
-          parts = ap saved_front (sym all.1) ∙ front_append 1 p.given all.0 p.saved p.reads;
-          taken = p.taken;
+          parts = ap saved_front (sym all.1) ∙ front_append 1 p.given all.0 saved p.reads;
+          taken = taken;
           why = why;
         }))
 
@@ -108,27 +117,25 @@ module _ {S T : Type 0} (g : Ghosts S) (takes : T → RowContent → T → Type 
       meets k due is =
           let all = all_rows new (p.given ++ row ∷ []) given_more still_same in
           let whole : p.given ++ row ∷ all.0 ≡ shown_rows (state g first) = sym (append_assoc p.given (row ∷ []) all.0) ∙ all.1 in
-          let it = saved_stops 1 k p.given all.0 row p.saved p.reads (omega (arith, p.counted, due)) is in
+          let it = saved_stops 1 k p.given all.0 row saved p.reads (omega (arith, p.counted, due)) is in
           inl (record {
             k = k;
             bad = ap saved_rows (sym whole) ∙ it.0;
             why = refl;
-            taken = subst (λ rows. TakesAll takes rows start taker) (sym (ap saved_front (sym whole) ∙ it.1)) p.taken;
+            taken = subst (λ rows. TakesAll takes rows start taker) (sym (ap saved_front (sym whole) ∙ it.1)) taken;
           })
 
       module _ (s : RowContent) (reads : saved_row (count + 1) row ≡ Some s) where
-        pushed : saved_from 1 (p.given ++ row ∷ []) ≡ Ok (p.saved ++ s ∷ [])
-        pushed = saved_push 1 (count + 1) p.given row p.saved s p.reads (omega (arith, p.counted)) reads
+        pushed : saved_from 1 (p.given ++ row ∷ []) ≡ Ok (saved ++ s ∷ [])
+        pushed = saved_push 1 (count + 1) p.given row saved s p.reads (omega (arith, p.counted)) reads
 
-        -- the row is taken
-        pub progress_more : (last : T) → takes taker s last → Progress g takes first start new last (count + 1)
-        progress_more last took = record {
+        -- the row is given
+        pub progress_more : Progress g first new (saved ++ s ∷ []) (count + 1)
+        progress_more = record {
           given = p.given ++ row ∷ [];
-          saved = p.saved ++ s ∷ [];
           has = given_more;
           same = still_same;
           reads = pushed;
-          taken = taken_push takes p.saved s start taker last p.taken took;
           counted = counted_more;
         }
 
@@ -137,12 +144,12 @@ module _ {S T : Type 0} (g : Ghosts S) (takes : T → RowContent → T → Type 
         refuses_it last e refusal =
             let all = all_rows new (p.given ++ row ∷ []) given_more still_same in
             inr (inl (record {
-              given = p.saved;
+              given = saved;
               row = s;
               rest = front_from (1 + length (p.given ++ row ∷ [])) all.0;
               mid = taker;
-              parts = ap saved_front (sym all.1) ∙ front_append 1 (p.given ++ row ∷ []) all.0 (p.saved ++ s ∷ []) pushed ∙ append_assoc p.saved (s ∷ []) _;
-              taken = p.taken;
+              parts = ap saved_front (sym all.1) ∙ front_append 1 (p.given ++ row ∷ []) all.0 (saved ++ s ∷ []) pushed ∙ append_assoc saved (s ∷ []) _;
+              taken = taken;
               refused = refusal;
             }))
 
@@ -156,7 +163,7 @@ still s = record { clean = omega arith; shield = λ h. h; counts = omega arith; 
 
 module _ {S T : Type 0} (g : Ghosts S) (takes : T → RowContent → T → Type 0) (refuses : T → RowContent → SavedFault → T → Type 0) (first : Held S) (start : T) (held now : Held S) (taker : T) (count : ℕ)
     (k : ℕ) (awaits : Awaits (state g first) k) (kept : Survives (state g first) (state g held) (λ _. ⊥))
-    (so_far : HasCleanDisk (state g held) → (k : ℕ) → Awaits (state g first) k → Progress g takes first start held taker count)
+    (so_far : SoFar g takes first start held taker count)
     (moved : Survives (state g held) (state g now) (λ _. ⊥)) (clean : HasCleanDisk (state g now)) where
   held_clean : HasCleanDisk (state g held)
   held_clean = omega (arith, moved.clean, clean)
@@ -164,29 +171,31 @@ module _ {S T : Type 0} (g : Ghosts S) (takes : T → RowContent → T → Type 
   pub first_clean : HasCleanDisk (state g first)
   first_clean = omega (arith, moved.clean, kept.clean, clean)
 
-  progress : Progress g takes first start held taker count
-  progress = so_far held_clean k awaits
+  progress : Progress g first held so_far.saved count
+  progress = so_far.read held_clean k awaits
 
   ours : IsOurs (state g first)
   ours = ((awaits first_clean).ready progress.same.0.was_open).ours
 
+  pub at_end_read : Advances g held now None → saved_rows (shown_rows (state g first)) ≡ Ok so_far.saved
+  at_end_read = read_all g takes refuses first start ours held taker count so_far.saved so_far.taken progress now
+
   pub at_end : Advances g held now None → GoesOver takes refuses (shown_rows (state g first)) start taker (Ok tt)
-  at_end = ends g takes refuses first start ours held taker count progress now
+  at_end = ends g takes refuses first start ours held taker count so_far.saved so_far.taken progress now
 
   pub at_stop : (e : SavedFault) → (e ≡ Memory) ⊎ (e ≡ DatabaseFault) → GoesOver takes refuses (shown_rows (state g first)) start taker (Err e)
-  at_stop = stops g takes refuses first start ours held taker count progress
+  at_stop = stops g takes refuses first start ours held taker count so_far.saved so_far.taken progress
 
   pub at_bad_row : (row : Row) → Advances g held now (Some row) → IsUnchanged (state g held) (state g now) → (due : ℕ) → due ≡ count + 1 → saved_row due row ≡ None
       → GoesOver takes refuses (shown_rows (state g first)) start taker (Err (BadRow due))
-  at_bad_row row next same = meets g takes refuses first start ours held taker count progress row now next same
+  at_bad_row row next same = meets g takes refuses first start ours held taker count so_far.saved so_far.taken progress row now next same
 
   pub at_refusal : (row : Row) → Advances g held now (Some row) → IsUnchanged (state g held) (state g now) → (s : RowContent) → saved_row (count + 1) row ≡ Some s → (last : T) (e : SavedFault) → refuses taker s e last
       → GoesOver takes refuses (shown_rows (state g first)) start last (Err e)
-  at_refusal row next same s reads = refuses_it g takes refuses first start ours held taker count progress row now next same s reads
+  at_refusal row next same s reads = refuses_it g takes refuses first start ours held taker count so_far.saved so_far.taken progress row now next same s reads
 
-  pub at_next : (row : Row) → Advances g held now (Some row) → IsUnchanged (state g held) (state g now) → (s : RowContent) → saved_row (count + 1) row ≡ Some s → (last : T) → takes taker s last
-      → Progress g takes first start now last (count + 1)
-  at_next row next same s reads = progress_more g takes refuses first start ours held taker count progress row now next same s reads
+  pub at_next : (row : Row) → Advances g held now (Some row) → IsUnchanged (state g held) (state g now) → (s : RowContent) → saved_row (count + 1) row ≡ Some s → Progress g first now (so_far.saved ++ s ∷ []) (count + 1)
+  at_next row next same s reads = progress_more g takes refuses first start ours held taker count so_far.saved so_far.taken progress row now next same s reads
 
   pub left_at : (IsTrue (state g first).is_open → (state g first).now ≡ (state g first).committed) → IsUnchanged (state g held) (state g now) ⊎ IsRolledBack (state g held) (state g now)
       → IsLeft (state g first) (state g now)

@@ -10,6 +10,12 @@ abbrev pub TakesAll : {T : Type 0} → (T → RowContent → T → Type 0) → L
 TakesAll {T} takes [] old new = new ≡ old
 TakesAll {T} takes (row ∷ more) old new = (mid : T) × takes old row mid × TakesAll takes more mid new
 
+-- some rows were taken in turn, of which this holds
+pub record TakesRows {T : Type 0} (takes : T → RowContent → T → Type 0) (holds : List RowContent → Type 0) (old new : T) : Type 0 where
+  pub rows : List RowContent
+  pub taken : TakesAll takes rows old new
+  pub held : holds rows
+
 module _ {T : Type 0} (takes : T → RowContent → T → Type 0) (refuses : T → RowContent → SavedFault → T → Type 0) where
   -- these were taken, and then the database gave no more or memory was refused
   pub record StopsEarly (front : List RowContent) (old new : T) (e : SavedFault) : Type 0 where

@@ -10,7 +10,7 @@ ghost use Rattle.pres_batch_rows.specs.TableOpening.{HasFormat, LacksFormat, IsF
 ghost use Rattle.pres_batch_rows.specs.TableCreation.{IsMade, HoldsFormat, Makes, FailsToMake, making_fault};
 ghost use Rattle.pres_batch_rows.specs.Schemas.{no_schema};
 ghost use Rattle.pres_batch_rows.specs.RowContents.{saved_of, saved_rows, shown_rows, stored, rows_in};
-ghost use Rattle.pres_batch_rows.specs.RowIteration.{GoesOver};
+ghost use Rattle.pres_batch_rows.specs.RowIteration.{GoesOver, TakesRows};
 
 use crate::format::find;
 use crate::insert::insert;
@@ -170,11 +170,16 @@ impl<S: Alter + Drop> BatchTable<S> {
     }
 
     /// Gives each row to the taker, in the order of their numbers, one at a time. It ends at the
-    /// first row that is none (`BadRow` with the number that was due), or that is refused.
+    /// first row that is none (`BadRow` with the number that was due), or that is refused. Whatever
+    /// the store gave, some rows were taken in turn.
     pub fn each<T: Take>(&mut self, alloc: Global, taker: &mut T) -> Result<(), SavedFault>
         ensures goes { HasCleanDisk (state S.Store self.new.connection) → Serves S.Store self.old
             → GoesOver T.takes T.refuses (shown_rows (state S.Store self.old.connection))
             taker.old taker.new result }
+        ensures taken { OnOk result (TakesRows T.takes
+            (λ rows. HasCleanDisk (state S.Store self.new.connection) → Serves S.Store self.old
+            → saved_rows (shown_rows (state S.Store self.old.connection)) ≡ Ok rows)
+            taker.old taker.new) }
         ensures left { HasCleanDisk (state S.Store self.new.connection) → Serves S.Store self.old
             → IsLeft (state S.Store self.old.connection) (state S.Store self.new.connection) }
         ensures same { HasCleanDisk (state S.Store self.new.connection) → Serves S.Store self.old

@@ -1,11 +1,11 @@
 //! Going over the saved rows, one at a time.
 
-ghost use Rattle.std.specs.Prelude.{◌≡◌, ◌++◌, ◌∷◌, [], map, IfErr, OnOk};
+ghost use Rattle.std.specs.Prelude.{◌≡◌, ◌++◌, ◌∷◌, [], map, Ok, IfErr, OnOk};
 ghost use Rattle.sqlite.specs.Held.{state};
 ghost use Rattle.sqlite.specs.State.{HasCleanDisk, IsUnchanged, Survives};
 ghost use Rattle.pres_batch_rows.specs.TableStates.{Awaits, IsLeft};
-ghost use Rattle.pres_batch_rows.specs.RowContents.{RowContent, saved_of, shown_rows};
-ghost use Rattle.pres_batch_rows.specs.RowIteration.{GoesOver};
+ghost use Rattle.pres_batch_rows.specs.RowContents.{RowContent, saved_of, saved_rows, shown_rows};
+ghost use Rattle.pres_batch_rows.specs.RowIteration.{GoesOver, TakesRows};
 ghost use Rattle.pres_faults.specs.declared.saved_fault.SavedFault.{SavedFault as Fault};
 
 use crate::row::{SavedRow, read_row};
@@ -37,6 +37,11 @@ pub(crate) fn go_over<S: Alter, T: Take>(
         → (k : _) → Awaits (state S.Store connection.old) k
         → GoesOver T.takes T.refuses (shown_rows (state S.Store connection.old))
         taker.old taker.new result }
+    ensures taken { OnOk result (TakesRows T.takes
+        (λ rows. HasCleanDisk (state S.Store connection.new)
+        → (k : _) → Awaits (state S.Store connection.old) k
+        → saved_rows (shown_rows (state S.Store connection.old)) ≡ Ok rows)
+        taker.old taker.new) }
     ensures left { HasCleanDisk (state S.Store connection.new)
         → (k : _) → Awaits (state S.Store connection.old) k
         → IsLeft (state S.Store connection.old) (state S.Store connection.new) }

@@ -12,11 +12,12 @@ use Rattle.pres_log.specs.Logs.{Log, entries}
 use Rattle.pres_log.proofs.Entries.{entries-push}
 use Rattle.pres_server.specs.declared.input.Input.{Input}
 use Rattle.pres_server.specs.declared.input.Input.TheVariants as input
-use Rattle.pres_server.specs.ServerStates.{ServerState}
 use Rattle.pres_server.specs.LegalLog.{IsLegal}
 use Rattle.pres_server.specs.Sessions.{opens, is_open}
-use Rattle.pres_server.specs.Streams.{answers}
-use Rattle.pres_server.specs.Turns.{Decision, refused, quiet, makes, turn, moment_of, batch_of}
+use Rattle.pres_server.specs.Turns.{Decision, refused, quiet, makes}
+use Rattle.pres_server.specs.SumStates.{SumState}
+use Rattle.pres_server.specs.SumAnswers.{answers_by}
+use Rattle.pres_server.specs.SumTurns.{turn_by, moment_by, batch_by, after_commit}
 use Rattle.pres_ring.specs.AcceptedMessages.{is_hello_of}
 use Rattle.pres_ring.specs.Transcripts.{transcript, those_for, is_gone_for, BeginsTranscript}
 use Rattle.pres_ring.proofs.Answered.{answers_are_told}
@@ -24,9 +25,10 @@ use Rattle.pres_ring.proofs.OpenAfter.{open_after}
 use Rattle.pres_ring.proofs.Turns.{only_hello_opens}
 use Rattle.pres_ring.specs.Lines.{SessionLine, Lines, line_at}
 use Rattle.pres_ring.specs.Deliveries.{FitsTranscript, SentAfter, LeavesOrIsPut, LineAfter}
-use Rattle.pres_keeper.specs.Engines.{Runs}
-use Rattle.pres_keeper.specs.EngineTurns.{IsDone, IsTurnDone}
+use Rattle.pres_keeper.specs.Keepers.{MakesSum}
+use Rattle.pres_keeper.specs.EngineTurns.{IsDone, IsTurnDone, log_made, log_turned}
 use Rattle.pres_dispatch.specs.Dispatches.{is_hello, CarriesTranscript, CarryTranscripts}
+use Rattle.pres_dispatch.proofs.Behind.{of_log, legal_by, made_by, leads_by, answers_are}
 
 no_hello : (s : SessionId) (i : Input) → is_hello i ≡ false → is_hello_of s i ≡ false
 no_hello s (input.Up (up.Hello t)) h = absurd (cc h)
@@ -90,69 +92,48 @@ or_false : (x : Bool) → (x || false) ≡ x
 or_false true = refl
 or_false false = refl
 
-pub legal_now : (new : Option ServerState) (state : ServerState) → Runs (λ s. IsLegal s.log) new → new ≡ Some state → IsLegal state.log
-legal_now new state legal e = subst (Runs (λ s. IsLegal s.log)) e legal
-
-module _ (state : ServerState) (now : ℕ) (i : Input) (plain : is_hello i ≡ false) (new : Option ServerState) (outs : List Down) (lines : Lines) (legal : Runs (λ s. IsLegal s.log) new) (told_before : CarryTranscripts (entries state.log) lines) where
+module _ (log : Log) (s : SumState) (leads : MakesSum log s.sum) (now : ℕ) (i : Input) (plain : is_hello i ≡ false) (new : Option SumState) (outs : List Down) (lines : Lines) (told_before : CarryTranscripts (entries log) lines) where
   abbrev batch : List Entry → Batch
-  batch es = batch_of state.log (moment_of state.log now) es
+  batch es = batch_by s.sum (moment_by s.sum now) es
 
   abbrev later : List Entry → Log
-  later es = state.log ++ batch es ∷ []
+  later es = log ++ batch es ∷ []
 
-  told_made : (s : SessionId) (es : List Entry) → IsLegal (later es) → outs ≡ answers (entries state.log) es → transcript s (entries (later es)) ≡ transcript s (entries state.log) ++ those_for s outs
-  told_made s es l a = answers_are_told s state.log (batch es) l ∙ ap (λ ms. transcript s (entries state.log) ++ those_for s ms) (sym a)
+  legal_later : (es : List Entry) → turn_by s i now ≡ makes es → IsLegal (later es)
+  legal_later es k = legal_by (later es) (after_commit s (moment_by s.sum now) es) (leads_by log s leads i now es k)
 
-  open_made : (s : SessionId) (es : List Entry) → IsLegal (later es) → turn state i now ≡ makes es → outs ≡ answers (entries state.log) es
-      → is_open s (entries (later es)) ≡ (is_open s (entries state.log) && not (list_any (is_gone_for s) outs))
-  open_made s es l k a =
-      open_after s state.log (batch es) l
-      ∙ (λ j. (is_open s (entries state.log) && not (list_any (is_gone_for s) (sym a j))) || (only_hello_opens s state i now es k ∙ no_hello s i plain) j)
+  told_made : (t : SessionId) (es : List Entry) → turn_by s i now ≡ makes es → outs ≡ answers_by s.sum es → transcript t (entries (later es)) ≡ transcript t (entries log) ++ those_for t outs
+  told_made t es k a = answers_are_told t log (batch es) (legal_later es k) ∙ ap (λ ms. transcript t (entries log) ++ those_for t ms) (sym (a ∙ answers_are log s leads i now es k))
+
+  open_made : (t : SessionId) (es : List Entry) → turn_by s i now ≡ makes es → outs ≡ answers_by s.sum es
+      → is_open t (entries (later es)) ≡ (is_open t (entries log) && not (list_any (is_gone_for t) outs))
+  open_made t es k a =
+      open_after t log (batch es) (legal_later es k)
+      ∙ (λ j. (is_open t (entries log) && not (list_any (is_gone_for t) (sym (a ∙ answers_are log s leads i now es k) j))) || (only_hello_opens t (of_log log s) i now es (made_by log s leads i now es k) ∙ no_hello t i plain) j)
       ∙ or_false _
 
-  nothing_told : (s : SessionId) → transcript s (entries state.log) ≡ transcript s (entries state.log) ++ []
-  nothing_told s = sym (append-nil (transcript s (entries state.log)))
+  nothing_told : (t : SessionId) → transcript t (entries log) ≡ transcript t (entries log) ++ []
+  nothing_told t = sym (append-nil (transcript t (entries log)))
 
   and_true : (x : Bool) → x ≡ (x && true)
   and_true true = refl
   and_true false = refl
 
-  pub with_told : IsTurnDone (Some state) i now new outs → (s : SessionId) → FitsTranscript s outs (line_at s lines)
-  with_told turned s = by (turn state i now) refl turned where
-    by : (d : Decision) → turn state i now ≡ d → IsDone d state (moment_of state.log now) i new outs → FitsTranscript s outs (line_at s lines)
+  pub with_told : IsTurnDone (Some s) i now new outs → (t : SessionId) → FitsTranscript t outs (line_at t lines)
+  with_told turned t = by (turn_by s i now) refl turned where
+    by : (d : Decision) → turn_by s i now ≡ d → IsDone d s (moment_by s.sum now) i new outs → FitsTranscript t outs (line_at t lines)
     by (refused f) k done = absurd done
     by quiet k done =
-        line_with s (entries state.log) state.log outs (line_at s lines) (legal_now new _ legal done.0) (nothing_told s ∙ ap (λ ms. transcript s (entries state.log) ++ those_for s ms) (sym done.1)) (λ o. o) (told_before s)
+        line_with t (entries log) log outs (line_at t lines) (legal_by log s leads) (nothing_told t ∙ ap (λ ms. transcript t (entries log) ++ those_for t ms) (sym done.1)) (λ o. o) (told_before t)
     by (makes es) k done =
-        let l : IsLegal (later es) = legal_now new _ legal done.0 in
-        line_with s (entries state.log) (later es) outs (line_at s lines) l (told_made s es l done.1) (still_open s state.log (batch es)) (told_before s)
+        line_with t (entries log) (later es) outs (line_at t lines) (legal_later es k) (told_made t es k done.1) (still_open t log (batch es)) (told_before t)
 
-  pub told_after : IsTurnDone (Some state) i now new outs → (after : Lines) → ((s : SessionId) → LineAfter s outs (line_at s lines) (line_at s after)) → Runs (λ s. CarryTranscripts (entries s.log) after) new
-  told_after turned after put = by (turn state i now) refl turned where
-    by : (d : Decision) → turn state i now ≡ d → IsDone d state (moment_of state.log now) i new outs → Runs (λ s. CarryTranscripts (entries s.log) after) new
+  pub told_after : IsTurnDone (Some s) i now new outs → (after : Lines) → ((t : SessionId) → LineAfter t outs (line_at t lines) (line_at t after)) → CarryTranscripts (entries (log_turned log (Some s) i now)) after
+  told_after turned after put = by (turn_by s i now) refl turned where
+    by : (d : Decision) → turn_by s i now ≡ d → IsDone d s (moment_by s.sum now) i new outs → CarryTranscripts (entries (log_made log s.sum (moment_by s.sum now) d)) after
     by (refused f) k done = absurd done
-    by quiet k done =
-        subst (Runs (λ s. CarryTranscripts (entries s.log) after)) (sym done.0)
-        (λ s. line_told s (entries state.log) (entries state.log) outs (line_at s lines) (line_at s after) (nothing_told s ∙ ap (λ ms. transcript s (entries state.log) ++ those_for s ms) (sym done.1))
-        (and_true (is_open s (entries state.log)) ∙ ap (λ ms. is_open s (entries state.log) && not (list_any (is_gone_for s) ms)) (sym done.1)) (told_before s) (put s))
-    by (makes es) k done =
-        let l : IsLegal (later es) = legal_now new _ legal done.0 in
-        subst (Runs (λ s. CarryTranscripts (entries s.log) after)) (sym done.0)
-        (λ s. line_told s (entries state.log) (entries (later es)) outs (line_at s lines) (line_at s after) (told_made s es l done.1) (open_made s es l k done.1) (told_before s) (put s))
-
--- ---- over a server that may be gone
-
-pub with_told_at : (old new : Option ServerState) (i : Input) (now : ℕ) (outs : List Down) (lines : Lines) → is_hello i ≡ false → Runs (λ s. IsLegal s.log) new → Runs (λ s. CarryTranscripts (entries s.log) lines) old → IsTurnDone old i now new outs
-    → (s : SessionId) → FitsTranscript s outs (line_at s lines)
-with_told_at None new i now outs lines plain legal told_before turned s = absurd turned
-with_told_at (Some state) new i now outs lines plain legal told_before turned s = with_told state now i plain new outs lines legal told_before turned s
-
-pub told_after_at : (old new : Option ServerState) (i : Input) (now : ℕ) (outs : List Down) (lines after : Lines) → is_hello i ≡ false → Runs (λ s. IsLegal s.log) new → Runs (λ s. CarryTranscripts (entries s.log) lines) old → IsTurnDone old i now new outs
-    → ((s : SessionId) → LineAfter s outs (line_at s lines) (line_at s after)) → Runs (λ s. CarryTranscripts (entries s.log) after) new
-told_after_at None new i now outs lines after plain legal told_before turned put = absurd turned
-told_after_at (Some state) new i now outs lines after plain legal told_before turned put = told_after state now i plain new outs lines legal told_before turned after put
-
--- without an open session no line is needed
-pub none_told : (server : Option ServerState) (lines : Lines) → lines ≡ [] → Runs (λ s. (t : SessionId) → is_open t (entries s.log) ≡ false) server → Runs (λ s. CarryTranscripts (entries s.log) lines) server
-none_told None lines e h = tt
-none_told (Some state) lines e h = λ t. subst (λ l. CarriesTranscript (entries state.log) t (line_at t l)) (sym e) (h t)
+    by quiet k done = λ t.
+        line_told t (entries log) (entries log) outs (line_at t lines) (line_at t after) (nothing_told t ∙ ap (λ ms. transcript t (entries log) ++ those_for t ms) (sym done.1))
+        (and_true (is_open t (entries log)) ∙ ap (λ ms. is_open t (entries log) && not (list_any (is_gone_for t) ms)) (sym done.1)) (told_before t) (put t)
+    by (makes es) k done = λ t.
+        line_told t (entries log) (entries (later es)) outs (line_at t lines) (line_at t after) (told_made t es k done.1) (open_made t es k done.1) (told_before t) (put t)

@@ -11,30 +11,31 @@ use Rattle.pres_log.specs.declared.entry.Batch.{Batch}
 use Rattle.pres_log.specs.declared.entry.Entry.{Entry}
 use Rattle.pres_log.specs.Logs.{Log, entries}
 use Rattle.pres_log.proofs.Entries.{entries-push}
-use Rattle.pres_server.specs.declared.input.Input.{Input}
 use Rattle.pres_server.specs.declared.input.Input.TheVariants as input
-use Rattle.pres_server.specs.ServerStates.{ServerState}
 use Rattle.pres_server.specs.LegalLog.{IsLegal}
 use Rattle.pres_server.specs.Sessions.{opens, is_open}
 use Rattle.pres_server.specs.Streams.{answers}
-use Rattle.pres_server.specs.Turns.{Decision, refused, quiet, makes, turn, moment_of, batch_of, state_after}
+use Rattle.pres_server.specs.Turns.{Decision, refused, quiet, makes}
+use Rattle.pres_server.specs.SumStates.{SumState}
+use Rattle.pres_server.specs.SumAnswers.{answers_by}
+use Rattle.pres_server.specs.SumTurns.{turn_by, moment_by, batch_by, after_commit}
 use Rattle.pres_server.proofs.Since.{session_itself, session_same}
 use Rattle.pres_ring.specs.Transcripts.{transcript, names, those_for, is_gone, is_gone_for, BeginsTranscript, IsWelcome}
 use Rattle.pres_ring.specs.RingEnds.{FeedState, OutboxState}
 use Rattle.pres_ring.specs.Laws.{IsWelcomed}
 use Rattle.pres_ring.proofs.ForSession.{those-append}
-use Rattle.pres_ring.proofs.Answered.{answers_are_told, split_last}
+use Rattle.pres_ring.proofs.Answered.{answers_are_told}
 use Rattle.pres_ring.proofs.OpenAfter.{open_after}
 use Rattle.pres_ring.proofs.Turns.{only_hello_opens, hello_is_not_quiet}
 use Rattle.pres_ring.proofs.Welcomed.{hello_is_welcomed}
 use Rattle.pres_ring.specs.Lines.{SessionLine, Lines, line_at, fed, kept_or_blank, ChangesAt}
 use Rattle.pres_ring.specs.Deliveries.{FitsTranscript, IsPut, LeavesOrIsPut, LineAfter, LineFits}
-use Rattle.pres_faults.specs.declared.engine_fault.EngineFault.{EngineFault}
-use Rattle.pres_faults.specs.declared.engine_fault.EngineFault.TheVariants as fault
+use Rattle.pres_keeper.specs.Keepers.{MakesSum}
 use Rattle.pres_keeper.specs.Engines.{Runs}
-use Rattle.pres_keeper.specs.EngineTurns.{IsDone, IsTurnDone, IsTurnRefused}
-use Rattle.pres_dispatch.specs.Dispatches.{CarriesTranscript, CarryTranscripts, LastIsFor, LinesJoined, IsJoined}
-use Rattle.pres_dispatch.proofs.Answered.{line_with, line_told, still_open, legal_now}
+use Rattle.pres_keeper.specs.EngineTurns.{IsDone, IsTurnDone, log_made, log_turned}
+use Rattle.pres_dispatch.specs.Dispatches.{DispatcherState, CarriesTranscript, CarryTranscripts, StandsBehind, SomeStands, LastIsFor, LinesJoined, IsJoined}
+use Rattle.pres_dispatch.proofs.Behind.{of_log, legal_by, turns_by, made_by, leads_by, answers_are}
+use Rattle.pres_dispatch.proofs.Answered.{line_with, line_told, still_open}
 
 and_false : (x : Bool) → (x && false) ≡ false
 and_false true = refl
@@ -136,80 +137,83 @@ same_parts (a ∷ xs) (b ∷ ys) x y e =
 
 -- ---- a Hello
 
-module _ (state : ServerState) (s : SessionId) (now : ℕ) (es : List Entry) (made_now : turn state (input.Up (up.Hello s)) now ≡ makes es) where
+module _ (log : Log) (state : SumState) (leads : MakesSum log state.sum) (s : SessionId) (now : ℕ) (es : List Entry) (made_now : turn_by state (input.Up (up.Hello s)) now ≡ makes es) where
   abbrev made_batch : Batch
-  made_batch = batch_of state.log (moment_of state.log now) es
+  made_batch = batch_by state.sum (moment_by state.sum now) es
 
   abbrev after_log : Log
-  after_log = state.log ++ made_batch ∷ []
+  after_log = log ++ made_batch ∷ []
 
   abbrev said : List Down
-  said = answers (entries state.log) es
+  said = answers_by state.sum es
 
-  legal_before : IsLegal after_log → IsLegal state.log
-  legal_before legal = (split_last [] state.log made_batch legal).0
+  legal_after : IsLegal after_log
+  legal_after = legal_by after_log (after_commit state (moment_by state.sum now) es) (leads_by log state leads (input.Up (up.Hello s)) now es made_now)
 
-  pub is_welcomed : IsLegal after_log → IsWelcomed s (entries state.log) es
-  is_welcomed legal = hello_is_welcomed state s now es (legal_before legal) made_now
+  said_is : said ≡ answers (entries log) es
+  said_is = answers_are log state leads (input.Up (up.Hello s)) now es made_now
+
+  pub is_welcomed : IsWelcomed s (entries log) es
+  is_welcomed = hello_is_welcomed (of_log log state) s now es (legal_by log state leads) (made_by log state leads (input.Up (up.Hello s)) now es made_now)
 
   opened_now : (t : SessionId) → list_any (opens t) es ≡ same_session t s
-  opened_now t = only_hello_opens t state (input.Up (up.Hello s)) now es made_now
+  opened_now t = only_hello_opens t (of_log log state) (input.Up (up.Hello s)) now es (made_by log state leads (input.Up (up.Hello s)) now es made_now)
 
-  told_whole : (legal : IsLegal after_log) → transcript s (entries after_log) ≡ (is_welcomed legal).last ∷ []
-  told_whole legal = ap (transcript s) (entries-push state.log made_batch) ∙ (is_welcomed legal).told_now
+  told_whole : transcript s (entries after_log) ≡ is_welcomed.last ∷ []
+  told_whole = ap (transcript s) (entries-push log made_batch) ∙ is_welcomed.told_now
 
   opened_after : list_any (opens s) (entries after_log) ≡ true
   opened_after =
-      ap (list_any (opens s)) (entries-push state.log made_batch)
-      ∙ list_any-append (opens s) (entries state.log) es
-      ∙ ap (λ b. list_any (opens s) (entries state.log) || b) (opened_now s ∙ session_itself s)
-      ∙ or_true (list_any (opens s) (entries state.log))
+      ap (list_any (opens s)) (entries-push log made_batch)
+      ∙ list_any-append (opens s) (entries log) es
+      ∙ ap (λ b. list_any (opens s) (entries log) || b) (opened_now s ∙ session_itself s)
+      ∙ or_true (list_any (opens s) (entries log))
 
-  pub last_is_for : IsLegal after_log → LastIsFor s said
-  last_is_for legal =
-      let w = is_welcomed legal in
+  pub last_is_for : LastIsFor s said
+  last_is_for =
+      let w = is_welcomed in
       record {
         others = w.others;
         last = w.last;
-        parted = w.answered;
+        parted = said_is ∙ w.answered;
         welcome = w.welcome;
         silent = w.silent;
-        told = record { log = after_log; legal = legal; opened = opened_after; within = ([], append-nil (w.last ∷ []) ∙ sym (told_whole legal)) };
+        told = record { log = after_log; legal = legal_after; opened = opened_after; within = ([], append-nil (w.last ∷ []) ∙ sym told_whole) };
       }
 
-  told_other : (t : SessionId) → IsLegal after_log → transcript t (entries after_log) ≡ transcript t (entries state.log) ++ those_for t said
-  told_other t legal = answers_are_told t state.log made_batch legal
+  told_other : (t : SessionId) → transcript t (entries after_log) ≡ transcript t (entries log) ++ those_for t said
+  told_other t = answers_are_told t log made_batch legal_after ∙ ap (λ ms. transcript t (entries log) ++ those_for t ms) (sym said_is)
 
   -- no line was there for s, and there is a place for it now
-  pub told_with_place : (lines placed : Lines) → IsLegal after_log → CarryTranscripts (entries state.log) lines → ChangesAt s kept_or_blank lines placed → (t : SessionId) → FitsTranscript t said (line_at t placed)
-  told_with_place lines placed legal told_before change t = by (same_session t s) refl (change t) where
+  pub told_with_place : (lines placed : Lines) → CarryTranscripts (entries log) lines → ChangesAt s kept_or_blank lines placed → (t : SessionId) → FitsTranscript t said (line_at t placed)
+  told_with_place lines placed told_before change t = by (same_session t s) refl (change t) where
     by : (b : Bool) → same_session t s ≡ b → line_at t placed ≡ cond b (kept_or_blank (line_at t lines)) (line_at t lines) → FitsTranscript t said (line_at t placed)
-    by true k e = subst (FitsTranscript t said) (sym e) (own (line_at t lines) (subst (λ u. CarriesTranscript (entries state.log) u (line_at t lines)) refl (told_before t))) where
-      own : (line : Option SessionLine) → CarriesTranscript (entries state.log) t line → FitsTranscript t said (kept_or_blank line)
+    by true k e = subst (FitsTranscript t said) (sym e) (own (line_at t lines) (told_before t)) where
+      own : (line : Option SessionLine) → CarriesTranscript (entries log) t line → FitsTranscript t said (kept_or_blank line)
       own None h = tt
-      own (Some l) h = absurd (cc (h.0, ap (λ u. is_open u (entries state.log)) (session_same t s k), (is_welcomed legal).closed))
+      own (Some l) h = absurd (cc (h.0, ap (λ u. is_open u (entries log)) (session_same t s k), is_welcomed.closed))
     by false k e =
         subst (FitsTranscript t said) (sym e)
-        (line_with t (entries state.log) after_log said (line_at t lines) legal (told_other t legal) (still_open t state.log made_batch) (told_before t))
+        (line_with t (entries log) after_log said (line_at t lines) legal_after (told_other t) (still_open t log made_batch) (told_before t))
 
-  open_now : IsLegal after_log → (t : SessionId) → is_open t (entries after_log) ≡ ((is_open t (entries state.log) && not (list_any (is_gone_for t) said)) || same_session t s)
-  open_now legal t = open_after t state.log made_batch legal ∙ ap (λ b. (is_open t (entries state.log) && not (list_any (is_gone_for t) said)) || b) (opened_now t)
+  open_now : (t : SessionId) → is_open t (entries after_log) ≡ ((is_open t (entries log) && not (list_any (is_gone_for t) said)) || same_session t s)
+  open_now t = open_after t log made_batch legal_after ∙ (λ i. (is_open t (entries log) && not (list_any (is_gone_for t) (sym said_is i))) || opened_now t i)
 
   -- behind the delivery, and with its own line, each line is told
-  pub told_when_joined : (lines placed after : Lines) (end : OutboxState) (legal : IsLegal after_log) → CarryTranscripts (entries state.log) lines → ChangesAt s kept_or_blank lines placed → LinesJoined s said placed after end → CarryTranscripts (entries after_log) after
-  told_when_joined lines placed after end legal told_before change joined t = by (same_session t s) refl (change t) where
-    same : joined.last ≡ (is_welcomed legal).last
-    same = (same_parts joined.earlier (is_welcomed legal).others joined.last (is_welcomed legal).last (sym joined.parted ∙ (is_welcomed legal).answered)).1
+  pub told_when_joined : (lines placed after : Lines) (end : OutboxState) → CarryTranscripts (entries log) lines → ChangesAt s kept_or_blank lines placed → LinesJoined s said placed after end → CarryTranscripts (entries after_log) after
+  told_when_joined lines placed after end told_before change joined t = by (same_session t s) refl (change t) where
+    same : joined.last ≡ is_welcomed.last
+    same = (same_parts joined.earlier is_welcomed.others joined.last is_welcomed.last (sym joined.parted ∙ said_is ∙ is_welcomed.answered)).1
 
     by : (b : Bool) → same_session t s ≡ b → line_at t placed ≡ cond b (kept_or_blank (line_at t lines)) (line_at t lines) → CarriesTranscript (entries after_log) t (line_at t after)
     by true k e =
         let is : t ≡ s = session_same t s k in
         subst (λ u. CarriesTranscript (entries after_log) u (line_at u after)) (sym is)
         (subst (CarriesTranscript (entries after_log) s) (sym joined.own)
-        (open_now legal s ∙ ap (λ b. (is_open s (entries state.log) && not (list_any (is_gone_for s) said)) || b) (session_itself s) ∙ or_true _, ap (λ m. m ∷ []) same ∙ sym (told_whole legal)))
+        (open_now s ∙ ap (λ b. (is_open s (entries log) && not (list_any (is_gone_for s) said)) || b) (session_itself s) ∙ or_true _, ap (λ m. m ∷ []) same ∙ sym told_whole))
     by false k e =
-        line_told t (entries state.log) (entries after_log) said (line_at t lines) (line_at t after) (told_other t legal)
-        (open_now legal t ∙ ap (λ b. (is_open t (entries state.log) && not (list_any (is_gone_for t) said)) || b) k ∙ or_false _)
+        line_told t (entries log) (entries after_log) said (line_at t lines) (line_at t after) (told_other t)
+        (open_now t ∙ ap (λ b. (is_open t (entries log) && not (list_any (is_gone_for t) said)) || b) k ∙ or_false _)
         (told_before t) (subst (λ line. LineAfter t said line (line_at t after)) e (joined.others t k))
 
 -- ---- the line that the session gets
@@ -231,53 +235,69 @@ other_line s feed m mid after is change t k =
 -- ---- over a server that may be gone
 
 -- the Hello is done, by these entries
-record IsMade (old new : Option ServerState) (s : SessionId) (now : ℕ) (outs : List Down) : Type 0 where
-  state : ServerState
+record IsMade (old new : Option SumState) (s : SessionId) (now : ℕ) (outs : List Down) : Type 0 where
+  state : SumState
   es : List Entry
   ran : old ≡ Some state
-  turned : turn state (input.Up (up.Hello s)) now ≡ makes es
-  runs : new ≡ Some (state_after state (moment_of state.log now) es)
-  answered : outs ≡ answers (entries state.log) es
+  turned : turn_by state (input.Up (up.Hello s)) now ≡ makes es
+  runs : new ≡ Some (after_commit state (moment_by state.sum now) es)
+  answered : outs ≡ answers_by state.sum es
 
-made_by : (old new : Option ServerState) (s : SessionId) (now : ℕ) (outs : List Down) → IsTurnDone old (input.Up (up.Hello s)) now new outs → IsMade old new s now outs
-made_by None new s now outs turned = absurd turned
-made_by (Some state) new s now outs turned = by (turn state (input.Up (up.Hello s)) now) refl turned where
-  by : (d : Decision) → turn state (input.Up (up.Hello s)) now ≡ d → IsDone d state (moment_of state.log now) (input.Up (up.Hello s)) new outs → IsMade (Some state) new s now outs
-  by (refused f) k done = absurd done
-  by quiet k done = absurd (hello_is_not_quiet state s now k)
-  by (makes es) k done = record { state = state; es = es; ran = refl; turned = k; runs = done.0; answered = done.1 }
+-- some log leads to the sum, by which the lines are told
+abbrev IsTold : Lines → SumState → Type 0
+IsTold lines state = (log : Log) × MakesSum log state.sum × CarryTranscripts (entries log) lines
 
-module _ (old new : Option ServerState) (s : SessionId) (now : ℕ) (outs : List Down) (turned : IsTurnDone old (input.Up (up.Hello s)) now new outs) (legal : Runs (λ st. IsLegal st.log) new) where
-  made_here : IsMade old new s now outs
-  made_here = made_by old new s now outs turned
+is_told : {A : Type 0} (works : A → Type 0) (keeps : A → Log → Type 0) (held : DispatcherState A) (state : SumState) → held.run.server ≡ Some state → SomeStands works keeps held → IsTold held.lines state
+is_told works keeps held state ran stands =
+    let h = subst (Runs (λ st. (log : Log) × StandsBehind works keeps held st log)) ran stands in
+    (h.0, h.1.makes, h.1.told)
 
-  legal_here : IsLegal (after_log made_here.state s now made_here.es made_here.turned)
-  legal_here = legal_now new (state_after made_here.state (moment_of made_here.state.log now) made_here.es) legal made_here.runs
+-- it isn't passed over
+loud : (log : Log) (state : SumState) → MakesSum log state.sum → (s : SessionId) (now : ℕ) → turn_by state (input.Up (up.Hello s)) now ≡ quiet → ⊥
+loud log state leads s now k = hello_is_not_quiet (of_log log state) s now (sym (turns_by log state leads (input.Up (up.Hello s)) now) ∙ k)
+
+module _ {A : Type 0} (works : A → Type 0) (keeps : A → Log → Type 0) (held : DispatcherState A) (stands : SomeStands works keeps held) (new : Option SumState) (s : SessionId) (now : ℕ) (outs : List Down)
+    (turned : IsTurnDone held.run.server (input.Up (up.Hello s)) now new outs) where
+  made_here : IsMade held.run.server new s now outs
+  made_here = by held.run.server stands turned where
+    by : (o : Option SumState) → Runs (λ st. (log : Log) × StandsBehind works keeps held st log) o → IsTurnDone o (input.Up (up.Hello s)) now new outs → IsMade o new s now outs
+    by None h turned = absurd turned
+    by (Some state) h turned = on (turn_by state (input.Up (up.Hello s)) now) refl turned where
+      on : (d : Decision) → turn_by state (input.Up (up.Hello s)) now ≡ d → IsDone d state (moment_by state.sum now) (input.Up (up.Hello s)) new outs → IsMade (Some state) new s now outs
+      on (refused f) k done = absurd done
+      on quiet k done = absurd (loud h.0 state h.1.makes s now k)
+      on (makes es) k done = record { state = state; es = es; ran = refl; turned = k; runs = done.0; answered = done.1 }
+
+  told_here : IsTold held.lines made_here.state
+  told_here = is_told works keeps held made_here.state made_here.ran stands
 
   pub last_at : (opening : SessionId) → opening ≡ s → LastIsFor opening outs
   last_at opening is =
       subst (λ u. LastIsFor u outs) (sym is)
-      (subst (LastIsFor s) (sym made_here.answered) (last_is_for made_here.state s now made_here.es made_here.turned legal_here))
+      (subst (LastIsFor s) (sym made_here.answered) (last_is_for told_here.0 made_here.state told_here.1 s now made_here.es made_here.turned))
 
-  module _ (lines placed : Lines) (told_old : Runs (λ st. CarryTranscripts (entries st.log) lines) old) (change : ChangesAt s kept_or_blank lines placed) where
-    told_here : CarryTranscripts (entries made_here.state.log) lines
-    told_here = subst (Runs (λ st. CarryTranscripts (entries st.log) lines)) made_here.ran told_old
-
+  module _ (placed : Lines) (change : ChangesAt s kept_or_blank held.lines placed) where
     pub told_at : (t : SessionId) → FitsTranscript t outs (line_at t placed)
-    told_at t = subst (λ ms. FitsTranscript t ms (line_at t placed)) (sym made_here.answered) (told_with_place made_here.state s now made_here.es made_here.turned lines placed legal_here told_here change t)
+    told_at t = subst (λ ms. FitsTranscript t ms (line_at t placed)) (sym made_here.answered) (told_with_place told_here.0 made_here.state told_here.1 s now made_here.es made_here.turned held.lines placed told_here.2 change t)
 
-    pub kept_at : (opening : SessionId) → opening ≡ s → (after : Lines) (end : OutboxState) → LinesJoined opening outs placed after end → Runs (λ st. CarryTranscripts (entries st.log) after) new
-    kept_at opening is after end joined =
-        subst (Runs (λ st. CarryTranscripts (entries st.log) after)) (sym made_here.runs)
-        (told_when_joined made_here.state s now made_here.es made_here.turned lines placed after end legal_here told_here change
-        (subst (λ ms. LinesJoined s ms placed after end) made_here.answered (subst (λ u. LinesJoined u outs placed after end) is joined)))
+    others_here : (t : SessionId) → same_session t s ≡ false → line_at t placed ≡ line_at t held.lines
+    others_here t k = change t ∙ ap (λ b. cond b (kept_or_blank (line_at t held.lines)) (line_at t held.lines)) k
 
-    others_here : (t : SessionId) → same_session t s ≡ false → line_at t placed ≡ line_at t lines
-    others_here t k = change t ∙ ap (λ b. cond b (kept_or_blank (line_at t lines)) (line_at t lines)) k
+    -- the lines that the joining leaves
+    joined_here : (opening : SessionId) → opening ≡ s → (after : Lines) (end : OutboxState) → LinesJoined opening outs placed after end → LinesJoined s (answers_by made_here.state.sum made_here.es) placed after end
+    joined_here opening is after end joined = subst (λ ms. LinesJoined s ms placed after end) made_here.answered (subst (λ u. LinesJoined u outs placed after end) is joined)
 
-    pub joined_at : (opening : SessionId) → opening ≡ s → (after : Lines) (end : OutboxState) → LinesJoined opening outs placed after end → IsJoined s now old new lines after end
+    -- by a log that stands, they are told by the log with the batch of the Hello
+    pub kept_at : (log : Log) (opening : SessionId) → opening ≡ s → (after : Lines) (end : OutboxState) → LinesJoined opening outs placed after end
+        → Runs (λ st. StandsBehind works keeps held st log → CarryTranscripts (entries (log_turned log held.run.server (input.Up (up.Hello s)) now)) after) held.run.server
+    kept_at log opening is after end joined =
+        subst (λ o. Runs (λ st. StandsBehind works keeps held st log → CarryTranscripts (entries (log_turned log o (input.Up (up.Hello s)) now)) after) o) (sym made_here.ran)
+        (λ b. subst (λ d. CarryTranscripts (entries (log_made log made_here.state.sum (moment_by made_here.state.sum now) d)) after) (sym made_here.turned)
+        (told_when_joined log made_here.state b.makes s now made_here.es made_here.turned held.lines placed after end b.told change (joined_here opening is after end joined)))
+
+    pub joined_at : (opening : SessionId) → opening ≡ s → (after : Lines) (end : OutboxState) → LinesJoined opening outs placed after end → IsJoined s now held.run.server new held.lines after end
     joined_at opening is after end joined =
-        let here = subst (λ ms. LinesJoined s ms placed after end) made_here.answered (subst (λ u. LinesJoined u outs placed after end) is joined) in
+        let here = joined_here opening is after end joined in
         record {
           state = made_here.state;
           made = made_here.es;
@@ -289,8 +309,8 @@ module _ (old new : Option ServerState) (s : SessionId) (now : ℕ) (outs : List
             last = here.last;
             parted = here.parted;
             own = here.own;
-            others = λ t k. subst (λ line. LineAfter t (answers (entries made_here.state.log) made_here.es) line (line_at t after)) (others_here t k) (here.others t k);
-            fits = λ t k. subst (λ line. LineFits t (answers (entries made_here.state.log) made_here.es) line (line_at t after)) (others_here t k) (here.fits t k);
+            others = λ t k. subst (λ line. LineAfter t (answers_by made_here.state.sum made_here.es) line (line_at t after)) (others_here t k) (here.others t k);
+            fits = λ t k. subst (λ line. LineFits t (answers_by made_here.state.sum made_here.es) line (line_at t after)) (others_here t k) (here.fits t k);
             outbox = here.outbox;
           };
         }
@@ -318,16 +338,3 @@ placed_before s lines placed is_old change t = by (same_session t s) refl where
   by : (b : Bool) → same_session t s ≡ b → line_at t placed ≡ line_at t lines
   by true k = change t ∙ ap (λ b. cond b (kept_or_blank (line_at t lines)) (line_at t lines)) k ∙ some_there (line_at t lines) (ap (λ u. not (is_some (line_at u lines))) (session_same t s k) ∙ is_old)
   by false k = change t ∙ ap (λ b. cond b (kept_or_blank (line_at t lines)) (line_at t lines)) k
-
-pub told_undone : (old new : Option ServerState) (i : Input) (now : ℕ) (e : EngineFault) (lines after : Lines) → IsTurnRefused old i now new e → Runs (λ st. CarryTranscripts (entries st.log) lines) old → ((t : SessionId) → line_at t after ≡ line_at t lines)
-    → Runs (λ st. CarryTranscripts (entries st.log) after) new
-told_undone old new i now e lines after undone told_old same = by e undone where
-  kept : (server : Option ServerState) → Runs (λ st. CarryTranscripts (entries st.log) lines) server → Runs (λ st. CarryTranscripts (entries st.log) after) server
-  kept None h = tt
-  kept (Some st) h = λ t. subst (CarriesTranscript (entries st.log) t) (sym (same t)) (h t)
-
-  by : (e : EngineFault) → IsTurnRefused old i now new e → Runs (λ st. CarryTranscripts (entries st.log) after) new
-  by fault.Memory u = subst (Runs (λ st. CarryTranscripts (entries st.log) after)) (sym u.0) (kept old told_old)
-  by (fault.Refused f) u = subst (Runs (λ st. CarryTranscripts (entries st.log) after)) (sym u.0) (kept old told_old)
-  by (fault.Keeper f) u = subst (Runs (λ st. CarryTranscripts (entries st.log) after)) (sym u.0) (kept old told_old)
-  by fault.Down u = subst (Runs (λ st. CarryTranscripts (entries st.log) after)) (sym u.0) tt

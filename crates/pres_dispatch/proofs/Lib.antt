@@ -1,5 +1,10 @@
+pub mod Behind
 pub mod Answered
 pub mod Joined
 pub mod Ended
 pub mod Closed
 pub mod Marks
+pub mod Standing
+pub mod Growing
+pub mod Since
+pub mod Started

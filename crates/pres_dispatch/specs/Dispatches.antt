@@ -1,27 +1,32 @@
 -- A server's engine with the lines of its sessions.
 use Rattle.std.specs.Prelude.{◌≡◌, ◌⊎◌, ℕ, Bool, true, false, List, [], ◌∷◌, ◌++◌, Option, Some, None, is_some, option_map, IfSome}
+use Rattle.std.proofs.Common.{inl, inr}
 use Rattle.pres_ids.specs.declared.id.SessionId.{SessionId}
 use Rattle.pres_ids.specs.declared.id.Why.TheVariants as why
 use Rattle.pres_wire.specs.declared.up.Up.TheVariants as up
 use Rattle.pres_wire.specs.declared.down.Down.{Down}
 use Rattle.pres_log.specs.declared.entry.Entry.{Entry}
-use Rattle.pres_log.specs.Logs.{Log, entries}
+use Rattle.pres_log.specs.Logs.{Log, entries, number}
 use Rattle.pres_server.specs.declared.input.Input.{Input}
 use Rattle.pres_server.specs.declared.input.Input.TheVariants as input
-use Rattle.pres_server.specs.ServerStates.{ServerState, first_client}
+use Rattle.pres_server.specs.ServerStates.{first_client}
 use Rattle.pres_server.specs.Sessions.{is_open}
-use Rattle.pres_server.specs.Replays.{made_from}
-use Rattle.pres_server.specs.Streams.{answers}
-use Rattle.pres_server.specs.Turns.{turn, makes, moment_of, state_after}
+use Rattle.pres_server.specs.LegalLog.{IsLegal}
+use Rattle.pres_server.specs.Replays.{resumed}
+use Rattle.pres_server.specs.Turns.{makes}
+use Rattle.pres_server.specs.Sums.{is_open_in, sum_of}
+use Rattle.pres_server.specs.SumStates.{SumState}
+use Rattle.pres_server.specs.SumAnswers.{answers_by}
+use Rattle.pres_server.specs.SumTurns.{turn_by, moment_by, after_commit}
 use Rattle.pres_ids.specs.Ids.{ClientId, same_session}
 use Rattle.pres_ring.specs.RingEnds.{OutboxState}
 use Rattle.pres_ring.specs.Transcripts.{transcript, those_for, BeginsTranscript, IsWelcome}
 use Rattle.pres_ring.specs.Lines.{SessionLine, Lines, line_at, is_slow, marked, IsFirstSlow, ChangesAt}
 use Rattle.pres_ring.specs.Deliveries.{LineAfter, LineFits}
 use Rattle.pres_faults.specs.declared.saved_fault.SavedFault.{SavedFault}
-use Rattle.pres_keeper.specs.Keepers.{Readable, IsNoServer}
+use Rattle.pres_keeper.specs.Keepers.{Readable, IsNoServer, MakesSum}
 use Rattle.pres_keeper.specs.Engines.{EngineState, Runs}
-use Rattle.pres_keeper.specs.EngineTurns.{IsTurnDone, IsTurnRefused, KeepsGone}
+use Rattle.pres_keeper.specs.EngineTurns.{IsTurnDone, IsTurnRefused, log_turned, log_left}
 use Rattle.pres_faults.specs.declared.engine_fault.EngineFault.{EngineFault}
 use Rattle.pres_faults.specs.declared.engine_fault.EngineFault.TheVariants as refusal
 
@@ -38,6 +43,23 @@ CarriesTranscript es s (Some l) = (is_open s es ≡ true) × IfSome l.sent (λ s
 -- the lines are those of the open sessions
 abbrev pub CarryTranscripts : List Entry → Lines → Type 0
 CarryTranscripts es lines = (s : SessionId) → CarriesTranscript es s (line_at s lines)
+
+-- A log stands behind a server and its lines: it is legal and leads to the server's sum, the keeper holds it as long as it
+-- works, it has as many entries as were answered, and what was put on each line is what its session was told in it.
+pub record StandsBehind {A : Type 0} (works : A → Type 0) (keeps : A → Log → Type 0) (held : DispatcherState A) (s : SumState) (log : Log) : Type 0 where
+  pub legal : IsLegal log
+  pub makes : MakesSum log s.sum
+  pub kept : works held.run.keeper → keeps held.run.keeper log
+  pub counted : held.run.number ≡ number log
+  pub told : CarryTranscripts (entries log) held.lines
+
+-- while the server runs, this log does
+abbrev pub Stands : {A : Type 0} → (A → Type 0) → (A → Log → Type 0) → Log → DispatcherState A → Type 0
+Stands works keeps log held = Runs (λ s. StandsBehind works keeps held s log) held.run.server
+
+-- while it runs, some log does
+abbrev pub SomeStands : {A : Type 0} → (A → Type 0) → (A → Log → Type 0) → DispatcherState A → Type 0
+SomeStands works keeps held = Runs (λ s. (log : Log) × StandsBehind works keeps held s log) held.run.server
 
 -- each line whose messages were given up is marked
 abbrev pub NoneSlow : Lines → Type 0
@@ -58,14 +80,14 @@ is_hello (input.Up (up.Hello s)) = true
 is_hello _ = false
 
 -- the turn is done, and its answers are put on the lines, none of which gives one up where 256 were put at most
-abbrev pub IsAnswered : Option ServerState → Input → ℕ → Option ServerState → Lines → Lines → Type 0
+abbrev pub IsAnswered : Option SumState → Input → ℕ → Option SumState → Lines → Lines → Type 0
 IsAnswered old input now new before after =
     (outs : List Down) × IsTurnDone old input now new outs
     × ((s : SessionId) → LineAfter s outs (line_at s before) (line_at s after))
     × ((s : SessionId) → LineFits s outs (line_at s before) (line_at s after))
 
 -- the input isn't answered: memory is refused with the server as it was, or its turn isn't done
-abbrev pub IsNotAnswered : Option ServerState → Input → ℕ → Option ServerState → EngineFault → Type 0
+abbrev pub IsNotAnswered : Option SumState → Input → ℕ → Option SumState → EngineFault → Type 0
 IsNotAnswered old input now new refusal.Memory = new ≡ old
 IsNotAnswered old input now new (refusal.Refused f) = IsTurnRefused old input now new (refusal.Refused f)
 IsNotAnswered old input now new (refusal.Keeper f) = IsTurnRefused old input now new (refusal.Keeper f)
@@ -93,72 +115,97 @@ pub record LinesJoined (s : SessionId) (ms : List Down) (before after : Lines) (
   pub outbox : end ≡ record { session = s; taken = []; ahead = last ∷ [] }
 
 -- the Hello of s is done, and its answers are put on the lines, behind which s has its own
-pub record IsJoined (s : SessionId) (now : ℕ) (old new : Option ServerState) (before after : Lines) (end : OutboxState) : Type 0 where
-  pub state : ServerState
+pub record IsJoined (s : SessionId) (now : ℕ) (old new : Option SumState) (before after : Lines) (end : OutboxState) : Type 0 where
+  pub state : SumState
   pub made : List Entry
   pub ran : old ≡ Some state
-  pub turned : turn state (input.Up (up.Hello s)) now ≡ makes made
-  pub runs : new ≡ Some (state_after state (moment_of state.log now) made)
-  pub lines : LinesJoined s (answers (entries state.log) made) before after end
+  pub turned : turn_by state (input.Up (up.Hello s)) now ≡ makes made
+  pub runs : new ≡ Some (after_commit state (moment_by state.sum now) made)
+  pub lines : LinesJoined s (answers_by state.sum made) before after end
 
 -- a session isn't opened, as its Hello isn't answered
-abbrev pub IsNotJoined : SessionId → ℕ → Option ServerState → Option ServerState → EngineFault → Type 0
+abbrev pub IsNotJoined : SessionId → ℕ → Option SumState → Option SumState → EngineFault → Type 0
 IsNotJoined s now old new e = IsNotAnswered old (input.Up (up.Hello s)) now new e
 
 -- ---- sessions that are slow
 
 -- The first session in order whose line is slow is open. Its line is marked so, and its end is answered on the lines; or
 -- it isn't, and the line stays marked.
-pub record EndsFirstSlow (now : ℕ) (s : SessionId) (old new : Option ServerState) (before after : Lines) : Type 0 where
+pub record EndsFirstSlow (now : ℕ) (s : SessionId) (old new : Option SumState) (before after : Lines) : Type 0 where
   pub first : IsFirstSlow s before
-  pub opened : Runs (λ t. is_open s (entries t.log) ≡ true) old
+  pub opened : Runs (λ t. is_open_in s t.sum ≡ true) old
   pub middle : Lines
   pub marks : ChangesAt s (option_map (marked why.Slow)) before middle
   pub ended : IsAnswered old (input.Slow s) now new middle after ⊎ ((e : EngineFault) × IsNotAnswered old (input.Slow s) now new e × (after ≡ middle))
 
 -- these sessions are ended as slow, one after the other, until no line is slow
-abbrev pub EndsSlow : ℕ → List SessionId → Option ServerState → Option ServerState → Lines → Lines → Type 0
+abbrev pub EndsSlow : ℕ → List SessionId → Option SumState → Option SumState → Lines → Lines → Type 0
 EndsSlow now [] old new before after = (new ≡ old) × (after ≡ before) × NoneSlow after
 EndsSlow now (s ∷ ss) old new before after =
-    (middle : Option ServerState) × (lines : Lines) × EndsFirstSlow now s old middle before lines × EndsSlow now ss middle new lines after
+    (middle : Option SumState) × (lines : Lines) × EndsFirstSlow now s old middle before lines × EndsSlow now ss middle new lines after
 
 -- each session whose line is slow is ended, in order
-abbrev pub AreEnded : ℕ → Option ServerState → Option ServerState → Lines → Lines → Type 0
-AreEnded now old new before after = (ss : List SessionId) × EndsSlow now ss old new before after
+pub record AreEnded (now : ℕ) (old new : Option SumState) (before after : Lines) : Type 0 where
+  pub sessions : List SessionId
+  pub ends : EndsSlow now sessions old new before after
+
+-- the log behind an end that is answered, or behind one that isn't
+abbrev pub log_if : {A B : Type 0} → A ⊎ B → Log → Log → Log
+log_if (inl answered) made same = made
+log_if (inr unanswered) made same = same
+
+-- the log behind these ends, one after the other
+abbrev pub log_slow : Log → (now : ℕ) (ss : List SessionId) (old new : Option SumState) (before after : Lines) → EndsSlow now ss old new before after → Log
+log_slow log now [] old new before after ends = log
+log_slow log now (s ∷ ss) old new before after ends =
+    log_slow (log_if ends.2.ended (log_turned log old (input.Slow s) now) log) now ss ends.0 new ends.1 after ends.3
+
+abbrev pub log_ended : {now : ℕ} {old new : Option SumState} {before after : Lines} → Log → AreEnded now old new before after → Log
+log_ended {now} {old} {new} {before} {after} log ended = log_slow log now ended.sessions old new before after ended.ends
 
 -- ---- the start
 
 -- each of these clients is the first in byte order that has a session open, which is ended at the restart, one after the other
-abbrev pub EndsAtStart : ℕ → List ClientId → Option ServerState → Option ServerState → Type 0
+abbrev pub EndsAtStart : ℕ → List ClientId → Option SumState → Option SumState → Type 0
 EndsAtStart now [] old new = new ≡ old
 EndsAtStart now (c ∷ cs) None new = ⊥
 EndsAtStart now (c ∷ cs) (Some s) new =
-    (first_client s.heard ≡ Some c) × (es : List Entry) × (turn s (input.Restart c) now ≡ makes es) × EndsAtStart now cs (Some (state_after s (moment_of s.log now) es)) new
+    (first_client s.heard ≡ Some c) × (es : List Entry) × (turn_by s (input.Restart c) now ≡ makes es) × EndsAtStart now cs (Some (after_commit s (moment_by s.sum now) es)) new
 
 -- so are those of some
-abbrev pub AreRestarted : ℕ → Option ServerState → Option ServerState → Type 0
-AreRestarted now old new = (cs : List ClientId) × EndsAtStart now cs old new
+pub record AreRestarted (now : ℕ) (old new : Option SumState) : Type 0 where
+  pub clients : List ClientId
+  pub ends : EndsAtStart now clients old new
+
+-- the log behind these ends
+abbrev pub log_at_start : Log → (now : ℕ) (cs : List ClientId) (old new : Option SumState) → EndsAtStart now cs old new → Log
+log_at_start log now [] old new ends = log
+log_at_start log now (c ∷ cs) None new ends = log
+log_at_start log now (c ∷ cs) (Some s) new ends =
+    log_at_start (log_turned log (Some s) (input.Restart c) now) now cs (Some (after_commit s (moment_by s.sum now) ends.1)) new ends.3
+
+abbrev pub log_restarted : {now : ℕ} {old new : Option SumState} → Log → AreRestarted now old new → Log
+log_restarted {now} {old} {new} log ended = log_at_start log now ended.clients old new ended.ends
 
 -- no client is handed out: there is no server, or memory is refused for the first one that has a session open
-abbrev pub IsNoClient : Option ServerState → EngineFault → Type 0
+abbrev pub IsNoClient : Option SumState → EngineFault → Type 0
 IsNoClient None e = e ≡ refusal.Down
 IsNoClient (Some s) e = (e ≡ refusal.Memory) × (c : ClientId) × (first_client s.heard ≡ Some c)
 
--- A start stops at the first client in byte order that has a session open, whose end isn't answered. The ends before it
--- stand and are kept, and so is this one where the server went down behind its commit.
-pub record StopsAtStart (keeps : Log → Type 0) (now : ℕ) (old : Option ServerState) (e : EngineFault) : Type 0 where
-  pub middle : Option ServerState
+-- A start over this log stops at the first client in byte order that has a session open, whose end isn't answered. The ends
+-- before it stand and are kept, and so is this one where the server went down behind its commit.
+pub record StopsAtStart (keeps : Log → Type 0) (now : ℕ) (log : Log) (old : Option SumState) (e : EngineFault) : Type 0 where
+  pub middle : Option SumState
   pub ended : AreRestarted now old middle
   pub client : ClientId
   pub first : Runs (λ s. first_client s.heard ≡ Some client) middle
-  pub new : Option ServerState
+  pub new : Option SumState
   pub refused : IsNotAnswered middle (input.Restart client) now new e
-  pub kept : Runs (λ s. keeps s.log) new
-  pub gone : KeepsGone keeps middle (input.Restart client) now e
+  pub kept : keeps (log_left (log_restarted log ended) middle (input.Restart client) now e)
 
 -- A start is refused: no server is made of what can be read of the keeper, which keeps its log, if it holds one; or one is
--- made of that log, and the start stops at a client.
+-- made of the sum of that log, and the start stops at a client.
 abbrev pub IsNotStarted : Readable → (Log → Type 0) → (Log → Type 0) → ℕ → EngineFault → Type 0
 IsNotStarted held kept keeps now e =
     ((f : SavedFault) × (e ≡ refusal.Keeper f) × IsNoServer held f × ((log : Log) → kept log → keeps log))
-    ⊎ ((log : Log) × ((other : Log) → kept other → log ≡ other) × StopsAtStart keeps now (Some (made_from log)) e)
+    ⊎ ((log : Log) × ((other : Log) → kept other → log ≡ other) × StopsAtStart keeps now log (Some (resumed (sum_of log))) e)

@@ -1,20 +1,21 @@
 //! An engine with the lines of its sessions.
 
-ghost use Rattle.std.specs.Prelude.{◌≡◌, ◌≤◌, ◌<◌, ◌++◌, ◌∷◌, [], true, false, not, is_some, Some, None, IfOk, IfErr, IfSome, IfNone, OnOk, OnErr, MatchOption, option_copied, option_map};
+ghost use Rattle.std.specs.Prelude.{◌≡◌, ◌≤◌, ◌<◌, [], true, false, is_some, Some, None, IfOk, IfErr, IfSome, IfNone, OnOk, OnErr, MatchResult, option_copied, option_map};
 ghost use Rattle.pres_ids.specs.declared.id.SessionId.{SessionId};
-ghost use Rattle.pres_ids.specs.Ids.{same_session};
-ghost use Rattle.pres_log.specs.Logs.{Log, entries, number};
-ghost use Rattle.pres_server.specs.Replays.{made_from};
-ghost use Rattle.pres_server.specs.LegalLog.{IsLegal};
+ghost use Rattle.pres_log.specs.Logs.{Log};
+ghost use Rattle.pres_server.specs.declared.input.Input.TheVariants.{Up as Message};
+ghost use Rattle.pres_wire.specs.declared.up.Up.TheVariants.{Hello};
+ghost use Rattle.pres_server.specs.Replays.{resumed};
+ghost use Rattle.pres_server.specs.Histories.{IsSum};
+ghost use Rattle.pres_server.specs.Sums.{is_open_in, has_open_in, sum_of};
 ghost use Rattle.pres_server.specs.ServerStates.{first_client};
-ghost use Rattle.pres_server.specs.Sessions.{is_open, has_open};
-ghost use Rattle.pres_ring.specs.Transcripts.{BeginsTranscript};
 ghost use Rattle.pres_ids.specs.declared.id.Why.TheVariants.{Slow};
-ghost use Rattle.pres_ring.specs.Lines.{line_at, has_line, unmarked, first_slow, first_marked, marked, fed, struck, IsFirstSlow, IsFirstMarked, ChangesAt};
+ghost use Rattle.pres_ring.specs.Lines.{line_at, has_line, unmarked, first_slow, first_marked, marked, struck, IsFirstSlow, IsFirstMarked, ChangesAt};
 ghost use Rattle.pres_ring.specs.Deliveries.{FitsTranscript};
-ghost use Rattle.pres_keeper.specs.Engines.{Runs};
-ghost use Rattle.pres_keeper.specs.EngineTurns.{IsTurnRefused, MakesBatch};
-ghost use Rattle.pres_dispatch.specs.Dispatches.{CarryTranscripts, is_hello, StayMarked, IsAnswered, IsJoined, IsNotJoined, LastIsFor, LinesJoined, NoneSlow, AreEnded, AreRestarted, IsNoClient, StopsAtStart, IsNotStarted};
+ghost use Rattle.pres_keeper.specs.Keepers.{SomeLog};
+ghost use Rattle.pres_keeper.specs.Engines.{Runs, IsLogOf};
+ghost use Rattle.pres_keeper.specs.EngineTurns.{IsTurnRefused, MakesBatch, log_turned};
+ghost use Rattle.pres_dispatch.specs.Dispatches.{is_hello, StayMarked, Stands, SomeStands, IsAnswered, IsJoined, IsNotJoined, LastIsFor, LinesJoined, NoneSlow, AreEnded, log_ended, AreRestarted, log_restarted, IsNoClient, StopsAtStart, IsNotStarted};
 
 use crate::bells::{Bell, Bells};
 use pres_faults::EngineFault;
@@ -33,15 +34,14 @@ pub struct Dispatcher<K: Keeper, B> {
 }
 
 impl<K: Keeper, B> Model for Dispatcher<K, B> {
-    ghost use Rattle.pres_log.specs.Logs.{entries};
-    ghost use Rattle.pres_keeper.specs.Engines.{Runs};
-    ghost use Rattle.pres_dispatch.specs.Dispatches.{DispatcherState, CarryTranscripts};
+    ghost use Rattle.pres_dispatch.specs.Dispatches.{DispatcherState, SomeStands};
 
     ghost Value = { DispatcherState K };
 
     ghost view = { λ e. record { run = e.engine; lines = e.lines } };
 
-    ghost invariant = { λ e. Runs (λ s. CarryTranscripts (entries s.log) e.lines) e.engine.server };
+    ghost invariant = { λ e. SomeStands K.works K.keeps
+        (record { run = e.engine; lines = e.lines }) };
 }
 
 // Puts the answers of a Hello on the lines: the last one is the Welcome of the session, which is
@@ -69,15 +69,16 @@ fn first_open<K: Keeper + Drop>(
 ) -> Result<Option<ClientId>, EngineFault>
     ensures runs { IfOk result (λ found. is_some engine.now.server ≡ true) }
     ensures open { IfOk result (λ found. IfSome found (λ client.
-        Runs (λ s. has_open client (entries s.log) ≡ true) engine.now.server)) }
+        Runs (λ s. has_open_in client s.sum ≡ true) engine.now.server)) }
     ensures first { IfOk result (λ found. IfSome found (λ client.
         Runs (λ s. first_client s.heard ≡ Some client) engine.now.server)) }
     ensures none { IfOk result (λ found. IfNone found
-        (Runs (λ s. (t : SessionId) → is_open t (entries s.log) ≡ false) engine.now.server)) }
+        (Runs (λ s. (t : SessionId) → is_open_in t s.sum ≡ false) engine.now.server)) }
     ensures refused { IfErr result (IsNoClient engine.now.server) }
-    ensures kept { K.works engine.now.keeper
-        → Runs (λ s. K.keeps engine.now.keeper s.log) engine.now.server }
-    ensures counted { Runs (λ s. engine.now.number ≡ number s.log) engine.now.server }
+    ensures kept { Runs (λ s. SomeLog
+        (λ log. K.works engine.now.keeper → K.keeps engine.now.keeper log) s.sum)
+        engine.now.server }
+    ensures counted { Runs (λ s. engine.now.number ≡ s.sum.number) engine.now.server }
 {
     // it ensures what the number counts
     let _ = engine.number();
@@ -98,15 +99,21 @@ fn end_all<K: Keeper + Drop>(
 ) -> Result<(), EngineFault>
     ensures runs { OnOk result (is_some engine.new.server ≡ true) }
     ensures closed { OnOk result
-        (Runs (λ s. (t : SessionId) → is_open t (entries s.log) ≡ false) engine.new.server) }
+        (Runs (λ s. (t : SessionId) → is_open_in t s.sum ≡ false) engine.new.server) }
     ensures ended { OnOk result (AreRestarted now engine.old.server engine.new.server) }
-    ensures stopped { K.works engine.new.keeper
-        → IfErr result (StopsAtStart (K.keeps engine.new.keeper) now engine.old.server) }
+    ensures kept { (log : Log) → IsLogOf log engine.old.server → K.works engine.new.keeper
+        → K.keeps engine.old.keeper log → OnOk result
+        ((ended : AreRestarted now engine.old.server engine.new.server)
+        × IsLogOf (log_restarted log ended) engine.new.server
+        × K.keeps engine.new.keeper (log_restarted log ended)) }
+    ensures stopped { (log : Log) → IsLogOf log engine.old.server → K.works engine.new.keeper
+        → K.keeps engine.old.keeper log
+        → IfErr result (StopsAtStart (K.keeps engine.new.keeper) now log engine.old.server) }
     ensures worked { K.works engine.new.keeper → K.works engine.old.keeper }
 {
     while let Some(client) = first_open(alloc, engine)? {
         let turned = engine.turn(Input::Restart(client), now);
-        // it ensures that the log is legal, and is kept
+        // it ensures what the number counts
         let _ = engine.number();
         drop(turned?);
     }
@@ -116,9 +123,14 @@ fn end_all<K: Keeper + Drop>(
 impl<K: Keeper + Drop, B: Bell + Clone + Drop> Dispatcher<K, B> {
     // An engine none of whose sessions is open.
     fn of(alloc: Global, engine: Engine<K>) -> Dispatcher<K, B>
-        requires { Runs (λ s. (t : SessionId) → is_open t (entries s.log) ≡ false) engine.server }
-        ensures { result ≡ record { run = engine; lines = [] } }
+        requires { Runs (λ s. (t : SessionId) → is_open_in t s.sum ≡ false) engine.server }
+        ensures dispatcher { result ≡ record { run = engine; lines = [] } }
+        ensures stands { (log : Log) → IsLogOf log engine.server
+            → (K.works engine.keeper → K.keeps engine.keeper log)
+            → Stands K.works K.keeps log result }
     {
+        // it ensures that some log leads to the server's sum, and is kept
+        let _ = engine.number();
         Dispatcher {
             engine,
             lines: Lines::new(alloc),
@@ -137,9 +149,10 @@ impl<K: Keeper + Drop, B: Bell + Clone + Drop> Dispatcher<K, B> {
         requires ready { K.ready keeper }
         ensures runs { IfOk result (λ e. is_some e.run.server ≡ true) }
         ensures closed { IfOk result (λ e.
-            Runs (λ s. (t : SessionId) → is_open t (entries s.log) ≡ false) e.run.server) }
+            Runs (λ s. (t : SessionId) → is_open_in t s.sum ≡ false) e.run.server) }
         ensures ended { IfOk result (λ e. (log : Log) → K.works e.run.keeper → K.keeps keeper log
-            → AreRestarted now (Some (made_from log)) e.run.server) }
+            → (ended : AreRestarted now (Some (resumed (sum_of log))) e.run.server)
+            × Stands K.works K.keeps (log_restarted log ended) e) }
         ensures lines { IfOk result (λ e. e.lines ≡ []) }
         ensures refused { IfErr result (λ e. K.works e.1
             → IsNotStarted (K.readable keeper) (K.keeps keeper) (K.keeps e.1) now e.0) }
@@ -162,17 +175,16 @@ impl<K: Keeper + Drop, B: Bell + Clone + Drop> Dispatcher<K, B> {
     /// The number of the last entry that was answered.
     pub fn number(&self) -> u64
         ensures number { result ≡ self.now.run.number }
-        ensures legal { Runs (λ s. IsLegal s.log) self.now.run.server }
-        ensures kept { K.works self.now.run.keeper
-            → Runs (λ s. K.keeps self.now.run.keeper s.log) self.now.run.server }
-        ensures told { Runs (λ s. CarryTranscripts (entries s.log) self.now.lines) self.now.run.server }
-        ensures counted { Runs (λ s. self.now.run.number ≡ number s.log) self.now.run.server }
+        ensures summed { Runs (λ s. IsSum s.sum) self.now.run.server }
+        ensures counted { Runs (λ s. self.now.run.number ≡ s.sum.number) self.now.run.server }
+        ensures stands { SomeStands K.works K.keeps self.now }
     {
         self.engine.number()
     }
 
-    /// Does what the input asks for, and puts its answers on the lines. Whatever a crash leaves from
-    /// then on begins with the log that was answered.
+    /// Does what the input asks for, and puts its answers on the lines. A log that stands behind the
+    /// server does so after the turn with the turn's batch, and whatever a crash leaves from then on
+    /// begins with it.
     pub fn turn(&mut self, input: Input, now: Moment) -> Result<(), EngineFault>
         requires { is_hello input ≡ false }
         ensures answered { IfOk result (λ _. IsAnswered self.old.run.server input now
@@ -185,13 +197,17 @@ impl<K: Keeper + Drop, B: Bell + Clone + Drop> Dispatcher<K, B> {
         ensures rises { self.old.run.number ≤ self.new.run.number }
         ensures fewer { unmarked self.new.lines ≤ unmarked self.old.lines }
         ensures worked { K.works self.new.run.keeper → K.works self.old.run.keeper }
-        ensures durable { MakesBatch self.old.run.server input now → OnOk result
-            (Runs (λ s. K.outlasts self.new.run.keeper s.log) self.new.run.server) }
+        ensures stands { (log : Log) → Stands K.works K.keeps log self.old → MatchResult result
+            (λ _. Stands K.works K.keeps (log_turned log self.old.run.server input now) self.new)
+            (λ _. Stands K.works K.keeps log self.new) }
+        ensures durable { (log : Log) → Stands K.works K.keeps log self.old
+            → MakesBatch self.old.run.server input now → OnOk result
+            (K.outlasts self.new.run.keeper (log_turned log self.old.run.server input now)) }
         ensures outlasts { (log : Log) → K.outlasts self.old.run.keeper log
             → K.outlasts self.new.run.keeper log }
     {
         let answers = self.engine.turn(input, now)?;
-        // it ensures that the log is legal
+        // it ensures what the number counts
         let _ = self.engine.number();
         self.bells.note(&answers);
         self.lines.deliver(answers);
@@ -214,6 +230,10 @@ impl<K: Keeper + Drop, B: Bell + Clone + Drop> Dispatcher<K, B> {
         ensures stays { OnErr result (self.new.run.number ≡ self.old.run.number) }
         ensures rises { self.old.run.number ≤ self.new.run.number }
         ensures worked { K.works self.new.run.keeper → K.works self.old.run.keeper }
+        ensures stands { (log : Log) → Stands K.works K.keeps log self.old → MatchResult result
+            (λ _. Stands K.works K.keeps
+            (log_turned log self.old.run.server (Message (Hello session.now)) now) self.new)
+            (λ _. Stands K.works K.keeps log self.new) }
     {
         let opening = pres_ring::open(alloc, session)?;
         let hello = Up::Hello {
@@ -221,7 +241,7 @@ impl<K: Keeper + Drop, B: Bell + Clone + Drop> Dispatcher<K, B> {
         };
         let is_new = self.lines.reserve(alloc, session)?;
         let turned = self.engine.turn(Input::Up(hello), now);
-        // it ensures that the log is legal
+        // it ensures what the number counts
         let _ = self.engine.number();
         match turned {
             Ok(answers) => {
@@ -244,11 +264,13 @@ impl<K: Keeper + Drop, B: Bell + Clone + Drop> Dispatcher<K, B> {
         ensures session { IfSome result (λ r. IfOk r (λ s. first_slow self.old.lines ≡ Some s)) }
         ensures first { IfSome (first_slow self.old.lines) (λ s. IsFirstSlow s self.old.lines) }
         ensures opened { IfSome (first_slow self.old.lines)
-            (λ s. Runs (λ t. is_open s (entries t.log) ≡ true) self.new.run.server) }
+            (λ s. Runs (λ t. is_open_in s t.sum ≡ true) self.new.run.server) }
         ensures marked { IfSome (first_slow self.old.lines)
             (λ s. ChangesAt s (option_map (marked Slow)) self.old.lines self.new.lines) }
         ensures fewer { IfSome result (λ r. unmarked self.new.lines < unmarked self.old.lines) }
         ensures marks { StayMarked self.old.lines self.new.lines }
+        ensures stands { (log : Log) → Stands K.works K.keeps log self.old
+            → Stands K.works K.keeps log self.new }
         ensures none { IfNone result (self.new ≡ self.old) }
         ensures none_slow { IfNone result (NoneSlow self.new.lines) }
     {
@@ -260,6 +282,10 @@ impl<K: Keeper + Drop, B: Bell + Clone + Drop> Dispatcher<K, B> {
     pub fn end_slow(&mut self, alloc: Global, now: Moment)
         ensures ended { AreEnded now self.old.run.server self.new.run.server
             self.old.lines self.new.lines }
+        ensures stands { (log : Log) → Stands K.works K.keeps log self.old
+            → (ended : AreEnded now self.old.run.server self.new.run.server
+            self.old.lines self.new.lines)
+            × Stands K.works K.keeps (log_ended log ended) self.new }
         ensures rises { self.old.run.number ≤ self.new.run.number }
         ensures marks { StayMarked self.old.lines self.new.lines }
         ensures none_slow { NoneSlow self.new.lines }
@@ -279,7 +305,7 @@ impl<K: Keeper + Drop, B: Bell + Clone + Drop> Dispatcher<K, B> {
         ensures first { IfSome (first_marked self.now.lines)
             (λ e. IsFirstMarked e self.now.lines) }
         ensures open { IfSome (first_marked self.now.lines) (λ e.
-            Runs (λ s. is_open e.0 (entries s.log) ≡ true) self.now.run.server) }
+            Runs (λ s. is_open_in e.0 s.sum ≡ true) self.now.run.server) }
         ensures none { IfNone result
             ((s : SessionId) → IfSome (line_at s self.now.lines) (λ l. l.mark ≡ None)) }
     {
@@ -290,6 +316,8 @@ impl<K: Keeper + Drop, B: Bell + Clone + Drop> Dispatcher<K, B> {
     pub fn strike(&mut self, session: &SessionId, why: Why)
         ensures run { self.new.run ≡ self.old.run }
         ensures line { ChangesAt session.now (option_map (struck why)) self.old.lines self.new.lines }
+        ensures stands { (log : Log) → Stands K.works K.keeps log self.old
+            → Stands K.works K.keeps log self.new }
     {
         self.lines.strike(session, why);
     }
@@ -320,7 +348,7 @@ impl<K: Keeper + Drop, B: Bell + Clone + Drop> Dispatcher<K, B> {
     pub fn into_keeper(self) -> K
         ensures keeper { result ≡ self.run.keeper }
         ensures ready { K.ready result }
-        ensures kept { K.works result → Runs (λ s. K.keeps result s.log) self.run.server }
+        ensures stands { SomeStands K.works K.keeps self }
     {
         let Dispatcher {
             engine,

@@ -1,34 +1,20 @@
 -- Histories of whole logs, and of servers that begin elsewhere.
-use Rattle.std.proofs.Common.{refl, sym, ◌∙◌, ap, subst, ◌≡◌, [], ◌∷◌, ◌++◌, append-nil, append_assoc, arith}
-use Rattle.std.specs.List.Sorted.{IsStrictlySortedBy}
-use Rattle.pres_fan.specs.Listeners.{IsListeners}
+use Rattle.std.proofs.Common.{refl, sym, ◌∙◌, ap, subst, ◌≡◌, [], ◌∷◌, ◌++◌, append-nil, append_assoc}
 use Rattle.pres_log.specs.declared.entry.Batch.{Batch}
 use Rattle.pres_log.specs.Logs.{Log}
 use Rattle.pres_server.specs.LegalLog.{IsLegal, IsLegalAfter}
 use Rattle.pres_server.proofs.Whole.{legal_after}
-use Rattle.pres_history.specs.Sums.{Sum, nothing, sum_with, sum_from, sum_of}
-use Rattle.pres_history.specs.SumAnswers.{answers_by}
-use Rattle.pres_history.specs.SumTurns.{FollowsSum, FollowAll}
-use Rattle.pres_history.specs.Histories.{IsSum, History, answers_from, answers_in}
+use Rattle.pres_server.specs.Sums.{Sum, nothing, sum_with, sum_from, sum_of}
+use Rattle.pres_server.specs.SumAnswers.{answers_by}
+use Rattle.pres_server.specs.SumTurns.{FollowsSum, FollowAll}
+use Rattle.pres_server.specs.Histories.{IsSum, History, answers_from, answers_in}
 use Rattle.pres_history.specs.HistoryLaws.{HistoryHolds, HistoryGrows, answers_after, LegalIsHistory, HistoryIsLegal, ReachedHasLog}
-use Rattle.pres_history.proofs.Whole.{sum_push, sum_says, whole_is_legal, legal_by_the_sum}
-use Rattle.pres_history.proofs.Kept.{sum_holds}
+use Rattle.pres_server.proofs.Replayed.{sum_push, follow_more}
+use Rattle.pres_history.proofs.Whole.{sum_says, whole_is_legal, legal_by_the_sum}
+use Rattle.pres_server.proofs.KeptSums.{sum_holds}
+use Rattle.pres_server.proofs.SumServers.{nothing_holds}
 
 -- ---- what holds of every sum
-
-nobody_listens : IsListeners []
-unfolding IsStrictlySortedBy
-nobody_listens = record { ordered = tt; few = λ s. omega arith }
-
-pub nothing_holds : IsSum nothing
-unfolding IsStrictlySortedBy
-nothing_holds = record {
-  keeps = record { sessions = tt; gone = tt; each = λ c. tt; listeners = nobody_listens; listening = λ s h. refl };
-  few = omega arith;
-  batches = omega arith;
-  room = omega arith;
-  moment = omega arith;
-}
 
 all_hold : (log : Log) (sum : Sum) → IsSum sum → FollowAll sum log → IsSum (sum_from sum log)
 all_hold [] sum k f = k
@@ -38,10 +24,6 @@ pub history_holds : (h : History) (sum : Sum) → HistoryHolds h sum
 history_holds h sum l = subst IsSum l.there (all_hold h.log h.base l.base l.legal)
 
 -- ---- one batch more
-
-follow_more : (log : Log) (sum : Sum) (b : Batch) → FollowAll sum log → FollowsSum (sum_from sum log) b → FollowAll sum (log ++ b ∷ [])
-follow_more [] sum b f g = (g, tt)
-follow_more (a ∷ log) sum b f g = (f.0, follow_more log (sum_with sum a) b f.1 g)
 
 answered_more : (log : Log) (sum : Sum) (b : Batch) → answers_from sum (log ++ b ∷ []) ≡ answers_from sum log ++ answers_by (sum_from sum log) b.entries
 answered_more [] sum b = append-nil (answers_by sum b.entries)

@@ -1,37 +1,21 @@
--- Lists of entries by client, in which the entry of one client is put, left out or changed.
-use Rattle.std.proofs.Common.{refl, sym, ◌∙◌, ap, subst, ◌≡◌, ◌+◌, ◌-◌, List, [], ◌∷◌, length, filter, Bool, true, false, not, cond, ◌&&◌, T, arith, Option, Some, None, is_some, Ordering, Less, Equal, Greater}
-use Rattle.std.specs.List.{AllByRecursion}
+-- Maps by client, in which the entry of one client is put, left out or changed.
+use Rattle.std.proofs.Common.{refl, sym, ◌∙◌, ap, ◌≡◌, List, [], ◌∷◌, Bool, true, false, not, cond, Option, Some, None, Ordering, Less, Equal, Greater}
 use Rattle.std.specs.Option.{option_map}
-use Rattle.std.specs.Map.{lookup, keys_of, AreApart, KeepsOthers}
+use Rattle.std.specs.Map.{lookup, AreApart, KeepsOthers}
 use Rattle.std.specs.BTreeMap.{BTreeMap, get, is_at, Updates}
-use Rattle.std.specs.BTreeSet.{insert_key}
-use Rattle.std.specs.List.Sorted.{IsStrictlySortedBy}
-use Rattle.std.specs.Ordering.{is_lt, is_eq, match_ordering}
+use Rattle.std.specs.Ordering.{is_eq}
 use Rattle.std.specs.Cmp.{tied_itself}
-use Rattle.std.specs.FinMap.Entries.{by_order, find, put, where_key, is_sorted, below_all, find-put, find-where_key, length-put, length_without}
-use Rattle.std.proofs.lemmas.List.{length-map}
-use Rattle.std.proofs.lemmas.List.Kept.{IsStrictlySortedBy-filter}
-use Rattle.std.proofs.lemmas.Map.Keys.{sorted_head, sorted_tail}
+use Rattle.std.specs.FinMap.Entries.{by_order, put, find-put, find-where_key}
 use Rattle.std_collections.specs.Layout.BTreeMap.{with_entries}
 use Rattle.pres_ids.specs.Ids.{ClientId, client_cmp, same_client}
-use Rattle.pres_server.specs.InternalSessions.{Session}
 use Rattle.pres_server.proofs.Since.{client_same, client_sym}
 use Rattle.pres_server.proofs.AfterEntry.{clients_total, clients_apart, same_by_cmp}
-use Rattle.pres_server.proofs.Sorted.{sorted_put}
-use Rattle.pres_server.proofs.Heard.{behind}
-use Rattle.pres_history.specs.Sums.{changed}
-
--- the value of the client
-abbrev pub at_client : {X : Type 0} → ClientId → List (ClientId × X) → Option X
-at_client client es = lookup (is_at (client_cmp client)) es
+use Rattle.pres_server.specs.Sums.{changed}
+use Rattle.pres_server.proofs.Keyed.{at_client, found, others, changed_found}
 
 -- a test that no key equal to the client's passes
 abbrev pub Passes : ClientId → (ClientId → Bool) → Type 0
 Passes k other = AreApart (is_at (client_cmp k)) other
-
-pub found : {X : Type 0} (c : ClientId) (es : List (ClientId × X)) → find client_cmp c es ≡ at_client c es
-found c [] = refl
-found c (e ∷ es) = ap (cond (is_eq (client_cmp c e.0)) (Some e.1)) (found c es)
 
 at_itself : (k : ClientId) → is_eq (client_cmp k k) ≡ true
 at_itself k = ap is_eq (tied_itself clients_total k)
@@ -42,8 +26,6 @@ updates : {X : Type 0} (k : ClientId) (w : Option X) (m : BTreeMap ClientId X) (
 unfolding KeepsOthers
 updates k w m es h g =
     (h, h k ∙ ap (λ b. cond b w (at_client k m.entries)) (at_itself k), (λ q no. h q ∙ ap (λ b. cond b w (at_client q m.entries)) no), (λ other key apart. g other apart))
-
--- ---- an entry that is put
 
 put_found : {X : Type 0} (k : ClientId) (v : X) (es : List (ClientId × X)) (q : ClientId) → at_client q (put client_cmp k v es) ≡ cond (is_at (client_cmp k) q) (Some v) (at_client q es)
 put_found k v es q =
@@ -62,24 +44,6 @@ put_skips k v other apart (e ∷ es) = by (client_cmp k e.0) refl (put_skips k v
 
 pub updates_put : {X : Type 0} (k : ClientId) (v : X) (m : BTreeMap ClientId X) → Updates client_cmp m (with_entries m (put client_cmp k v m.entries)) k (Some v)
 updates_put k v m = updates k (Some v) m (put client_cmp k v m.entries) (put_found k v m.entries) (λ other apart. put_skips k v other apart m.entries)
-
-keys_put : {X : Type 0} (k : ClientId) (v : X) (es : List (ClientId × X)) → keys_of (put client_cmp k v es) ≡ insert_key client_cmp (keys_of es) k
-keys_put k v [] = refl
-keys_put k v (e ∷ es) = by (client_cmp k e.0) (keys_put k v es) where
-  by : (o : Ordering) → keys_of (put client_cmp k v es) ≡ insert_key client_cmp (keys_of es) k
-      → keys_of (by_order o ((k, v) ∷ e ∷ es) ((e.0, v) ∷ es) (e ∷ put client_cmp k v es)) ≡ match_ordering o (k ∷ e.0 ∷ keys_of es) (e.0 ∷ keys_of es) (e.0 ∷ insert_key client_cmp (keys_of es) k)
-  by Less r = refl
-  by Equal r = refl
-  by Greater r = ap (λ l. e.0 ∷ l) r
-
-pub sorted_with : {X : Type 0} (k : ClientId) (v : X) (es : List (ClientId × X)) → IsStrictlySortedBy client_cmp (keys_of es) → IsStrictlySortedBy client_cmp (keys_of (put client_cmp k v es))
-sorted_with k v es h = subst (IsStrictlySortedBy client_cmp) (sym (keys_put k v es)) (sorted_put client_cmp clients_total k (keys_of es) h)
-
--- ---- an entry that is left out
-
--- the entries of the other clients
-abbrev pub others : {X : Type 0} → ClientId → List (ClientId × X) → List (ClientId × X)
-others k es = where_key client_cmp (λ client. not (same_client k client)) es
 
 others_found : {X : Type 0} (k : ClientId) (es : List (ClientId × X)) (q : ClientId) → at_client q (others k es) ≡ cond (is_at (client_cmp k) q) None (at_client q es)
 others_found {X} k es q =
@@ -102,37 +66,6 @@ others_skip k other apart (e ∷ es) = by (same_client k e.0) refl (others_skip 
 pub updates_others : {X : Type 0} (k : ClientId) (m : BTreeMap ClientId X) → Updates client_cmp m (with_entries m (others k m.entries)) k None
 updates_others k m = updates k None m (others k m.entries) (others_found k m.entries) (λ other apart. others_skip k other apart m.entries)
 
-keys_others : {X : Type 0} (k : ClientId) (es : List (ClientId × X)) → keys_of (others k es) ≡ filter (λ client. not (same_client k client)) (keys_of es)
-keys_others k [] = refl
-keys_others k (e ∷ es) = by (not (same_client k e.0)) (keys_others k es) where
-  kept : List ClientId
-  kept = filter (λ client. not (same_client k client)) (keys_of es)
-
-  by : (b : Bool) → keys_of (others k es) ≡ kept → keys_of (cond b (e ∷ others k es) (others k es)) ≡ cond b (e.0 ∷ kept) kept
-  by true r = ap (λ l. e.0 ∷ l) r
-  by false r = r
-
-pub sorted_others : {X : Type 0} (k : ClientId) (es : List (ClientId × X)) → IsStrictlySortedBy client_cmp (keys_of es) → IsStrictlySortedBy client_cmp (keys_of (others k es))
-sorted_others k es h = subst (IsStrictlySortedBy client_cmp) (sym (keys_others k es)) (IsStrictlySortedBy-filter client_cmp (λ client. not (same_client k client)) (keys_of es) h)
-
--- ---- an entry that is changed
-
-pub changed_found : {X : Type 0} (k : ClientId) (f : X → X) (es : List (ClientId × X)) (q : ClientId) → at_client q (changed k f es) ≡ cond (same_client k q) (option_map f (at_client q es)) (at_client q es)
-changed_found {X} k f [] q = by (same_client k q) where
-  by : (b : Bool) → None ≡ cond {A = Option X} b None None
-  by true = refl
-  by false = refl
-changed_found {X} k f (e ∷ es) q = by (is_eq (client_cmp q e.0)) refl (changed_found k f es q) where
-  here : (b : Bool) → Some (cond b (f e.1) e.1) ≡ cond b (Some (f e.1)) (Some e.1)
-  here true = refl
-  here false = refl
-
-  by : (b : Bool) → is_eq (client_cmp q e.0) ≡ b → at_client q (changed k f es) ≡ cond (same_client k q) (option_map f (at_client q es)) (at_client q es)
-      → cond b (Some (cond (same_client k e.0) (f e.1) e.1)) (at_client q (changed k f es))
-      ≡ cond (same_client k q) (option_map f (cond b (Some e.1) (at_client q es))) (cond b (Some e.1) (at_client q es))
-  by true h r = ap (λ x. Some (cond (same_client k x) (f e.1) e.1)) (sym (client_same q e.0 (sym (same_by_cmp q e.0) ∙ h))) ∙ here (same_client k q)
-  by false h r = r
-
 changed_at : {X : Type 0} (k : ClientId) (f : X → X) (es : List (ClientId × X)) (q : ClientId) → at_client q (changed k f es) ≡ cond (is_at (client_cmp k) q) (option_map f (at_client k es)) (at_client q es)
 changed_at k f es q = changed_found k f es q ∙ by (same_client k q) refl where
   by : (b : Bool) → same_client k q ≡ b → cond b (option_map f (at_client q es)) (at_client q es) ≡ cond (is_at (client_cmp k) q) (option_map f (at_client k es)) (at_client q es)
@@ -153,84 +86,3 @@ changed_skips k f other apart (e ∷ es) = by (same_client k e.0) refl (changed_
 
 pub updates_changed : {X : Type 0} (k : ClientId) (f : X → X) (m : BTreeMap ClientId X) → Updates client_cmp m (with_entries m (changed k f m.entries)) k (option_map f (get client_cmp m k))
 updates_changed k f m = updates k (option_map f (get client_cmp m k)) m (changed k f m.entries) (changed_at k f m.entries) (λ other apart. changed_skips k f other apart m.entries)
-
-keys_changed : {X : Type 0} (k : ClientId) (f : X → X) (es : List (ClientId × X)) → keys_of (changed k f es) ≡ keys_of es
-keys_changed k f [] = refl
-keys_changed k f (e ∷ es) = ap (λ l. e.0 ∷ l) (keys_changed k f es)
-
-pub sorted_changed : {X : Type 0} (k : ClientId) (f : X → X) (es : List (ClientId × X)) → IsStrictlySortedBy client_cmp (keys_of es) → IsStrictlySortedBy client_cmp (keys_of (changed k f es))
-sorted_changed k f es h = subst (IsStrictlySortedBy client_cmp) (sym (keys_changed k f es)) h
-
--- ---- the same of each session, as something else
-
-abbrev pub each : {X : Type 0} → (Session → X) → List (ClientId × Session) → List (ClientId × X)
-each g es = behind (λ _ session. g session) es
-
-pub each_put : {X : Type 0} (g : Session → X) (k : ClientId) (v : Session) (es : List (ClientId × Session)) → each g (put client_cmp k v es) ≡ put client_cmp k (g v) (each g es)
-each_put g k v [] = refl
-each_put g k v (e ∷ es) = by (client_cmp k e.0) (each_put g k v es) where
-  by : (o : Ordering) → each g (put client_cmp k v es) ≡ put client_cmp k (g v) (each g es)
-      → each g (by_order o ((k, v) ∷ e ∷ es) ((e.0, v) ∷ es) (e ∷ put client_cmp k v es))
-      ≡ by_order o ((k, g v) ∷ (e.0, g e.1) ∷ each g es) ((e.0, g v) ∷ each g es) ((e.0, g e.1) ∷ put client_cmp k (g v) (each g es))
-  by Less r = refl
-  by Equal r = refl
-  by Greater r = ap (λ l. (e.0, g e.1) ∷ l) r
-
-pub each_others : {X : Type 0} (g : Session → X) (k : ClientId) (es : List (ClientId × Session)) → each g (others k es) ≡ others k (each g es)
-each_others g k [] = refl
-each_others g k (e ∷ es) = by (not (same_client k e.0)) (each_others g k es) where
-  by : (b : Bool) → each g (others k es) ≡ others k (each g es) → each g (cond b (e ∷ others k es) (others k es)) ≡ cond b ((e.0, g e.1) ∷ others k (each g es)) (others k (each g es))
-  by true r = ap (λ l. (e.0, g e.1) ∷ l) r
-  by false r = r
-
-pub each_changed : {X : Type 0} (g : Session → X) (k : ClientId) (f : Session → Session) (h : X → X) → ((session : Session) → g (f session) ≡ h (g session)) → (es : List (ClientId × Session))
-    → each g (changed k f es) ≡ changed k h (each g es)
-each_changed g k f h same [] = refl
-each_changed g k f h same (e ∷ es) = λ i. (e.0, by (same_client k e.0) i) ∷ each_changed g k f h same es i where
-  by : (b : Bool) → g (cond b (f e.1) e.1) ≡ cond b (h (g e.1)) (g e.1)
-  by true = same e.1
-  by false = refl
-
--- ---- what is found, and how many there are
-
-pub find_put : {X : Type 0} (k : ClientId) (v : X) (es : List (ClientId × X)) (q : ClientId) → find client_cmp q (put client_cmp k v es) ≡ cond (same_client k q) (Some v) (find client_cmp q es)
-find_put k v es q = find-put client_cmp clients_total q k v es ∙ ap (λ b. cond b (Some v) (find client_cmp q es)) (same_by_cmp q k ∙ client_sym q k)
-
-pub find_others : {X : Type 0} (k : ClientId) (es : List (ClientId × X)) (q : ClientId) → find client_cmp q (others k es) ≡ cond (same_client k q) None (find client_cmp q es)
-find_others {X} k es q =
-    find-where_key client_cmp (λ client. not (same_client k client)) q (λ x e. ap (λ y. not (same_client k y)) (sym (clients_apart q x e))) es
-    ∙ by (same_client k q) where
-      by : (b : Bool) → cond (not b) (find client_cmp q es) None ≡ cond b None (find client_cmp q es)
-      by true = refl
-      by false = refl
-
-pub find_changed : {X : Type 0} (k : ClientId) (f : X → X) (es : List (ClientId × X)) (q : ClientId) → find client_cmp q (changed k f es) ≡ cond (same_client k q) (option_map f (find client_cmp q es)) (find client_cmp q es)
-find_changed k f es q = found q (changed k f es) ∙ changed_found k f es q ∙ sym (ap (λ o. cond (same_client k q) (option_map f o) o) (found q es))
-
-below_keys : {X : Type 0} (c : ClientId) (es : List (ClientId × X)) → AllByRecursion (λ k. client_cmp c k ≡ Less) (keys_of es) → T (below_all client_cmp c es)
-below_keys c [] h = tt
-below_keys c (e ∷ es) h = subst (λ o. T (is_lt o && below_all client_cmp c es)) (sym h.0) (below_keys c es h.1)
-
--- the order as a test
-pub in_order : {X : Type 0} (es : List (ClientId × X)) → IsStrictlySortedBy client_cmp (keys_of es) → T (is_sorted client_cmp es)
-in_order [] h = tt
-in_order (e ∷ es) h = both _ _ (below_keys e.0 es (sorted_head client_cmp e.0 (keys_of es) h)) (in_order es (sorted_tail client_cmp e.0 (keys_of es) h)) where
-  both : (a c : Bool) → T a → T c → T (a && c)
-  both true c p q = q
-  both false c p q = p
-
-pub length_put : {X : Type 0} (k : ClientId) (v : X) (es : List (ClientId × X)) → IsStrictlySortedBy client_cmp (keys_of es) → find client_cmp k es ≡ None → length (put client_cmp k v es) ≡ length es + 1
-length_put k v es h none =
-    length-put client_cmp clients_total k v es (in_order es h)
-    ∙ ap (λ o. cond (is_some o) (length es) (length es + 1)) none
-
-pub length_others : {X : Type 0} (k : ClientId) (v : X) (es : List (ClientId × X)) → IsStrictlySortedBy client_cmp (keys_of es) → find client_cmp k es ≡ Some v → length (others k es) ≡ length es - 1
-length_others k v es h some =
-    let rest : 1 + length (others k es) ≡ length es =
-    ap (λ o. cond (is_some o) 1 0 + length (others k es)) (sym some)
-    ∙ (λ i. cond (is_some (find client_cmp k es)) 1 0 + length (where_key client_cmp (λ x. not (sym (same_by_cmp k x) i)) es))
-    ∙ length_without client_cmp clients_total k es (in_order es h) in
-    omega arith
-
-pub length_changed : {X : Type 0} (k : ClientId) (f : X → X) (es : List (ClientId × X)) → length (changed k f es) ≡ length es
-length_changed {X} k f es = length-map es (λ (e : ClientId × X). (e.0, cond (same_client k e.0) (f e.1) e.1))

@@ -28,12 +28,14 @@ use Rattle.pres_log.specs.Logs.{Log}
 use Rattle.pres_server.specs.declared.input.Input.{Input}
 use Rattle.pres_server.specs.declared.input.Input.TheVariants as input
 use Rattle.pres_server.specs.Turns.{Decision, refused, quiet, makes}
-use Rattle.pres_history.specs.Sums.{Sum, nothing, began, sum_from}
-use Rattle.pres_history.specs.SumAnswers.{answers_by}
-use Rattle.pres_history.specs.SumTurns.{SumState, moment_by, turn_by, sum_after_turn}
-use Rattle.pres_history.specs.Histories.{History, LeadsTo, whole, answers_in}
-use Rattle.pres_history.proofs.Turning.{turn_follows}
-use Rattle.pres_history.proofs.Histories.{nothing_holds, history_grows}
+use Rattle.pres_server.specs.Sums.{Sum, nothing, began, sum_from}
+use Rattle.pres_server.specs.SumAnswers.{answers_by}
+use Rattle.pres_server.specs.SumStates.{SumState}
+use Rattle.pres_server.specs.SumTurns.{moment_by, turn_by, sum_after_turn}
+use Rattle.pres_server.specs.Histories.{History, LeadsTo, whole, answers_in}
+use Rattle.pres_server.proofs.Turning.{turn_follows}
+use Rattle.pres_server.proofs.SumServers.{nothing_holds}
+use Rattle.pres_history.proofs.Histories.{history_grows}
 
 abbrev alice : ℕ → SessionId
 alice attempt = record { client = codes "alice"; incarnation = 1; attempt = attempt }

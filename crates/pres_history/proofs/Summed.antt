@@ -33,13 +33,11 @@ use Rattle.pres_server.proofs.Heard.{find_behind}
 use Rattle.pres_server.proofs.Parts.{only_open}
 use Rattle.pres_server.proofs.Carried.{Between, between}
 use Rattle.pres_server.proofs.Taken.{rest_taken, first_added}
-use Rattle.pres_history.specs.Sums.{Sum, OpenSession, part_by, part_in, sent_by, changed, sent_more, pushed, carried, answered, sessions_after, gone_after, entered, sum_after, sum_after_all}
-use Rattle.pres_history.specs.SumAnswers.{pushes_by, answers_to_by, answers_by}
-use Rattle.pres_history.proofs.Keyed.{at_client, found, others, each, updates_put, updates_others, updates_changed, sorted_with, sorted_others, sorted_changed, changed_found, each_put, each_others, each_changed}
-
--- an open session of the index, as the sum has it
-abbrev pub open_of : Session → OpenSession
-open_of session = record { stamp = session.stamp; count = session.count; sent = session.sent; plan = session.plan }
+use Rattle.pres_server.specs.InternalSums.{open_of}
+use Rattle.pres_server.specs.Sums.{Sum, OpenSession, part_by, part_in, sent_by, changed, sent_more, pushed, carried, answered, sessions_after, gone_after, entered, sum_after, sum_after_all}
+use Rattle.pres_server.specs.SumAnswers.{pushes_by, answers_to_by, answers_by}
+use Rattle.pres_server.proofs.Keyed.{at_client, found, others, each, sorted_with, sorted_others, sorted_changed, changed_found, each_put, each_others, each_changed}
+use Rattle.pres_history.proofs.Keyed.{updates_put, updates_others, updates_changed}
 
 -- the sum says what the index says
 pub record IsSumOf (index : Index) (sum : Sum) : Type 0 where

@@ -1,6 +1,8 @@
 -- The sum of a whole legal log.
-use Rattle.std.proofs.Common.{inl, refl, sym, ◌∙◌, ap, subst, ◌≡◌, ℕ, ◌+◌, ◌≤◌, min, max, List, [], ◌∷◌, ◌++◌, length, map, append-nil, append_assoc, arith, length-append}
+use Rattle.std.proofs.Common.{inl, refl, sym, ◌∙◌, ap, subst, ◌≡◌, ℕ, ◌+◌, ◌≤◌, min, max, List, [], ◌∷◌, ◌++◌, length, map, append-nil, append_assoc, arith, length-append, Option, Some, None, is_some, MatchOption}
+use Rattle.std.specs.Option.{option_map}
 use Rattle.std.specs.BTreeMap.{IsOrdered}
+use Rattle.std.specs.FinMap.Entries.{find}
 use Rattle.std.specs.List.Sorted.{IsStrictlySortedBy}
 use Rattle.std.proofs.lemmas.List.{length-map}
 use Rattle.std_collections.specs.Layout.BTreeMap.{btree_map}
@@ -9,7 +11,7 @@ use Rattle.pres_tree.specs.Paths.{Path}
 use Rattle.pres_tree.specs.Rows.{Rows}
 use Rattle.pres_write.specs.Moments as moments
 use Rattle.pres_ids.specs.declared.id.SessionId.{SessionId}
-use Rattle.pres_ids.specs.Ids.{ClientId, client_cmp}
+use Rattle.pres_ids.specs.Ids.{ClientId, client_cmp, stamp_of}
 use Rattle.pres_fan.specs.Listeners.{IsListeners, paths_of}
 use Rattle.pres_log.specs.declared.entry.Batch.{Batch}
 use Rattle.pres_log.specs.declared.entry.Entry.{Entry}
@@ -17,32 +19,30 @@ use Rattle.pres_log.specs.Logs.{Log, entries, last_moment}
 use Rattle.pres_log.proofs.Entries.{entries-push}
 use Rattle.pres_server.specs.declared.index.Index.{Index}
 use Rattle.pres_server.specs.declared.input.Input.{Input}
-use Rattle.pres_server.specs.Sessions.{open_sessions}
+use Rattle.pres_server.specs.Sessions.{is_open, sessions_of, open_sessions, open_sessions_of}
 use Rattle.pres_server.specs.LegalLog.{MayFollow, IsLegal, IsLegalAfter}
 use Rattle.pres_server.specs.ServerStates.{Heard, ServerState}
 use Rattle.pres_server.specs.Turns.{Decision, makes, quiet, refused, moment_of, wanted, turn, batch_of, log_after}
-use Rattle.pres_server.specs.InternalParts.{Part, Sound, session_with, wanted_by, limited_by}
+use Rattle.pres_server.specs.InternalParts.{Part, Sound, is_live, count_in, listed, session_with, wanted_by, limited_by}
 use Rattle.pres_server.specs.InternalSessions.{Session, open_count}
 use Rattle.pres_server.specs.InternalIndex.{part_at, paths_at}
 use Rattle.pres_server.specs.InternalInvariants.{ServerInvariant}
 use Rattle.pres_server.specs.InternalFollows.{MayComeTogetherBy, LeavesRoomBy}
-use Rattle.pres_server.proofs.Decide.{wanted_is, wanted_allowed, limited_is}
+use Rattle.pres_server.proofs.Readers.{count_by, some_live}
+use Rattle.pres_server.proofs.Decide.{live_is, wanted_is, wanted_allowed, limited_is}
 use Rattle.pres_server.proofs.Follows.{joins_in, joins_out}
 use Rattle.pres_server.proofs.Heard.{behind}
 use Rattle.pres_server.proofs.OpenList.{id_of, open_list}
 use Rattle.pres_server.proofs.Turned.{count_is, fitting, kept_after}
+use Rattle.pres_server.proofs.Replayed.{sum_push}
 use Rattle.pres_server.proofs.Whole.{of_legal, legal_after, legal_is_sound}
-use Rattle.pres_history.specs.Sums.{Sum, OpenSession, nothing, part_in, paths_in, sum_with, sum_from, sum_of}
-use Rattle.pres_history.specs.SumAnswers.{answers_by}
-use Rattle.pres_history.specs.SumTurns.{FollowsSum, FollowAll, moment_by, turn_by, sum_after_turn}
-use Rattle.pres_history.specs.SumLaws.{Says, SumSays, LegalSumSays, LegalByTheSum, SumsDecide, WholeIsLegal, ReachedStays}
-use Rattle.pres_history.proofs.Keyed.{each}
-use Rattle.pres_history.proofs.Summed.{open_of, IsSumOf, part_is, sent_is, TakenAll, taken}
-
--- one batch more
-pub sum_push : (sum : Sum) (log : Log) (b : Batch) → sum_from sum (log ++ b ∷ []) ≡ sum_with (sum_from sum log) b
-sum_push sum [] b = refl
-sum_push sum (a ∷ log) b = sum_push (sum_with sum a) log b
+use Rattle.pres_server.specs.Sums.{Sum, OpenSession, live_of, nothing, part_in, paths_in, sum_with, sum_from, sum_of}
+use Rattle.pres_server.specs.SumAnswers.{answers_by}
+use Rattle.pres_server.specs.SumTurns.{FollowsSum, FollowAll, moment_by, turn_by, sum_after_turn}
+use Rattle.pres_history.specs.SumLaws.{Says, LegalReadersSay, SameHeard, SumSays, LegalSumSays, LegalByTheSum, SumsDecide, WholeIsLegal, ReachedStays}
+use Rattle.pres_server.proofs.Keyed.{each}
+use Rattle.pres_server.specs.InternalSums.{open_of}
+use Rattle.pres_history.proofs.Summed.{IsSumOf, part_is, sent_is, TakenAll, taken}
 
 -- ---- an index whose sum is that of the log
 
@@ -263,3 +263,50 @@ each_follows (b ∷ later) log legal h = (
 
 pub legal_by_the_sum : (log : Log) → LegalByTheSum log
 legal_by_the_sum log = (λ legal. each_follows log [] tt legal, λ f. (all_follow log [] tt f).0)
+
+-- ---- readers and replays
+
+-- of a client that has at most one session open
+stamp_told : (c : ClientId) (live : Option OpenSession) (found : List SessionId) → found ≡ listed c (option_map live_of live)
+    → MatchOption (option_map (λ (session : OpenSession). session.stamp) live) (found ≡ []) (λ stamp. found ≡ session_with c stamp ∷ [])
+stamp_told c None found e = e
+stamp_told c (Some session) found e = e
+
+pub readers_say : (log : Log) → LegalReadersSay log
+readers_say log legal = record {
+  opened = λ s. ap (λ (p : Part). is_live p.live (stamp_of s)) (w.parts s.client) ∙ sym (live_is s es sound);
+  accepted = λ s. ap (λ (p : Part). count_in p.live (stamp_of s)) (w.parts s.client) ∙ count_by s es sound;
+  has_open = λ c. some_there (find client_cmp c (sum_of log).sessions) ∙ ap (λ (p : Part). is_some p.live) (w.parts c) ∙ some_live (λ s. is_open s es) es (sessions_of c es);
+  stamp = λ c. stamp_told c (find client_cmp c (sum_of log).sessions) (open_sessions_of c es) (sound.one_open c ∙ ap (λ (p : Part). listed c p.live) (sym (w.parts c)));
+  rows = λ c. ap (λ (p : Part). p.rows) (w.parts c);
+} where
+  es : List Entry
+  es = entries log
+
+  sound : Sound es
+  sound = legal_is_sound log legal
+
+  w : Says es (sum_of log)
+  w = says log legal (stands log legal)
+
+  some_there : (o : Option OpenSession) → is_some o ≡ is_some (option_map live_of o)
+  some_there None = refl
+  some_there (Some session) = refl
+
+-- a client with an open session, heard of at the moment
+abbrev open_at : ℕ → ClientId × OpenSession → ClientId × ℕ
+open_at m e = (e.0, m)
+
+abbrev id_at : ℕ → ClientId × SessionId → ClientId × ℕ
+id_at m e = (e.0, m)
+
+moments_same : (m : ℕ) (es : List (ClientId × Session)) → map (open_at m) (each open_of es) ≡ map (id_at m) (behind id_of es)
+moments_same m [] = refl
+moments_same m (e ∷ es) = ap (λ l. (e.0, m) ∷ l) (moments_same m es)
+
+pub heard_same : (log : Log) → SameHeard log
+heard_same log legal =
+    let s = stands log legal in
+    (λ i. map (open_at (s.moment i)) (s.is_sum.sessions i))
+    ∙ moments_same (last_moment log) s.index.places.live.entries
+    ∙ ap (map (id_at (last_moment log))) (open_list (entries log) s.index s.holds.indexed (legal_is_sound log legal) s.holds.ordered)

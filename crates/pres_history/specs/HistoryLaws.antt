@@ -8,11 +8,12 @@ use Rattle.pres_server.specs.declared.input.Input.{Input}
 use Rattle.pres_server.specs.Streams.{answers}
 use Rattle.pres_server.specs.LegalLog.{IsLegal}
 use Rattle.pres_server.specs.Turns.{makes}
-use Rattle.pres_history.specs.Sums.{Sum, nothing, sum_with, sum_of}
-use Rattle.pres_history.specs.SumAnswers.{answers_by}
-use Rattle.pres_history.specs.SumTurns.{FollowsSum, SumState, moment_by, turn_by, batch_by}
+use Rattle.pres_server.specs.Sums.{Sum, nothing, sum_with, sum_of}
+use Rattle.pres_server.specs.SumAnswers.{answers_by}
+use Rattle.pres_server.specs.SumStates.{SumState}
+use Rattle.pres_server.specs.SumTurns.{FollowsSum, moment_by, turn_by, batch_by}
 use Rattle.pres_history.specs.SumLaws.{IsReached}
-use Rattle.pres_history.specs.Histories.{IsSum, History, LeadsTo, whole, with_batch, answers_in}
+use Rattle.pres_server.specs.Histories.{IsSum, History, LeadsTo, whole, with_batch, answers_in}
 
 -- What a turn makes may follow.
 abbrev pub TurnFollows : SumState → Input → ℕ → Type 0

@@ -1,21 +1,24 @@
 -- What the sum of a legal log says, and that it decides what comes next.
-use Rattle.std.specs.Prelude.{◌≡◌, ◌↔◌, ℕ, List, [], ◌∷◌, ◌++◌, map, length, if◌then◌else◌}
+use Rattle.std.specs.Prelude.{◌≡◌, ◌↔◌, ℕ, List, [], ◌∷◌, ◌++◌, map, length, Some, None, MatchOption, if◌then◌else◌}
 use Rattle.pres_ids.specs.declared.id.SessionId.{SessionId}
 use Rattle.pres_ids.specs.Ids.{ClientId}
 use Rattle.pres_log.specs.declared.entry.Batch.{Batch}
 use Rattle.pres_log.specs.declared.entry.Entry.{Entry}
 use Rattle.pres_log.specs.Logs.{Log, entries, last_moment, tree}
 use Rattle.pres_server.specs.declared.input.Input.{Input}
-use Rattle.pres_server.specs.Sessions.{is_open, open_sessions}
+use Rattle.pres_retry.specs.Tables.{rows_of}
+use Rattle.pres_server.specs.Sessions.{is_open, count, has_open, open_sessions, open_sessions_of}
+use Rattle.pres_server.specs.Outcomes.{rows_for}
+use Rattle.pres_server.specs.Replays.{heard_by, heard_anew}
 use Rattle.pres_server.specs.Listening.{listened}
 use Rattle.pres_server.specs.Streams.{answers}
 use Rattle.pres_server.specs.LegalLog.{MayFollow, IsLegal}
 use Rattle.pres_server.specs.ServerStates.{Heard}
 use Rattle.pres_server.specs.Turns.{Decision, turn, log_after}
 use Rattle.pres_server.specs.InternalParts.{part_of, sent_of, session_with}
-use Rattle.pres_history.specs.Sums.{Sum, nothing, part_in, paths_in, sent_by, sum_from, sum_of}
-use Rattle.pres_history.specs.SumAnswers.{answers_by}
-use Rattle.pres_history.specs.SumTurns.{FollowsSum, FollowAll, turn_by, sum_after_turn}
+use Rattle.pres_server.specs.Sums.{Sum, nothing, part_in, paths_in, is_open_in, accepted_in, has_open_in, open_stamp_in, sent_by, sum_from, sum_of}
+use Rattle.pres_server.specs.SumAnswers.{answers_by}
+use Rattle.pres_server.specs.SumTurns.{FollowsSum, FollowAll, turn_by, sum_after_turn}
 
 -- the sum says what the entries say
 pub record Says (es : List Entry) (sum : Sum) : Type 0 where
@@ -72,3 +75,22 @@ pub record IsReached (sum : Sum) : Type 0 where
 -- Batches that follow from a sum that some legal log has lead to a sum that some legal log has.
 abbrev pub ReachedStays : Sum → Log → Type 0
 ReachedStays base later = IsReached base → FollowAll base later → IsReached (sum_from base later)
+
+-- ---- what a server's readers and its replay say
+
+-- what the readers of a server say by the sum is what the entries say
+pub record ReadersSay (es : List Entry) (sum : Sum) : Type 0 where
+  pub opened : (session : SessionId) → is_open_in session sum ≡ is_open session es
+  pub accepted : (session : SessionId) → accepted_in session sum ≡ (if is_open session es then Some (count session es) else None)
+  pub has_open : (client : ClientId) → has_open_in client sum ≡ has_open client es
+  -- the stamp of the client's open session, where it has one
+  pub stamp : (client : ClientId) → MatchOption (open_stamp_in client sum) (open_sessions_of client es ≡ []) (λ stamp. open_sessions_of client es ≡ session_with client stamp ∷ [])
+  pub rows : (client : ClientId) → rows_of client sum.rows ≡ rows_for client es
+
+-- What the readers of a server say by the sum of a legal log is what the log says.
+abbrev pub LegalReadersSay : Log → Type 0
+LegalReadersSay log = IsLegal log → ReadersSay (entries log) (sum_of log)
+
+-- The clients of a server that is made from a legal log's sum count as heard of as those of one that is made from the log.
+abbrev pub SameHeard : Log → Type 0
+SameHeard log = IsLegal log → heard_by (sum_of log) ≡ heard_anew log

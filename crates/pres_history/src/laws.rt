@@ -4,16 +4,28 @@ ghost use Rattle.std.specs.Prelude.{ℕ};
 ghost use Rattle.pres_log.specs.Logs.{Log};
 ghost use Rattle.pres_log.specs.declared.entry.Batch.{Batch};
 ghost use Rattle.pres_server.specs.declared.input.Input.{Input};
-ghost use Rattle.pres_history.specs.Sums.{Sum};
-ghost use Rattle.pres_history.specs.SumTurns.{SumState};
-ghost use Rattle.pres_history.specs.SumLaws.{LegalSumSays, LegalByTheSum, SumsDecide, WholeIsLegal, ReachedStays};
-ghost use Rattle.pres_history.specs.Histories.{History};
+ghost use Rattle.pres_server.specs.Sums.{Sum};
+ghost use Rattle.pres_server.specs.SumStates.{SumState};
+ghost use Rattle.pres_history.specs.SumLaws.{LegalSumSays, LegalReadersSay, SameHeard, LegalByTheSum, SumsDecide, WholeIsLegal, ReachedStays};
+ghost use Rattle.pres_server.specs.Histories.{History};
 ghost use Rattle.pres_history.specs.HistoryLaws.{TurnFollows, HistoryHolds, HistoryGrows, LegalIsHistory, HistoryIsLegal, ReachedHasLog};
 
 /// What the sum of a legal log says is what the log says: of each client, session and path. By it
 /// the same batches may follow, each turn makes the same, and a batch answers the same.
 pub fn sums_say()
     ensures { (log : Log) → LegalSumSays log }
+{}
+
+/// What the readers of a server say by the sum of a legal log is what the log says: which sessions
+/// are open, how many of their messages were accepted, and what became of each write.
+pub fn readers_say()
+    ensures { (log : Log) → LegalReadersSay log }
+{}
+
+/// A server that is made from the sum of a legal log has heard of its clients as one that is made
+/// from the log.
+pub fn resumed_as_the_log()
+    ensures { (log : Log) → SameHeard log }
 {}
 
 /// A log is legal exactly where its batches follow, one after another, from the empty log's sum.

@@ -1,67 +1,121 @@
 -- How many messages were accepted since the start, turn by turn.
-use Rattle.std.proofs.Common.{refl, sym, ◌∙◌, ap, subst, ◌≡◌, ◌≤◌, ◌<◌, ◌+◌, ◌^◌, ℕ, List, [], ◌∷◌, ◌++◌, drop, false, Option, Some, None, arith}
+use Rattle.std.proofs.Common.{refl, sym, ◌∙◌, ap, subst, ◌≡◌, ◌<◌, ◌+◌, ◌^◌, ℕ, List, [], ◌∷◌, ◌++◌, drop, false, Option, Some, None, arith}
 use Rattle.std.proofs.Math.Seq.{drop-length}
 use Rattle.std.proofs.lemmas.List.{drop-append-le, length-drop}
 use Rattle.pres_ids.specs.declared.id.SessionId.{SessionId}
 use Rattle.pres_wire.specs.declared.down.Down.{Down}
+use Rattle.pres_wire.specs.declared.up.Up.{Up}
 use Rattle.pres_wire.specs.declared.up.Up.TheVariants as up
-use Rattle.pres_log.specs.declared.entry.Entry.{Entry}
+use Rattle.pres_log.specs.declared.entry.Batch.{Batch}
 use Rattle.pres_log.specs.Logs.{Log, entries, number}
 use Rattle.pres_log.proofs.Entries.{entries-push, number-push}
 use Rattle.pres_server.specs.declared.input.Input.{Input}
 use Rattle.pres_server.specs.declared.input.Input.TheVariants as input
-use Rattle.pres_server.specs.ServerStates.{ServerState}
 use Rattle.pres_server.specs.LegalLog.{IsLegal}
 use Rattle.pres_server.proofs.Whole.{legal_leaves_room}
-use Rattle.pres_server.specs.Turns.{Decision, refused, quiet, makes, turn, moment_of, batch_of, state_after}
+use Rattle.pres_server.specs.Turns.{Decision, refused, quiet, makes}
+use Rattle.pres_server.specs.SumStates.{SumState}
+use Rattle.pres_server.specs.SumAnswers.{answers_by}
+use Rattle.pres_server.specs.SumTurns.{turn_by, moment_by, batch_by}
 use Rattle.pres_ring.specs.AcceptedMessages.{accepted, messages_in}
 use Rattle.pres_ring.proofs.Made.{accepted_adds, accepted_is_few}
 use Rattle.pres_ring.proofs.Turns.{accepts_one}
-use Rattle.pres_keeper.specs.Engines.{Runs}
-use Rattle.pres_keeper.specs.EngineTurns.{IsDone, IsTurnDone}
 use Rattle.pres_ring.specs.RingEnds.{OutboxState}
 use Rattle.pres_ring.specs.Lines.{Lines}
-use Rattle.pres_dispatch.specs.Dispatches.{is_hello, AreEnded, IsJoined}
+use Rattle.pres_keeper.specs.Keepers.{MakesSum}
+use Rattle.pres_keeper.specs.Engines.{Runs}
+use Rattle.pres_keeper.specs.EngineTurns.{IsDone, IsTurnDone, log_made, log_turned}
+use Rattle.pres_dispatch.specs.Dispatches.{is_hello, IsJoined, AreEnded, log_ended}
+use Rattle.pres_dispatch.proofs.Behind.{of_log, made_by, leads_by}
 use Rattle.pres_dispatch.proofs.Ended.{slow_keeps}
 use Rattle.pres_hub.specs.Cores.{AreAccepted}
+use Rattle.pres_hub.specs.CoreCalls.{accepted_by, accepted_of}
 
 -- nothing was accepted when the hub starts
-pub none_accepted : (server : Option ServerState) (start : ℕ) → Runs (λ s. start ≡ number s.log) server → AreAccepted start 0 server
-none_accepted None start h = tt
-none_accepted (Some s) start h =
-    (subst (λ n. n ≤ number s.log) (sym h) (arith_refl (number s.log)), ap (λ n. accepted (drop n (entries s.log))) h ∙ ap accepted (drop-length (entries s.log))) where
-      arith_refl : (n : ℕ) → n ≤ n
-      arith_refl n = omega (arith)
+pub none_accepted : (start : ℕ) (log : Log) → start ≡ number log → AreAccepted start 0 log
+none_accepted start log h = (omega (arith, h), ap (λ n. accepted (drop n (entries log))) h ∙ ap accepted (drop-length (entries log)))
 
--- behind these entries
-pub made_accepted : (start count : ℕ) (log : Log) (s : ServerState) (m : ℕ) (es : List Entry) → (start ≤ number log) × (accepted (drop start (entries log)) ≡ count)
-    → (start ≤ number (log ++ batch_of log m es ∷ [])) × (accepted (drop start (entries (log ++ batch_of log m es ∷ []))) ≡ count + accepted es)
-made_accepted start count log s m es h =
-    let more = number-push log (batch_of log m es) in (
+-- behind this batch
+made_accepted : (start count : ℕ) (log : Log) (b : Batch) → AreAccepted start count log → AreAccepted start (count + accepted b.entries) (log ++ b ∷ [])
+made_accepted start count log b h =
+    let more = number-push log b in (
       omega (arith, more, h.0),
-      ap (λ xs. accepted (drop start xs)) (entries-push log (batch_of log m es))
-          ∙ ap accepted (drop-append-le start (entries log) es h.0)
-          ∙ accepted_adds (drop start (entries log)) es
-          ∙ ap (λ n. n + accepted es) h.1,
+      ap (λ xs. accepted (drop start xs)) (entries-push log b)
+          ∙ ap accepted (drop-append-le start (entries log) b.entries h.0)
+          ∙ accepted_adds (drop start (entries log)) b.entries
+          ∙ ap (λ n. n + accepted b.entries) h.1,
     )
 
--- an input that is no message adds nothing
-pub same_accepted : (start count : ℕ) (old new : Option ServerState) (i : Input) (now : ℕ) (outs : List Down) → messages_in i ≡ 0 → IsTurnDone old i now new outs → AreAccepted start count old → AreAccepted start count new
-same_accepted start count None new i now outs none turned h = absurd turned
-same_accepted start count (Some s) new i now outs none turned h = by (turn s i now) refl turned where
-  by : (d : Decision) → turn s i now ≡ d → IsDone d s (moment_of s.log now) i new outs → AreAccepted start count new
+-- so many messages does the decision on so many accept
+abbrev pub taken : ℕ → Decision → ℕ
+taken messages (makes es) = messages
+taken messages _ = 0
+
+none_taken : (d : Decision) → taken 0 d ≡ 0
+none_taken (refused f) = refl
+none_taken quiet = refl
+none_taken (makes es) = refl
+
+one_taken : (d : Decision) → taken 1 d ≡ accepted_by d
+one_taken (refused f) = refl
+one_taken quiet = refl
+one_taken (makes es) = refl
+
+-- the log leads to the server's sum, and has so many messages accepted since the start
+abbrev pub Accepted : ℕ → ℕ → Log → SumState → Type 0
+Accepted start count log s = MakesSum log s.sum × AreAccepted start count log
+
+-- a turn adds what it accepts
+turned_accepted : (start count : ℕ) (log : Log) (s : SumState) (new : Option SumState) (i : Input) (now : ℕ) (outs : List Down) → IsTurnDone (Some s) i now new outs → Accepted start count log s
+    → Runs (Accepted start (count + taken (messages_in i) (turn_by s i now)) (log_turned log (Some s) i now)) new
+turned_accepted start count log s new i now outs turned h = by (turn_by s i now) refl turned where
+  by : (d : Decision) → turn_by s i now ≡ d → IsDone d s (moment_by s.sum now) i new outs → Runs (Accepted start (count + taken (messages_in i) d) (log_made log s.sum (moment_by s.sum now) d)) new
   by (refused f) k done = absurd done
-  by quiet k done = subst (AreAccepted start count) (sym done.0) h
+  by quiet k done =
+      let same : count ≡ count + 0 = omega arith in
+      subst (Runs (Accepted start (count + 0) log)) (sym done.0) (h.0, subst (λ n. AreAccepted start n log) same h.1)
   by (makes es) k done =
-      let one : accepted es ≡ 0 = accepts_one s i now es k ∙ none in
-      let parts = made_accepted start count s.log s (moment_of s.log now) es h in
-      subst (AreAccepted start count) (sym done.0) (parts.0, parts.1 ∙ omega (arith, one))
+      let one : accepted es ≡ messages_in i = accepts_one (of_log log s) i now es (made_by log s h.0 i now es k) in
+      let b = batch_by s.sum (moment_by s.sum now) es in
+      subst (Runs (Accepted start (count + messages_in i) (log ++ b ∷ []))) (sym done.0)
+      (leads_by log s h.0 i now es k, subst (λ n. AreAccepted start (count + n) (log ++ b ∷ [])) one (made_accepted start count log b h.1))
+
+-- an input that is no message adds nothing
+pub same_accepted : (start count : ℕ) (log : Log) (old new : Option SumState) (i : Input) (now : ℕ) (outs : List Down) → messages_in i ≡ 0 → IsTurnDone old i now new outs → Runs (Accepted start count log) old
+    → Runs (Accepted start count (log_turned log old i now)) new
+same_accepted start count log None new i now outs none turned h = absurd turned
+same_accepted start count log (Some s) new i now outs none turned h =
+    let zero : taken (messages_in i) (turn_by s i now) ≡ 0 = ap (λ n. taken n (turn_by s i now)) none ∙ none_taken (turn_by s i now) in
+    let same : count + taken (messages_in i) (turn_by s i now) ≡ count = omega (arith, zero) in
+    subst (λ n. Runs (Accepted start n (log_turned log (Some s) i now)) new) same (turned_accepted start count log s new i now outs turned h)
+
+-- a message adds itself where it is accepted
+pub said_accepted : (start count : ℕ) (log : Log) (old new : Option SumState) (m : Up) (now : ℕ) (outs : List Down) → IsTurnDone old (input.Up m) now new outs → Runs (Accepted start count log) old
+    → Runs (Accepted start (count + accepted_of old m now) (log_turned log old (input.Up m) now)) new
+said_accepted start count log None new m now outs turned h = absurd turned
+said_accepted start count log (Some s) new m now outs turned h =
+    subst (λ n. Runs (Accepted start (count + n) (log_turned log (Some s) (input.Up m) now)) new) (one_taken (turn_by s (input.Up m) now)) (turned_accepted start count log s new (input.Up m) now outs turned h)
+
+-- a Hello that is done is one more
+joined_done : (s : SessionId) (now : ℕ) (old new : Option SumState) (before after : Lines) (end : OutboxState) → (joined : IsJoined s now old new before after end)
+    → IsTurnDone old (input.Up (up.Hello s)) now new (answers_by joined.state.sum joined.made)
+joined_done s now old new before after end joined =
+    let state = joined.state in
+    subst (λ o. IsTurnDone o (input.Up (up.Hello s)) now new (answers_by state.sum joined.made)) (sym joined.ran)
+    (subst (λ d. IsDone d state (moment_by state.sum now) (input.Up (up.Hello s)) new (answers_by state.sum joined.made)) (sym joined.turned) (joined.runs, refl))
+
+pub joined_accepted : (start count : ℕ) (log : Log) (s : SessionId) (now : ℕ) (old new : Option SumState) (before after : Lines) (end : OutboxState) → IsJoined s now old new before after end → Runs (Accepted start count log) old
+    → Runs (Accepted start (count + 1) (log_turned log old (input.Up (up.Hello s)) now)) new
+joined_accepted start count log s now old new before after end joined h =
+    let one : accepted_of old (up.Hello s) now ≡ 1 = ap (λ o. accepted_of o (up.Hello s) now) joined.ran ∙ ap accepted_by joined.turned in
+    subst (λ n. Runs (Accepted start (count + n) (log_turned log old (input.Up (up.Hello s)) now)) new) one
+    (said_accepted start count log old new (up.Hello s) now (answers_by joined.state.sum joined.made) (joined_done s now old new before after end joined) h)
 
 -- ends of slow sessions add nothing
-pub ended_accepted : (start count now : ℕ) (old new : Option ServerState) (before after : Lines) → AreEnded now old new before after → AreAccepted start count old → AreAccepted start count new
-ended_accepted start count now old new before after ended h =
-    slow_keeps (AreAccepted start count) tt now (λ x s server outs opened turned k. same_accepted start count (Some x) server (input.Slow s) now outs refl turned k)
-    ended.0 old new before after ended.1 h
+pub ended_accepted : (start count now : ℕ) (log : Log) (old new : Option SumState) (before after : Lines) → (ended : AreEnded now old new before after) → Runs (Accepted start count log) old → Runs (Accepted start count (log_ended log ended)) new
+ended_accepted start count now log old new before after ended h =
+    slow_keeps (Accepted start count) now (λ l x s server outs opened turned k. same_accepted start count l (Some x) server (input.Slow s) now outs refl turned k)
+    log old new before after ended h
 
 pub no_hello : (i : Input) → messages_in i ≡ 0 → is_hello i ≡ false
 no_hello (input.Up m) h = absurd (cc h)
@@ -71,20 +125,10 @@ no_hello (input.Restart c) h = refl
 no_hello input.Tick h = refl
 
 -- there are not so many messages, since there are not so many entries
-pub few_accepted : (start count : ℕ) (server : Option ServerState) (state : ServerState) → server ≡ Some state → Runs (λ s. IsLegal s.log) server → AreAccepted start count server → count < 2 ^ 53
-few_accepted start count server state is legal h =
-    let l : IsLegal state.log = subst (Runs (λ s. IsLegal s.log)) is legal in
-    let a : (start ≤ number state.log) × (accepted (drop start (entries state.log)) ≡ count) = subst (AreAccepted start count) is h in
-    let few = accepted_is_few (drop start (entries state.log)) in
-    let rest = length-drop start (entries state.log) in
-    let room = legal_leaves_room state.log l in
-    let same = a.1 in
+pub few_accepted : (start count : ℕ) (log : Log) → IsLegal log → AreAccepted start count log → count < 2 ^ 53
+few_accepted start count log legal h =
+    let few = accepted_is_few (drop start (entries log)) in
+    let rest = length-drop start (entries log) in
+    let room = legal_leaves_room log legal in
+    let same = h.1 in
     omega (arith, few, rest, room, same)
-
--- a Hello that is done is one more
-pub joined_accepted : (start count : ℕ) (s : SessionId) (now : ℕ) (old new : Option ServerState) (before after : Lines) (end : OutboxState) → IsJoined s now old new before after end → AreAccepted start count old → AreAccepted start (count + 1) new
-joined_accepted start count s now old new before after end joined h =
-    let state = joined.state in
-    let one : accepted joined.made ≡ 1 = accepts_one state (input.Up (up.Hello s)) now joined.made joined.turned in
-    let parts = made_accepted start count state.log state (moment_of state.log now) joined.made (subst (AreAccepted start count) joined.ran h) in
-    subst (AreAccepted start (count + 1)) (sym joined.runs) (parts.0, parts.1 ∙ omega (arith, one))

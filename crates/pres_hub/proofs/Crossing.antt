@@ -35,7 +35,7 @@ use Rattle.pres_session.specs.contracts.gone.Gone as gone
 use Rattle.pres_session.specs.contracts.live.Live as live
 use Rattle.pres_plan.specs.contracts.plan.Plan as plan
 use Rattle.pres_retry.specs.contracts.table.RetryTable as retry
-use Rattle.pres_retry.specs.contracts.table.Row as row
+use Rattle.pres_retry.specs.contracts.answers.Answers as answers
 use Rattle.pres_fan.specs.contracts.paths.SessionPaths as session_paths
 use Rattle.pres_fan.specs.contracts.sessions.Sessions as listening
 use Rattle.pres_fan.specs.contracts.level.Level as level
@@ -98,11 +98,11 @@ plan_send = search (placement_send, path_is, number_is, maps, crosses, sendable)
 pub live_send : IsSend (live.the_row plan.the_row)
 live_send = search (plan_send, count_is, moment_is, crosses, sendable) depth 60 fits 20000
 
-pub row_send : IsSend row.the_row
-row_send = search (number_is, kept_send, declared_send, crosses, sendable) depth 60 fits 20000
+pub answers_send : IsSend answers.the_row
+answers_send = search (number_is, tree_send, maps, crosses, sendable) depth 60 fits 20000
 
 pub retry_send : IsSend retry.the_row
-retry_send = search (client_is, row_send, maps, crosses, sendable) depth 60 fits 20000
+retry_send = search (client_is, answers_send, maps, crosses, sendable) depth 60 fits 20000
 
 pub session_paths_send : IsSend session_paths.the_row
 session_paths_send = search (path_is, session_is, maps, maps_over, crosses, sendable) depth 60 fits 20000

@@ -5,12 +5,12 @@ use Rattle.pres_wire.specs.declared.up.Up.{Up}
 use Rattle.pres_wire.specs.Messages.{session_in}
 use Rattle.pres_log.specs.declared.fault.Fault.{Fault}
 use Rattle.pres_log.specs.declared.fault.Fault.TheVariants as fault
-use Rattle.pres_log.specs.Logs.{entries}
 use Rattle.pres_server.specs.declared.input.Input.{Input}
 use Rattle.pres_server.specs.declared.input.Input.TheVariants as input
-use Rattle.pres_server.specs.ServerStates.{ServerState}
-use Rattle.pres_server.specs.Sessions.{is_open, count}
-use Rattle.pres_server.specs.Turns.{Decision, quiet, makes, turn}
+use Rattle.pres_server.specs.Turns.{Decision, quiet, makes}
+use Rattle.pres_server.specs.Sums.{accepted_in}
+use Rattle.pres_server.specs.SumStates.{SumState}
+use Rattle.pres_server.specs.SumTurns.{turn_by}
 use Rattle.pres_ring.specs.AcceptedMessages.{is_hello}
 use Rattle.pres_ring.specs.Lines.{Lines, line_at, IsFirstMarked}
 use Rattle.pres_keeper.specs.Engines.{Runs}
@@ -27,15 +27,15 @@ use Rattle.pres_faults.specs.declared.hub_fault.HubFault.{HubFault}
 use Rattle.pres_faults.specs.declared.hub_fault.HubFault.TheVariants as why
 
 -- the input's turn is done and answered on the lines, and then each session whose line is slow is ended
-pub record IsCarriedOut (input : Input) (now : ℕ) (old new : Option ServerState) (before after : Lines) : Type 0 where
-  pub middle : Option ServerState
+pub record IsCarriedOut (input : Input) (now : ℕ) (old new : Option SumState) (before after : Lines) : Type 0 where
+  pub middle : Option SumState
   pub lines : Lines
   pub answered : IsAnswered old input now middle before lines
   pub ended : AreEnded now middle new lines after
 
 -- the session is opened and answered on the lines, and then each session whose line is slow is ended
-pub record IsJoinAnswered (s : SessionId) (now : ℕ) (old new : Option ServerState) (before after : Lines) (end : OutboxState) : Type 0 where
-  pub middle : Option ServerState
+pub record IsJoinAnswered (s : SessionId) (now : ℕ) (old new : Option SumState) (before after : Lines) (end : OutboxState) : Type 0 where
+  pub middle : Option SumState
   pub lines : Lines
   pub joined : IsJoined s now old middle before lines end
   pub ended : AreEnded now middle new lines after
@@ -45,13 +45,13 @@ abbrev pub accepted_by : Decision → ℕ
 accepted_by (makes es) = 1
 accepted_by _ = 0
 
-abbrev pub accepted_of : Option ServerState → Up → ℕ → ℕ
+abbrev pub accepted_of : Option SumState → Up → ℕ → ℕ
 accepted_of None m now = 0
-accepted_of (Some s) m now = accepted_by (turn s (input.Up m) now)
+accepted_of (Some s) m now = accepted_by (turn_by s (input.Up m) now)
 
 -- the message's session has had as many messages as the seat, where it is open
-abbrev pub HasSameCount : Up → ℕ → Option ServerState → Type 0
-HasSameCount m q server = Runs (λ s. is_open (session_in m) (entries s.log) ≡ true → count (session_in m) (entries s.log) ≡ q) server
+abbrev pub HasSameCount : Up → ℕ → Option SumState → Type 0
+HasSameCount m q server = Runs (λ s. IfSome (accepted_in (session_in m) s.sum) (λ count. count ≡ q)) server
 
 -- the message is the seat's own: it is no Hello, and names the seat's session
 abbrev pub IsOwnMessage : SeatState → Up → Type 0
@@ -59,7 +59,7 @@ IsOwnMessage seat m = (is_hello m ≡ false) × (same_session (session_in m) sea
 
 -- A seat's message is taken to a server that runs: it is the seat's own, its session has had as many messages as the
 -- seat, and the server has what the seat was told of.
-pub record IsTaken (seat : SeatState) (m : Up) (server : Option ServerState) (number : ℕ) : Type 0 where
+pub record IsTaken (seat : SeatState) (m : Up) (server : Option SumState) (number : ℕ) : Type 0 where
   pub runs : is_some server ≡ true
   pub own : IsOwnMessage seat m
   pub fresh : seat.seen ≤ number
@@ -67,14 +67,14 @@ pub record IsTaken (seat : SeatState) (m : Up) (server : Option ServerState) (nu
 
 -- The message's turn is done and answered on the lines, and then each session whose line is slow is ended. The seat and
 -- the counts have one message more where the server accepted it, and the seat is told of the number.
-pub record IsSayAnswered (m : Up) (now : ℕ) (old new : Option ServerState) (before after : Lines) (earlier number : ℕ) (seat seat_after : SeatState) (counts counts_after : Counts) : Type 0 where
+pub record IsSayAnswered (m : Up) (now : ℕ) (old new : Option SumState) (before after : Lines) (earlier number : ℕ) (seat seat_after : SeatState) (counts counts_after : Counts) : Type 0 where
   pub taken : IsTaken seat m old earlier
   pub carried : IsCarriedOut (input.Up m) now old new before after
   pub seat_is : seat_after ≡ record { session = seat.session; q = seat.q + accepted_of old m now; seen = number; made = seat.made + accepted_of old m now }
   pub counts_are : counts_after ≡ record counts { accepted = counts.accepted + accepted_of old m now }
 
 -- an event isn't done, as its turn isn't
-abbrev pub IsEventRefused : Input → ℕ → Option ServerState → Option ServerState → HubFault → Type 0
+abbrev pub IsEventRefused : Input → ℕ → Option SumState → Option SumState → HubFault → Type 0
 IsEventRefused i now old new why.Memory = IsTurnRefused old i now new refusal.Memory
 IsEventRefused i now old new (why.Refused f) = IsTurnRefused old i now new (refusal.Refused f)
 IsEventRefused i now old new (why.Keeper f) = IsTurnRefused old i now new (refusal.Keeper f)
@@ -88,16 +88,16 @@ IsForeign false same f = (f ≡ fault.Session) × (same ≡ false)
 
 -- Why a seat's message isn't taken to the server: the server is down, before all; it isn't the seat's own; the server
 -- has less than the seat was told of; and last, its session has had another number of messages than the seat.
-abbrev pub IsHeldBack : SeatState → Up → Option ServerState → ℕ → HubFault → Type 0
+abbrev pub IsHeldBack : SeatState → Up → Option SumState → ℕ → HubFault → Type 0
 IsHeldBack seat m None number e = e ≡ why.Down
 IsHeldBack seat m (Some s) number (why.Refused f) = IsForeign (is_hello m) (same_session (session_in m) seat.session) f
 IsHeldBack seat m (Some s) number (why.Behind have seen) = IsOwnMessage seat m × (have ≡ number) × (seen ≡ seat.seen) × (number < seat.seen)
 IsHeldBack seat m (Some s) number (why.Apart q) =
-    IsOwnMessage seat m × (seat.seen ≤ number) × (q ≡ seat.q + 1) × (is_open (session_in m) (entries s.log) ≡ true) × (count (session_in m) (entries s.log) ≢ seat.q)
+    IsOwnMessage seat m × (seat.seen ≤ number) × (q ≡ seat.q + 1) × IsSomeAnd (accepted_in (session_in m) s.sum) (λ count. count ≢ seat.q)
 IsHeldBack seat m (Some s) number e = ⊥
 
 -- the end of a session isn't done: memory is refused with the server as it was, or its turn isn't done
-abbrev pub IsEndRefused : Input → ℕ → Option ServerState → Option ServerState → HubFault → Type 0
+abbrev pub IsEndRefused : Input → ℕ → Option SumState → Option SumState → HubFault → Type 0
 IsEndRefused i now old new why.Memory = new ≡ old
 IsEndRefused i now old new (why.Refused f) = IsEventRefused i now old new (why.Refused f)
 IsEndRefused i now old new (why.Keeper f) = IsEventRefused i now old new (why.Keeper f)
@@ -105,11 +105,11 @@ IsEndRefused i now old new why.Down = IsEventRefused i now old new why.Down
 IsEndRefused i now old new e = ⊥
 
 -- a seat's message is kept back, with the server as it was, or else is taken to the server, and its turn isn't done
-abbrev pub IsSayRefused : SeatState → Up → ℕ → ℕ → Option ServerState → Option ServerState → HubFault → Type 0
+abbrev pub IsSayRefused : SeatState → Up → ℕ → ℕ → Option SumState → Option SumState → HubFault → Type 0
 IsSayRefused seat m number now old new e = (IsHeldBack seat m old number e × (new ≡ old)) ⊎ (IsTaken seat m old number × IsEventRefused (input.Up m) now old new e)
 
 -- a session isn't opened, as its Hello's turn isn't done
-abbrev pub IsJoinRefused : SessionId → ℕ → Option ServerState → Option ServerState → HubFault → Type 0
+abbrev pub IsJoinRefused : SessionId → ℕ → Option SumState → Option SumState → HubFault → Type 0
 IsJoinRefused s now old new why.Memory = IsNotJoined s now old new refusal.Memory
 IsJoinRefused s now old new (why.Refused f) = IsNotJoined s now old new (refusal.Refused f)
 IsJoinRefused s now old new (why.Keeper f) = IsNotJoined s now old new (refusal.Keeper f)
@@ -127,51 +127,51 @@ abbrev pub NoneMarked : Lines → Type 0
 NoneMarked lines = (s : SessionId) → IfSome (line_at s lines) (λ l. l.mark ≡ None)
 
 -- these sessions, each the first that is marked, are ended for the reason of their marks, one after the other
-abbrev pub EndsMarked : ℕ → List (SessionId × Why) → Option ServerState → Option ServerState → Lines → Lines → Type 0
+abbrev pub EndsMarked : ℕ → List (SessionId × Why) → Option SumState → Option SumState → Lines → Lines → Type 0
 EndsMarked now [] old new before after = (new ≡ old) × (after ≡ before)
 EndsMarked now (e ∷ es) old new before after =
     IsFirstMarked e before
-    × (middle : Option ServerState) × (lines : Lines) × IsCarriedOut (end_by e.1 e.0) now old middle before lines × EndsMarked now es middle new lines after
+    × (middle : Option SumState) × (lines : Lines) × IsCarriedOut (end_by e.1 e.0) now old middle before lines × EndsMarked now es middle new lines after
 
 -- so many times the first lease that ran out is ended, or nothing is done where there is none
-abbrev pub EndsLate : ℕ → ℕ → Option ServerState → Option ServerState → Lines → Lines → Type 0
+abbrev pub EndsLate : ℕ → ℕ → Option SumState → Option SumState → Lines → Lines → Type 0
 EndsLate now zero old new before after = (new ≡ old) × (after ≡ before)
 EndsLate now (suc n) old new before after =
-    (middle : Option ServerState) × (lines : Lines) × IsCarriedOut input.Tick now old middle before lines × EndsLate now n middle new lines after
+    (middle : Option SumState) × (lines : Lines) × IsCarriedOut input.Tick now old middle before lines × EndsLate now n middle new lines after
 
-abbrev pub AreMarkedEnded : ℕ → Option ServerState → Option ServerState → Lines → Lines → Type 0
+abbrev pub AreMarkedEnded : ℕ → Option SumState → Option SumState → Lines → Lines → Type 0
 AreMarkedEnded now old new before after = (es : List (SessionId × Why)) × EndsMarked now es old new before after
 
-abbrev pub AreLateEnded : ℕ → Option ServerState → Option ServerState → Lines → Lines → Type 0
+abbrev pub AreLateEnded : ℕ → Option SumState → Option SumState → Lines → Lines → Type 0
 AreLateEnded now old new before after = (n : ℕ) × EndsLate now n old new before after
 
 -- sessions that are marked are ended until none is, then those whose leases ran out, until none is left
-pub record IsTickDone (now : ℕ) (old new : Option ServerState) (before after : Lines) : Type 0 where
-  pub middle : Option ServerState
+pub record IsTickDone (now : ℕ) (old new : Option SumState) (before after : Lines) : Type 0 where
+  pub middle : Option SumState
   pub lines : Lines
   pub marked : AreMarkedEnded now old middle before lines
   pub none_marked : NoneMarked lines
   pub late : AreLateEnded now middle new lines after
-  pub none_late : Runs (λ s. turn s input.Tick now ≡ quiet) new
+  pub none_late : Runs (λ s. turn_by s input.Tick now ≡ quiet) new
 
 -- a tick stops at a session whose end is refused: it stays the first that is marked, and the ends before it stand
-pub record StopsAtMark (now : ℕ) (old new : Option ServerState) (before after : Lines) (e : HubFault) : Type 0 where
-  pub middle : Option ServerState
+pub record StopsAtMark (now : ℕ) (old new : Option SumState) (before after : Lines) (e : HubFault) : Type 0 where
+  pub middle : Option SumState
   pub ended : AreMarkedEnded now old middle before after
   pub next : SessionId × Why
   pub first : IsFirstMarked next after
   pub refused : IsEndRefused (end_by next.1 next.0) now middle new e
 
 -- it stops at a lease whose end is refused: each session that was marked is ended, and the ends of leases before it stand
-pub record StopsAtLease (now : ℕ) (old new : Option ServerState) (before after : Lines) (e : HubFault) : Type 0 where
-  pub middle : Option ServerState
+pub record StopsAtLease (now : ℕ) (old new : Option SumState) (before after : Lines) (e : HubFault) : Type 0 where
+  pub middle : Option SumState
   pub lines : Lines
   pub ended : AreMarkedEnded now old middle before lines
   pub none_marked : NoneMarked lines
-  pub last : Option ServerState
+  pub last : Option SumState
   pub late : AreLateEnded now middle last lines after
   pub refused : IsEventRefused input.Tick now last new e
 
 -- a tick stops at an end that is refused
-abbrev pub IsTickStopped : ℕ → Option ServerState → Option ServerState → Lines → Lines → HubFault → Type 0
+abbrev pub IsTickStopped : ℕ → Option SumState → Option SumState → Lines → Lines → HubFault → Type 0
 IsTickStopped now old new before after e = StopsAtMark now old new before after e ⊎ StopsAtLease now old new before after e

@@ -1,2 +1,3 @@
 pub mod Cores
 pub mod CoreCalls
+pub mod CoreTurns

@@ -1,20 +1,23 @@
 //! The value under a hub's lock.
 
-ghost use Rattle.std.specs.Prelude.{◌≡◌, ◌≤◌, ◌+◌, ◌-◌, ◌^◌, ◌<◌, ◌≢◌, [], false, true, Some, None, IfOk, IfErr, IfSome, IfNone, OnOk, OnErr, is_some, option_map};
+ghost use Rattle.std.specs.Prelude.{◌≡◌, ◌≤◌, ◌+◌, ◌-◌, ◌^◌, ◌<◌, ◌≢◌, [], false, true, Some, None, IfOk, IfErr, IfSome, IfNone, IsSomeAnd, OnOk, OnErr, MatchResult, is_some, option_map};
 ghost use Rattle.pres_ids.specs.declared.id.SessionId.{SessionId};
-ghost use Rattle.pres_log.specs.Logs.{Log, entries};
-ghost use Rattle.pres_server.specs.Sessions.{is_open, count};
+ghost use Rattle.pres_log.specs.Logs.{Log};
+ghost use Rattle.pres_server.specs.Sums.{is_open_in, accepted_in, sum_of};
 ghost use Rattle.pres_ids.specs.Ids.{same_session};
 ghost use Rattle.pres_wire.specs.Messages.{session_in};
-ghost use Rattle.pres_server.specs.Turns.{turn, quiet};
-ghost use Rattle.pres_server.specs.Replays.{made_from};
+ghost use Rattle.pres_server.specs.Turns.{quiet};
+ghost use Rattle.pres_server.specs.SumTurns.{turn_by};
+ghost use Rattle.pres_server.specs.Replays.{resumed};
 ghost use Rattle.pres_server.specs.declared.input.Input.TheVariants.{Up as Message, Tick as Late};
 ghost use Rattle.pres_keeper.specs.Engines.{Runs};
+ghost use Rattle.pres_keeper.specs.EngineTurns.{log_turned};
 ghost use Rattle.pres_ring.specs.AcceptedMessages.{is_hello, messages_in};
-ghost use Rattle.pres_dispatch.specs.Dispatches.{StayMarked, IsAnswered, AreRestarted, IsNotStarted};
+ghost use Rattle.pres_dispatch.specs.Dispatches.{StayMarked, Stands, IsAnswered, AreRestarted, log_restarted, IsNotStarted};
 ghost use Rattle.pres_faults.specs.HubFaults.{of_engine};
 ghost use Rattle.pres_ring.specs.Lines.{line_at, struck, ChangesAt};
-ghost use Rattle.pres_hub.specs.Cores.{CoreInvariant, end_by};
+ghost use Rattle.pres_hub.specs.CoreTurns.{CarriesOn, JoinsOn, StandsStill, EndsMarkedOn, EndsLateOn, TicksOn};
+ghost use Rattle.pres_hub.specs.Cores.{CoreInvariant, IsCoreLog, GoesOn, end_by};
 ghost use Rattle.pres_hub.specs.CoreCalls.{IsCarriedOut, IsJoinAnswered, IsHeldBack, HasSameCount, accepted_of, IsOwnMessage, IsSayAnswered, IsEventRefused, IsSayRefused, IsJoinRefused, IsEndRefused, IsMarked, NoneMarked, AreMarkedEnded, AreLateEnded, IsTickDone, StopsAtMark, IsTickStopped};
 ghost use Rattle.pres_faults.specs.declared.hub_fault.HubFault.TheVariants.{Down as Gone, Memory};
 
@@ -47,8 +50,7 @@ pub struct Core<L: Ledger, K: Keeper + Drop, B> {
 }
 
 impl<L: Ledger, K: Keeper + Drop, B> Model for Core<L, K, B> {
-    ghost use Rattle.pres_dispatch.specs.Dispatches.{NoneSlow};
-    ghost use Rattle.pres_hub.specs.Cores.{CoreState, AreAccepted};
+    ghost use Rattle.pres_hub.specs.Cores.{CoreState, CoreInvariant};
 
     ghost Value = { CoreState K };
 
@@ -59,8 +61,12 @@ impl<L: Ledger, K: Keeper + Drop, B> Model for Core<L, K, B> {
       start = c.start;
     } };
 
-    ghost invariant = { λ c. NoneSlow c.exchange.lines
-        × AreAccepted c.start c.tally.accepted c.exchange.run.server };
+    ghost invariant = { λ c. CoreInvariant K.works K.keeps (record {
+      run = c.exchange.run;
+      lines = c.exchange.lines;
+      counts = c.tally;
+      start = c.start;
+    }) };
 }
 
 // The input that ends the session for this reason.
@@ -76,10 +82,10 @@ fn end_by(why: Why, session: SessionId) -> Input
 
 // Whether the session is open, and has had another number of messages.
 fn is_apart(server: &Server, session: &SessionId, mine: Count) -> bool
-    ensures opened { (result ≡ true) → is_open session.now (entries server.now.log) ≡ true }
-    ensures apart { (result ≡ true) → count session.now (entries server.now.log) ≢ mine }
-    ensures abreast { (result ≡ false) → is_open session.now (entries server.now.log) ≡ true
-        → count session.now (entries server.now.log) ≡ mine }
+    ensures apart { (result ≡ true)
+        → IsSomeAnd (accepted_in session.now server.now.sum) (λ count. count ≢ mine) }
+    ensures abreast { (result ≡ false)
+        → IfSome (accepted_in session.now server.now.sum) (λ count. count ≡ mine) }
 {
     match server.count(session) {
         Some(count) => count != mine,
@@ -113,6 +119,10 @@ fn take_message<L: Ledger, K: Keeper + Drop, B: Bell + Clone + Drop>(
     ensures kept { OnErr result ((tally.new ≡ tally.old) × (seat.new ≡ seat.old)) }
     ensures stays { OnErr result (exchange.new.run.number ≡ exchange.old.run.number) }
     ensures lines { OnErr result (exchange.new.lines ≡ exchange.old.lines) }
+    ensures stands { (log : Log) → Stands K.works K.keeps log exchange.old → MatchResult result
+        (λ _. Stands K.works K.keeps
+        (log_turned log exchange.old.run.server (Message up) now) exchange.new)
+        (λ _. Stands K.works K.keeps log exchange.new) }
 {
     let before = exchange.number();
     let q = up.q();
@@ -141,9 +151,10 @@ impl<L: Ledger, K: Keeper + Drop, B: Bell + Clone + Drop> Core<L, K, B> {
         requires ready { K.ready keeper }
         ensures runs { IfOk result (λ c. is_some c.run.server ≡ true) }
         ensures closed { IfOk result (λ c.
-            Runs (λ s. (t : SessionId) → is_open t (entries s.log) ≡ false) c.run.server) }
+            Runs (λ s. (t : SessionId) → is_open_in t s.sum ≡ false) c.run.server) }
         ensures ended { IfOk result (λ c. (log : Log) → K.works c.run.keeper → K.keeps keeper log
-            → AreRestarted now (Some (made_from log)) c.run.server) }
+            → (ended : AreRestarted now (Some (resumed (sum_of log))) c.run.server)
+            × IsCoreLog K.works K.keeps (log_restarted log ended) c) }
         ensures lines { IfOk result (λ c. c.lines ≡ []) }
         ensures counts { IfOk result (λ c.
             c.counts ≡ record { accepted = 0; seats = 0; out = 0 }) }
@@ -194,6 +205,10 @@ impl<L: Ledger, K: Keeper + Drop, B: Bell + Clone + Drop> Core<L, K, B> {
         ensures stays { OnErr result (self.new.run.number ≡ self.old.run.number) }
         ensures counts { self.new.counts ≡ self.old.counts }
         ensures start { self.new.start ≡ self.old.start }
+        ensures goes_on { GoesOn K.works K.keeps self.old self.new }
+        ensures carries { IfOk result (λ _.
+            CarriesOn K.works K.keeps input now self.old self.new) }
+        ensures still { OnErr result (StandsStill K.works K.keeps self.old self.new) }
     {
         self.exchange.turn(input, now)?;
         self.exchange.end_slow(self.alloc, now);
@@ -223,6 +238,10 @@ impl<L: Ledger, K: Keeper + Drop, B: Bell + Clone + Drop> Core<L, K, B> {
             → IfErr result (λ e. e ≡ Gone) }
         ensures stays { OnErr result (self.new.run.number ≡ self.old.run.number) }
         ensures start { self.new.start ≡ self.old.start }
+        ensures goes_on { GoesOn K.works K.keeps self.old self.new }
+        ensures carries { IfOk result (λ joined.
+            JoinsOn K.works K.keeps session.now now joined.1 self.old self.new) }
+        ensures still { OnErr result (StandsStill K.works K.keeps self.old self.new) }
         ensures kept { OnErr result (self.new.counts ≡ self.old.counts) }
     {
         if self.exchange.server().is_none() {
@@ -253,6 +272,10 @@ impl<L: Ledger, K: Keeper + Drop, B: Bell + Clone + Drop> Core<L, K, B> {
         ensures stays { OnErr result (self.new.run.number ≡ self.old.run.number) }
         ensures lines { OnErr result (self.new.lines ≡ self.old.lines) }
         ensures start { self.new.start ≡ self.old.start }
+        ensures goes_on { GoesOn K.works K.keeps self.old self.new }
+        ensures carries { IfOk result (λ _.
+            CarriesOn K.works K.keeps (Message up) now self.old self.new) }
+        ensures still { OnErr result (StandsStill K.works K.keeps self.old self.new) }
     {
         if let Some(fault) = self.refusal(seat, &up) {
             drop(up);
@@ -275,11 +298,13 @@ impl<L: Ledger, K: Keeper + Drop, B: Bell + Clone + Drop> Core<L, K, B> {
             × AreLateEnded now self.old.run.server last self.old.lines self.new.lines
             × IsEventRefused Late now last self.new.run.server e) }
         ensures none_late { OnOk result
-            (Runs (λ s. turn s Late now ≡ quiet) self.new.run.server) }
+            (Runs (λ s. turn_by s Late now ≡ quiet) self.new.run.server) }
         ensures marks { StayMarked self.old.lines self.new.lines }
         ensures rises { self.old.run.number ≤ self.new.run.number }
         ensures counts { self.new.counts ≡ self.old.counts }
         ensures start { self.new.start ≡ self.old.start }
+        ensures goes_on { GoesOn K.works K.keeps self.old self.new }
+        ensures carries { OnOk result (EndsLateOn K.works K.keeps now self.old self.new) }
     {
         loop {
             let before = self.exchange.number();
@@ -300,10 +325,12 @@ impl<L: Ledger, K: Keeper + Drop, B: Bell + Clone + Drop> Core<L, K, B> {
         ensures stopped { IfErr result (IsTickStopped now self.old.run.server self.new.run.server
             self.old.lines self.new.lines) }
         ensures closed { OnOk result ((s : SessionId) → IsMarked s self.old.lines
-            → Runs (λ t. is_open s (entries t.log) ≡ false) self.new.run.server) }
+            → Runs (λ t. is_open_in s t.sum ≡ false) self.new.run.server) }
         ensures rises { self.old.run.number ≤ self.new.run.number }
         ensures counts { self.new.counts ≡ self.old.counts }
         ensures start { self.new.start ≡ self.old.start }
+        ensures goes_on { GoesOn K.works K.keeps self.old self.new }
+        ensures carries { OnOk result (TicksOn K.works K.keeps now self.old self.new) }
     {
         let before = self.exchange.number();
         self.end_marked(now)?;
@@ -324,6 +351,8 @@ impl<L: Ledger, K: Keeper + Drop, B: Bell + Clone + Drop> Core<L, K, B> {
         ensures rises { self.old.run.number ≤ self.new.run.number }
         ensures counts { self.new.counts ≡ self.old.counts }
         ensures start { self.new.start ≡ self.old.start }
+        ensures goes_on { GoesOn K.works K.keeps self.old self.new }
+        ensures carries { OnOk result (EndsMarkedOn K.works K.keeps now self.old self.new) }
     {
         while let Some(next) = self.exchange.first_marked(self.alloc) {
             let (session, why) = next?;
@@ -344,6 +373,10 @@ impl<L: Ledger, K: Keeper + Drop, B: Bell + Clone + Drop> Core<L, K, B> {
         ensures lines { OnErr result (self.new.lines ≡ self.old.lines) }
         ensures counts { self.new.counts ≡ self.old.counts }
         ensures start { self.new.start ≡ self.old.start }
+        ensures goes_on { GoesOn K.works K.keeps self.old self.new }
+        ensures carries { IfOk result (λ _.
+            CarriesOn K.works K.keeps (end_by why session.now) now self.old self.new) }
+        ensures still { OnErr result (StandsStill K.works K.keeps self.old self.new) }
     {
         let ended = session.copy(self.alloc)?;
         self.event(end_by(why, ended), now)
@@ -363,6 +396,11 @@ impl<L: Ledger, K: Keeper + Drop, B: Bell + Clone + Drop> Core<L, K, B> {
         ensures counts { self.new.counts ≡ record self.old.counts
             { out = self.old.counts.out - 1 } }
         ensures start { self.new.start ≡ self.old.start }
+        ensures goes_on { GoesOn K.works K.keeps self.old self.new }
+        ensures carries { IfNone result.fault
+            (CarriesOn K.works K.keeps (end_by why seat.session) now self.old self.new) }
+        ensures still { IfSome result.fault
+            (λ _. StandsStill K.works K.keeps self.old self.new) }
     {
         self.exchange.take_down(seat.session());
         match self.end(seat.session(), why, now) {

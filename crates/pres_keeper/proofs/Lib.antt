@@ -1,1 +1,3 @@
 pub mod Nulls
+pub mod Behind
+pub mod Running

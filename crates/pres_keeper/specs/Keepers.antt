@@ -7,7 +7,10 @@ use Rattle.pres_faults.specs.declared.saved_fault.SavedFault.{SavedFault}
 use Rattle.pres_faults.specs.declared.saved_fault.SavedFault.TheVariants.{Memory, Database, BadRow}
 use Rattle.pres_server.specs.declared.replay.ReplayFault.{ReplayFault}
 use Rattle.pres_server.specs.declared.replay.ReplayFault.TheVariants.{Memory as OutOfMemory, NotLegal}
-use Rattle.pres_server.specs.LegalLog.{IsLegal}
+use Rattle.pres_server.specs.Sums.{Sum, nothing}
+use Rattle.pres_server.specs.SumTurns.{FollowAll}
+use Rattle.pres_server.specs.Histories.{LeadsTo}
+use Rattle.pres_server.specs.Histories as histories
 use Rattle.pres_server.specs.Replays.{IsFirstIllegal}
 
 -- no value is held as null and not as none; so it is with what a turn makes
@@ -42,7 +45,7 @@ IsFirstUnread held k = (held.is_all ≡ false) × (k ≡ length held.batches + 1
 
 -- row k is the first that is no batch, or none that may follow those before it
 abbrev pub IsFirstBad : Readable → ℕ → Type 0
-IsFirstBad held k = IsFirstIllegal held.batches k ⊎ (IsLegal held.batches × IsFirstUnread held k)
+IsFirstBad held k = IsFirstIllegal held.batches k ⊎ (FollowAll nothing held.batches × IsFirstUnread held k)
 
 -- why the batches aren't read: that row is the first that is none, or memory or the database refused
 abbrev pub IsUnread : Readable → SavedFault → Type 0
@@ -53,3 +56,13 @@ IsUnread held e = IsOfStore e
 abbrev pub IsNoServer : Readable → SavedFault → Type 0
 IsNoServer held (BadRow k) = IsFirstBad held k
 IsNoServer held e = IsOfStore e
+
+-- the log leads to the sum
+abbrev pub MakesSum : Log → Sum → Type 0
+MakesSum log sum = LeadsTo (histories.whole log) sum
+
+-- some log leads to the sum, and this holds of it
+pub record SomeLog (holds : Log → Type 0) (sum : Sum) : Type 0 where
+  pub log : Log
+  pub makes : MakesSum log sum
+  pub held : holds log

@@ -1,16 +1,16 @@
 //! A server with its keeper.
 
-ghost use Rattle.std.specs.Prelude.{◌≡◌, ◌≤◌, ⊤, Some, true, IfOk, IfErr, OnOk, OnErr, MatchResult, is_some, option_copied};
-ghost use Rattle.pres_log.specs.Logs.{Log, number, entries};
-ghost use Rattle.pres_server.specs.LegalLog.{IsLegal};
-ghost use Rattle.pres_server.specs.Replays.{made_from};
-ghost use Rattle.pres_server.specs.Streams.{answers};
-ghost use Rattle.pres_server.specs.Turns.{state_after};
-ghost use Rattle.pres_keeper.specs.Keepers.{whole, IsNoServer};
+ghost use Rattle.std.specs.Prelude.{◌≡◌, ◌≤◌, Some, true, IfOk, IfErr, OnOk, OnErr, MatchResult, is_some, option_copied};
+ghost use Rattle.pres_log.specs.Logs.{Log};
+ghost use Rattle.pres_server.specs.Replays.{resumed};
+ghost use Rattle.pres_server.specs.SumAnswers.{answers_by};
+ghost use Rattle.pres_server.specs.SumTurns.{after_commit};
+ghost use Rattle.pres_server.specs.Histories.{IsSum};
+ghost use Rattle.pres_keeper.specs.Keepers.{whole, IsNoServer, MakesSum, SomeLog};
 ghost use Rattle.pres_keeper.specs.Settlements.{log_with};
-ghost use Rattle.pres_keeper.specs.Engines.{Runs};
-ghost use Rattle.pres_keeper.specs.EngineTurns.{IsTurnDone, IsTurnRefused, MakesBatch, IsUndone, KeepsGone};
-ghost use Rattle.pres_faults.specs.declared.engine_fault.EngineFault.TheVariants.{Keeper as Unkept, Down as Gone};
+ghost use Rattle.pres_keeper.specs.Engines.{Runs, IsLogOf};
+ghost use Rattle.pres_keeper.specs.EngineTurns.{IsTurnDone, IsTurnRefused, MakesBatch, IsUndone, KeepsGone, log_turned, log_left, log_undone};
+ghost use Rattle.pres_faults.specs.declared.engine_fault.EngineFault.TheVariants.{Keeper as Unkept};
 
 use crate::keeper::Keeper;
 use crate::settlement::{Unsettled, settle};
@@ -53,17 +53,18 @@ impl<K: Keeper + Drop> Engine<K> {
     /// is no batch, or none that may follow those before it.
     pub fn open(mut keeper: K) -> Result<Engine<K>, (EngineFault, K)>
         requires ready { K.ready keeper }
-        ensures made { IfOk result (λ e. Runs (λ s. s ≡ made_from s.log) e.server) }
+        ensures made { IfOk result (λ e. Runs (λ s. s ≡ resumed s.sum) e.server) }
         ensures runs { IfOk result (λ e. is_some e.server ≡ true) }
         ensures exact { IfOk result (λ e. (log : Log) → K.works e.keeper → K.keeps keeper log
-            → Runs (λ s. s.log ≡ log) e.server) }
-        ensures read { IfOk result (λ e. K.works e.keeper
-            → Runs (λ s. K.readable keeper ≡ whole s.log) e.server) }
+            → IsLogOf log e.server) }
+        ensures read { IfOk result (λ e. K.works e.keeper → Runs (λ s. SomeLog
+            (λ log. (K.readable keeper ≡ whole log) × K.keeps e.keeper log) s.sum) e.server) }
         ensures refused { IfErr result (λ e. (f : _) × (e.0 ≡ Unkept f)
             × (K.works e.1 → IsNoServer (K.readable keeper) f)) }
         ensures same { IfErr result (λ e. K.works e.1 → K.readable e.1 ≡ K.readable keeper) }
-        ensures left { IfErr result (λ e. (log : Log) → K.works e.1 → K.keeps keeper log
-            → K.keeps e.1 log) }
+        ensures left { (log : Log) → K.keeps keeper log → MatchResult result
+            (λ e. K.works e.keeper → K.keeps e.keeper log)
+            (λ e. K.works e.1 → K.keeps e.1 log) }
         ensures ready { IfErr result (λ e. K.ready e.1) }
         ensures outlasts { (log : Log) → K.outlasts keeper log
             → MatchResult result (λ e. K.outlasts e.keeper log) (λ e. K.outlasts e.1 log) }
@@ -83,20 +84,26 @@ impl<K: Keeper + Drop> Engine<K> {
 
     // The turn, committed and then done.
     fn carry_out(&mut self, busy: Busy) -> Result<Items<Down>, EngineFault>
-        requires kept { K.works self.old.keeper → K.keeps self.old.keeper busy.state.log }
-        requires counted { self.old.number ≡ number busy.state.log }
-        requires legal { IsLegal busy.state.log }
+        requires kept { SomeLog (λ log. K.works self.old.keeper → K.keeps self.old.keeper log)
+            busy.state.sum }
+        requires counted { self.old.number ≡ busy.state.sum.number }
+        requires summed { IsSum busy.state.sum }
         ensures done { IfOk result (λ outs.
-            (self.new.server ≡ Some (state_after busy.state busy.moment busy.made))
-            × (outs ≡ answers (entries busy.state.log) busy.made)) }
+            (self.new.server ≡ Some (after_commit busy.state busy.moment busy.made))
+            × (outs ≡ answers_by busy.state.sum busy.made)) }
         ensures refused { IfErr result (IsUndone busy.state self.new.server) }
-        ensures gone { K.works self.new.keeper → IfErr result
-            (λ e. (e ≡ Gone) → K.keeps self.new.keeper (log_with busy)) }
+        ensures leads { (log : Log) → MakesSum log busy.state.sum
+            → OnOk result (IsLogOf (log_with log busy) self.new.server) }
+        ensures kept { (log : Log) → MakesSum log busy.state.sum → K.works self.new.keeper
+            → K.keeps self.old.keeper log
+            → MatchResult result (λ _. K.keeps self.new.keeper (log_with log busy))
+            (λ e. K.keeps self.new.keeper (log_undone log busy e)) }
         ensures stays { OnErr result (self.new.number ≡ self.old.number) }
         ensures rises { self.old.number ≤ self.new.number }
         ensures worked { K.works self.new.keeper → K.works self.old.keeper }
-        ensures durable { OnOk result
-            (Runs (λ s. K.outlasts self.new.keeper s.log) self.new.server) }
+        ensures durable { (log : Log) → MakesSum log busy.state.sum
+            → (K.works self.old.keeper → K.keeps self.old.keeper log)
+            → OnOk result (K.outlasts self.new.keeper (log_with log busy)) }
         ensures outlasts { (log : Log) → K.outlasts self.old.keeper log
             → K.outlasts self.new.keeper log }
     {
@@ -117,21 +124,32 @@ impl<K: Keeper + Drop> Engine<K> {
         }
     }
 
-    /// Does what the input asks for, at the later of the given moment and the log's greatest one:
+    /// Does what the input asks for, at the later of the given moment and the greatest one so far:
     /// its batch is kept first, and then answered. Whatever a crash leaves from then on begins with
     /// the log that was answered, also a crash in a later call. With the server as it was: Refused,
     /// as the server refuses the input; Memory; Keeper, where the batch isn't kept. Down, from then
     /// on, where memory is refused after the batch was kept.
+    ///
+    /// A log that leads to the server's sum, and that the keeper holds as long as it works, is both
+    /// after the turn, with the turn's batch behind it.
     pub fn turn(&mut self, input: Input, now: Moment) -> Result<Items<Down>, EngineFault>
         ensures turned { IfOk result (IsTurnDone self.old.server input now self.new.server) }
         ensures refused { IfErr result (IsTurnRefused self.old.server input now self.new.server) }
+        ensures leads { (log : Log) → IsLogOf log self.old.server → OnOk result
+            (IsLogOf (log_turned log self.old.server input now) self.new.server) }
+        ensures kept { (log : Log) → IsLogOf log self.old.server → K.works self.new.keeper
+            → K.keeps self.old.keeper log → MatchResult result
+            (λ _. K.keeps self.new.keeper (log_turned log self.old.server input now))
+            (λ e. K.keeps self.new.keeper (log_left log self.old.server input now e)) }
         ensures gone { K.works self.new.keeper → IfErr result
             (KeepsGone (K.keeps self.new.keeper) self.old.server input now) }
         ensures stays { OnErr result (self.new.number ≡ self.old.number) }
         ensures rises { self.old.number ≤ self.new.number }
         ensures worked { K.works self.new.keeper → K.works self.old.keeper }
-        ensures durable { MakesBatch self.old.server input now → OnOk result
-            (Runs (λ s. K.outlasts self.new.keeper s.log) self.new.server) }
+        ensures durable { (log : Log) → IsLogOf log self.old.server
+            → (K.works self.old.keeper → K.keeps self.old.keeper log)
+            → MakesBatch self.old.server input now → OnOk result
+            (K.outlasts self.new.keeper (log_turned log self.old.server input now)) }
         ensures outlasts { (log : Log) → K.outlasts self.old.keeper log
             → K.outlasts self.new.keeper log }
     {
@@ -160,10 +178,10 @@ impl<K: Keeper + Drop> Engine<K> {
     /// before.
     pub fn number(&self) -> u64
         ensures number { result ≡ self.now.number }
-        ensures legal { Runs (λ s. IsLegal s.log) self.now.server }
-        ensures kept { K.works self.now.keeper
-            → Runs (λ s. K.keeps self.now.keeper s.log) self.now.server }
-        ensures counted { Runs (λ s. self.now.number ≡ number s.log) self.now.server }
+        ensures summed { Runs (λ s. IsSum s.sum) self.now.server }
+        ensures kept { Runs (λ s. SomeLog
+            (λ log. K.works self.now.keeper → K.keeps self.now.keeper log) s.sum) self.now.server }
+        ensures counted { Runs (λ s. self.now.number ≡ s.sum.number) self.now.server }
     {
         self.number
     }
@@ -179,7 +197,8 @@ impl<K: Keeper + Drop> Engine<K> {
     pub fn into_keeper(self) -> K
         ensures keeper { result ≡ self.keeper }
         ensures ready { K.ready result }
-        ensures kept { K.works result → Runs (λ s. K.keeps result s.log) self.server }
+        ensures kept { Runs (λ s. SomeLog (λ log. K.works result → K.keeps result log) s.sum)
+            self.server }
     {
         let Engine {
             keeper,

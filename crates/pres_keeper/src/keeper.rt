@@ -3,8 +3,8 @@
 ghost use Rattle.std.specs.Prelude.{◌≡◌, ◌⊎◌, ◌+◌, ◌++◌, ◌∷◌, [], false, is_ok, OnOk, OnErr, IfOk, IfErr};
 ghost use Rattle.pres_log.specs.declared.entry.Batch.{Batch as Logged};
 ghost use Rattle.pres_log.specs.Logs.{Log, number};
-ghost use Rattle.pres_server.specs.Replays.{made_from};
-ghost use Rattle.pres_keeper.specs.Keepers.{Readable, BeginsWith, whole, HasOneNull, IsOfStore, IsUnread, IsNoServer, bad_batch};
+ghost use Rattle.pres_server.specs.Replays.{resumed};
+ghost use Rattle.pres_keeper.specs.Keepers.{Readable, BeginsWith, whole, HasOneNull, IsOfStore, IsUnread, IsNoServer, MakesSum, SomeLog, bad_batch};
 
 use pres_faults::SavedFault;
 use pres_ids::Count;
@@ -102,18 +102,18 @@ pub trait Keeper {
         ensures outlasts { (log : Log) → ready self.old → outlasts self.old log
             → outlasts self.new log };
 
-    /// The server that its batches make, where they are a legal log, with each open session heard
-    /// of at the log's greatest moment. `BadRow` with the number of the first row that is no batch,
-    /// or none that may follow those before it.
+    /// The server that its batches make, where each may follow those before it, with each open
+    /// session heard of at the greatest moment. `BadRow` with the number of the first row that is no
+    /// batch, or none that may follow those before it.
     fn server(&mut self) -> Result<Server, SavedFault>
         ensures ready { ready self.old → ready self.new }
         ensures worked { ready self.old → works self.new → works self.old }
         ensures shut { ready self.old → shut self.old self.new → is_ok result ≡ false }
-        ensures made { IfOk result (λ server. server ≡ made_from server.log) }
-        ensures server { ready self.old → works self.new
-            → IfOk result (λ server. keeps self.new server.log) }
+        ensures made { IfOk result (λ server. server ≡ resumed server.sum) }
+        ensures server { IfOk result (λ server. SomeLog
+            (λ log. ready self.old → works self.new → keeps self.new log) server.sum) }
         ensures exact { (log : Log) → ready self.old → works self.new → keeps self.old log
-            → IfOk result (λ server. server.log ≡ log) }
+            → IfOk result (λ server. MakesSum log server.sum) }
         ensures refused { ready self.old → works self.new
             → IfErr result (IsNoServer (readable self.old)) }
         ensures same { ready self.old → works self.new

@@ -1,10 +1,11 @@
 //! A turn that is kept before it is done.
 
-ghost use Rattle.std.specs.Prelude.{◌≡◌, IfOk, IfErr};
-ghost use Rattle.pres_log.specs.Logs.{Log, entries};
-ghost use Rattle.pres_server.specs.Turns.{batch_of, state_after};
-ghost use Rattle.pres_server.specs.Streams.{answers};
-ghost use Rattle.pres_keeper.specs.Settlements.{IsUnsettled, KeepsUnsettled};
+ghost use Rattle.std.specs.Prelude.{◌≡◌, IfOk, IfErr, OnOk};
+ghost use Rattle.pres_log.specs.Logs.{Log};
+ghost use Rattle.pres_server.specs.SumAnswers.{answers_by};
+ghost use Rattle.pres_server.specs.SumTurns.{after_commit, batch_by};
+ghost use Rattle.pres_keeper.specs.Keepers.{MakesSum};
+ghost use Rattle.pres_keeper.specs.Settlements.{IsUnsettled, KeepsUnsettled, log_with};
 
 use crate::keeper::Keeper;
 use pres_faults::SavedFault;
@@ -22,27 +23,30 @@ pub enum Unsettled {
 }
 
 /// Gives the turn's batch to the keeper, and then does the turn: the server after it, and the
-/// answers, of which none goes out before the batch is kept. So what the keeper holds is the
-/// server's log, and whatever a crash leaves from then on begins with it.
+/// answers, of which none goes out before the batch is kept. So a log that leads to the server's sum
+/// and that the keeper holds is both with the batch behind it, and whatever a crash leaves from then
+/// on begins with it.
 pub fn settle<K: Keeper>(keeper: &mut K, busy: Busy) -> Result<(Server, Items<Down>), Unsettled>
     ensures server { IfOk result
-        (λ done. done.0 ≡ state_after busy.state busy.moment busy.made) }
-    ensures answers { IfOk result
-        (λ done. done.1 ≡ answers (entries busy.state.log) busy.made) }
-    ensures kept { K.ready keeper.old → K.works keeper.new
-        → K.keeps keeper.old busy.state.log
-        → IfOk result (λ done. K.keeps keeper.new done.0.log) }
+        (λ done. done.0 ≡ after_commit busy.state busy.moment busy.made) }
+    ensures answers { IfOk result (λ done. done.1 ≡ answers_by busy.state.sum busy.made) }
+    ensures leads { (log : Log) → MakesSum log busy.state.sum
+        → IfOk result (λ done. MakesSum (log_with log busy) done.0.sum) }
+    ensures kept { (log : Log) → MakesSum log busy.state.sum → K.ready keeper.old
+        → K.works keeper.new → K.keeps keeper.old log
+        → OnOk result (K.keeps keeper.new (log_with log busy)) }
     ensures undone { IfErr result (IsUnsettled busy.state) }
-    ensures refused { K.ready keeper.old → K.works keeper.new
-        → K.keeps keeper.old busy.state.log
-        → IfErr result (KeepsUnsettled (K.keeps keeper.new) busy) }
+    ensures refused { (log : Log) → MakesSum log busy.state.sum → K.ready keeper.old
+        → K.works keeper.new → K.keeps keeper.old log
+        → IfErr result (KeepsUnsettled (K.keeps keeper.new) log busy) }
     ensures ready { K.ready keeper.old → K.ready keeper.new }
     ensures worked { K.ready keeper.old → K.works keeper.new → K.works keeper.old }
-    ensures crash { K.ready keeper.old → K.keeps keeper.old busy.state.log
-        → K.leaves keeper.old busy.state.log
-        (batch_of busy.state.log busy.moment busy.made) keeper.new }
-    ensures durable { K.ready keeper.old → (K.works keeper.old → K.keeps keeper.old busy.state.log)
-        → IfOk result (λ done. K.outlasts keeper.new done.0.log) }
+    ensures crash { (log : Log) → MakesSum log busy.state.sum → K.ready keeper.old
+        → K.keeps keeper.old log → K.leaves keeper.old log
+        (batch_by busy.state.sum busy.moment busy.made) keeper.new }
+    ensures durable { (log : Log) → MakesSum log busy.state.sum → K.ready keeper.old
+        → (K.works keeper.old → K.keeps keeper.old log)
+        → OnOk result (K.outlasts keeper.new (log_with log busy)) }
     ensures outlasts { (log : Log) → K.ready keeper.old → K.outlasts keeper.old log
         → K.outlasts keeper.new log }
 {

@@ -1,20 +1,25 @@
 -- Why rows are refused, by what going over them came to.
-use Rattle.std.proofs.Common.{refl, sym, ◌∙◌, ap, subst, ◌≡◌, ◌⊎◌, inl, inr, ℕ, ◌+◌, List, [], ◌∷◌, ◌++◌, length, Option, Result, Ok, Err, Some, None, arith}
+use Rattle.std.proofs.Common.{refl, sym, ◌∙◌, ap, subst, ◌≡◌, inl, inr, ℕ, ◌+◌, List, [], ◌∷◌, ◌++◌, length, Option, Result, Ok, Err, Some, None, arith}
 use Rattle.std.proofs.lemmas.List.{append_assoc}
+use Rattle.std.specs.Result.{IfOk, result_unwrap_or}
 use Rattle.sqlite.specs.Order.{Row}
 use Rattle.pres_log.specs.declared.entry.Batch.{Batch}
 use Rattle.pres_log.specs.Logs.{Log, number}
 use Rattle.pres_faults.specs.declared.saved_fault.SavedFault.{SavedFault}
 use Rattle.pres_faults.specs.declared.saved_fault.SavedFault.TheVariants.{BadRow}
 use Rattle.pres_batch_rows.specs.RowContents.{RowContent, saved_rows, saved_front}
-use Rattle.pres_batch_rows.specs.RowIteration.{TakesAll, GoesOver, MeetsBadRow, IsRefused}
-use Rattle.pres_server.specs.LegalLog.{IsLegal, MayFollow}
-use Rattle.pres_keeper.specs.Keepers.{Readable, IsOfStore, IsFirstUnread, IsFirstBad, IsUnread, IsNoServer}
+use Rattle.pres_batch_rows.specs.RowIteration.{TakesAll, TakesRows, GoesOver, MeetsBadRow, IsRefused}
+use Rattle.pres_batch_rows.proofs.Loading.{front_all}
+use Rattle.pres_server.specs.Sums.{Sum, nothing, sum_from}
+use Rattle.pres_server.specs.SumStates.{SumState}
+use Rattle.pres_server.specs.SumTurns.{FollowsSum, FollowAll}
+use Rattle.pres_keeper.specs.Keepers.{Readable, IsOfStore, IsFirstUnread, IsFirstBad, IsUnread, IsNoServer, MakesSum, SomeLog}
+use Rattle.pres_keeper.proofs.Nulls.{number_made, batches_made}
 use Rattle.pres_saved.specs.SavedLogs.{batch_in, log_after, front_by, log_front, saved_log, readable_by, readable_rows}
-use Rattle.pres_saved.specs.RowReplay.{Extends, HasNoRoom, IsNotTaken, Follows, IsNoFollower}
+use Rattle.pres_saved.specs.RowReplay.{Extends, HasNoRoom, IsNotTaken, Follows, MayNotFollow, IsNoFollower}
 use Rattle.pres_saved.proofs.Counted.{due_is}
 use Rattle.pres_saved.proofs.Reading.{taken_log, log_of_read, stopped_log, log_unread, log_stopped, length_after}
-use Rattle.pres_saved.proofs.Remade.{follows_all, legal_all, then_front, front_is, front_stops, front_grows, read_batches}
+use Rattle.pres_saved.proofs.Remade.{made_by, then_front, front_is, front_stops, front_grows, read_batches}
 
 -- ---- of rows that are read
 
@@ -23,9 +28,9 @@ first_unread : (shown : List Row) (mid : Log) (k : ℕ) → saved_log shown ≡ 
 first_unread shown mid k stopped front due =
     subst (λ r. IsFirstUnread (readable_by (log_front [] (saved_front shown)) r) k) (sym stopped) (refl, due ∙ ap (λ l. length l + 1) (sym front))
 
-of_store : (log : Log) (e : SavedFault) → HasNoRoom log e → IsOfStore e
-of_store log e (inl is) = inl is
-of_store log e (inr is) = inr is.0
+of_store : (before : ℕ) (e : SavedFault) → HasNoRoom before e → IsOfStore e
+of_store before e (inl is) = inl is
+of_store before e (inr is) = inr is.0
 
 store_unread : (held : Readable) (e : SavedFault) → IsOfStore e → IsUnread held e
 store_unread held e (inl is) = subst (IsUnread held) (sym is) (inl refl)
@@ -67,7 +72,7 @@ module _ {T : Type 0} (log_of : T → Log) where
   refused_unread shown old new e none it = elim it.refused [
     | inl nothing ↦ subst (IsUnread (readable_rows shown)) (sym nothing.why)
         (text_unread shown it.given it.rest it.row (log_of it.mid) it.parts (made_of it.given old it.mid none it.taken) nothing.unread)
-    | inr room ↦ store_unread (readable_rows shown) e (of_store (log_of it.mid) e room)
+    | inr room ↦ store_unread (readable_rows shown) e (of_store (length (log_of it.mid)) e room)
   ]
 
   pub unread : (shown : List Row) (old new : T) (e : SavedFault) → log_of old ≡ [] → GoesOver Adds Leaves shown old new (Err e) → IsUnread (readable_rows shown) e
@@ -81,13 +86,14 @@ store_unserved : (held : Readable) (e : SavedFault) → IsOfStore e → IsNoServ
 store_unserved held e (inl is) = subst (IsNoServer held) (sym is) (inl refl)
 store_unserved held e (inr is) = subst (IsNoServer held) (sym is) (inr refl)
 
--- the batches before a row that is none are legal
-legal_front : (shown : List Row) (mid : Log) → log_front [] (saved_front shown) ≡ mid → IsLegal mid → IsLegal (readable_rows shown).batches
-legal_front shown mid front legal = subst IsLegal (sym (read_batches shown ∙ front)) legal
+-- the batches before a row that is none follow one another
+legal_front : (shown : List Row) (mid : Log) → log_front [] (saved_front shown) ≡ mid → FollowAll nothing mid → FollowAll nothing (readable_rows shown).batches
+legal_front shown mid front legal = subst (FollowAll nothing) (sym (read_batches shown ∙ front)) legal
 
 -- a row that may not follow: it saves no batch, or one that may not
 bad_by : (shown : List Row) (given rest : List RowContent) (row : RowContent) (mid : Log) (o : Option Batch) → batch_in (number mid) row ≡ o
-    → saved_front shown ≡ given ++ row ∷ rest → log_after [] given ≡ Ok mid → IsLegal mid → ((b : Batch) → batch_in (number mid) row ≡ Some b → MayFollow mid b → ⊥)
+    → saved_front shown ≡ given ++ row ∷ rest → log_after [] given ≡ Ok mid → FollowAll nothing mid
+    → ((b : Batch) → batch_in (number mid) row ≡ Some b → FollowsSum (sum_from nothing mid) b → ⊥)
     → IsFirstBad (readable_rows shown) (length mid + 1)
 bad_by shown given rest row mid None is parts made legal refused =
     let front = ap (log_front []) parts ∙ then_front given (row ∷ rest) [] mid made ∙ front_stops mid row rest is in
@@ -105,38 +111,45 @@ bad_by shown given rest row mid (Some b) is parts made legal refused =
       refused = refused b is;
     })
 
-module _ {T : Type 0} (log_of : T → Log) where
-  abbrev pub Joins : T → RowContent → T → Type 0
-  Joins before row after = Follows (log_of before) row (log_of after)
+abbrev pub Stays : Sum → RowContent → SavedFault → Sum → Type 0
+Stays before row e after = IsNoFollower before row e
 
-  abbrev pub Stays : T → RowContent → SavedFault → T → Type 0
-  Stays before row e after = IsNoFollower (log_of before) row e
+-- rows that were all read save the log that they make
+saved_by : (shown : List Row) (rows : List RowContent) (log : Log) → saved_rows shown ≡ Ok rows → log_after [] rows ≡ Ok log → saved_log shown ≡ Ok log
+saved_by shown rows log read made = log_of_read shown rows log read (ap (log_after []) (front_all 1 shown rows read) ∙ made)
 
-  served_of : (front : List RowContent) (old new : T) → log_of old ≡ [] → TakesAll Joins front old new → log_after [] front ≡ Ok (log_of new)
-  served_of front old new none taken = made_of log_of front old new none (follows_all log_of front old new taken)
+pub all_served : (shown : List Row) (clean serves : Type 0) (old new : Sum) → old ≡ nothing → TakesRows Follows (λ rows. clean → serves → saved_rows shown ≡ Ok rows) old new
+    → SomeLog (λ log. clean → serves → saved_log shown ≡ Ok log) new
+all_served shown clean serves old new none it =
+    let made = made_by it.rows old new none it.taken in
+    record { log = made.log; makes = made.makes; held = λ now idle. saved_by shown it.rows made.log (it.held now idle) made.read }
 
-  legal_of : (front : List RowContent) (old new : T) → log_of old ≡ [] → TakesAll Joins front old new → IsLegal (log_of new)
-  legal_of front old new none taken = legal_all log_of front old new (subst IsLegal (sym none) tt) taken
+-- the log that rows save leads to the sum of the server that they make
+pub served_by : {E : Type 0} (saved : Result Log ℕ) (log : Log) (r : Result SumState E) → saved ≡ Ok log → IfOk r (λ s. SomeLog (λ l. saved ≡ Ok l) s.sum) → IfOk r (λ s. MakesSum log s.sum)
+served_by saved log (Ok s) is some = subst (λ l. MakesSum l s.sum) (ap (λ r. result_unwrap_or r log) (sym some.held ∙ is)) some.makes
+served_by saved log (Err e) is some = tt
 
-  pub all_served : (shown : List Row) (old new : T) → log_of old ≡ [] → GoesOver Joins Stays shown old new (Ok tt) → (saved_log shown ≡ Ok (log_of new)) × IsLegal (log_of new)
-  all_served shown old new none (read, taken) =
-      (log_of_read shown (saved_front shown) (log_of new) read (served_of (saved_front shown) old new none taken), legal_of (saved_front shown) old new none taken)
+bad_unserved : (shown : List Row) (old new : Sum) (e : SavedFault) → old ≡ nothing → MeetsBadRow Follows Stays shown old new e → IsNoServer (readable_rows shown) e
+bad_unserved shown old new e none bad =
+    let it = made_by (saved_front shown) old new none bad.taken in
+    subst (IsNoServer (readable_rows shown)) (sym bad.why)
+    (inr (legal_front shown it.log (front_is (saved_front shown) [] it.log it.read) it.makes.legal, row_unread shown it.log bad.k bad.bad it.read))
 
-  bad_unserved : (shown : List Row) (old new : T) (e : SavedFault) → log_of old ≡ [] → MeetsBadRow Joins Stays shown old new e → IsNoServer (readable_rows shown) e
-  bad_unserved shown old new e none bad =
-      let made = served_of (saved_front shown) old new none bad.taken in
-      let legal = legal_of (saved_front shown) old new none bad.taken in
-      subst (IsNoServer (readable_rows shown)) (sym bad.why)
-      (inr (legal_front shown (log_of new) (front_is (saved_front shown) [] (log_of new) made) legal, row_unread shown (log_of new) bad.k bad.bad made))
+-- a row that may not follow the sum may not follow a log that leads to it
+not_behind : (mid : Sum) (log : Log) (row : RowContent) (e : SavedFault) → MakesSum log mid → MayNotFollow mid row e → (b : Batch) → batch_in (number log) row ≡ Some b → FollowsSum (sum_from nothing log) b → ⊥
+not_behind mid log row e makes not b read follows =
+    not.refused b (ap (λ n. batch_in n row) (number_made log mid makes) ∙ read) (subst (λ s. FollowsSum s b) makes.there follows)
 
-  refused_unserved : (shown : List Row) (old new : T) (e : SavedFault) → log_of old ≡ [] → IsRefused Joins Stays (saved_front shown) old new e → IsNoServer (readable_rows shown) e
-  refused_unserved shown old new e none it = elim it.refused [
-    | inl nothing ↦ subst (IsNoServer (readable_rows shown)) (sym nothing.why)
-        (bad_by shown it.given it.rest it.row (log_of it.mid) _ refl it.parts (served_of it.given old it.mid none it.taken) (legal_of it.given old it.mid none it.taken) nothing.refused)
-    | inr room ↦ store_unserved (readable_rows shown) e (of_store (log_of it.mid) e room)
-  ]
+refused_unserved : (shown : List Row) (old new : Sum) (e : SavedFault) → old ≡ nothing → IsRefused Follows Stays (saved_front shown) old new e → IsNoServer (readable_rows shown) e
+refused_unserved shown old new e none it =
+    let made = made_by it.given old it.mid none it.taken in
+    elim it.refused [
+      | inl nothing ↦ subst (IsNoServer (readable_rows shown)) (sym (nothing.why ∙ ap (λ n. BadRow (n + 1)) (batches_made made.log it.mid made.makes)))
+          (bad_by shown it.given it.rest it.row made.log _ refl it.parts made.read made.makes.legal (not_behind it.mid made.log it.row e made.makes nothing))
+      | inr room ↦ store_unserved (readable_rows shown) e (of_store it.mid.batches e room)
+    ]
 
-  pub unserved : (shown : List Row) (old new : T) (e : SavedFault) → log_of old ≡ [] → GoesOver Joins Stays shown old new (Err e) → IsNoServer (readable_rows shown) e
-  unserved shown old new e none (inl bad) = bad_unserved shown old new e none bad
-  unserved shown old new e none (inr (inl it)) = refused_unserved shown old new e none it
-  unserved shown old new e none (inr (inr early)) = store_unserved (readable_rows shown) e early.why
+pub unserved : (shown : List Row) (old new : Sum) (e : SavedFault) → old ≡ nothing → GoesOver Follows Stays shown old new (Err e) → IsNoServer (readable_rows shown) e
+unserved shown old new e none (inl bad) = bad_unserved shown old new e none bad
+unserved shown old new e none (inr (inl it)) = refused_unserved shown old new e none it
+unserved shown old new e none (inr (inr early)) = store_unserved (readable_rows shown) e early.why

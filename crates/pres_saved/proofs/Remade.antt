@@ -1,5 +1,5 @@
 -- A server that is made again of saved rows.
-use Rattle.std.proofs.Common.{refl, sym, ◌∙◌, ap, subst, ◌≡◌, ℕ, ◌+◌, List, [], ◌∷◌, ◌++◌, length, Option, Some, None, Result, Ok, Err, append-nil}
+use Rattle.std.proofs.Common.{refl, sym, ◌∙◌, ap, subst, ◌≡◌, ℕ, List, [], ◌∷◌, ◌++◌, Option, Some, None, Result, Ok, Err, append-nil}
 use Rattle.std.proofs.lemmas.List.{append_assoc}
 use Rattle.std.specs.Result.{result_unwrap_or}
 use Rattle.sqlite.specs.Order.{Row}
@@ -7,22 +7,36 @@ use Rattle.pres_log.specs.declared.entry.Batch.{Batch}
 use Rattle.pres_log.specs.Logs.{Log, number}
 use Rattle.pres_batch_rows.specs.RowContents.{RowContent, saved_front}
 use Rattle.pres_batch_rows.specs.RowIteration.{TakesAll}
-use Rattle.pres_server.specs.LegalLog.{IsLegal, MayFollow}
-use Rattle.pres_server.proofs.Whole.{legal_after}
+use Rattle.pres_server.specs.Sums.{Sum, nothing}
+use Rattle.pres_keeper.specs.Keepers.{MakesSum}
+use Rattle.pres_keeper.proofs.Nulls.{number_made}
+use Rattle.pres_keeper.proofs.Behind.{makes_all, makes_more}
 use Rattle.pres_saved.specs.SavedLogs.{batch_in, log_then, log_after, front_by, log_front, saved_log, readable_by, readable_rows}
-use Rattle.pres_saved.specs.RowReplay.{Extends, Follows}
-use Rattle.pres_saved.proofs.Reading.{no_err, read_of}
+use Rattle.pres_saved.specs.RowReplay.{Follows}
+use Rattle.pres_saved.proofs.Reading.{no_err, read_of, after_one}
 
--- those that may follow stand behind one another
-pub follows_all : {T : Type 0} (log_of : T → Log) (given : List RowContent) (old new : T) → TakesAll (λ before row after. Follows (log_of before) row (log_of after)) given old new
-    → TakesAll (λ before row after. Extends (log_of before) row (log_of after)) given old new
-follows_all log_of [] old new t = t
-follows_all log_of (row ∷ more) old new t = (t.0, t.1.extends, follows_all log_of more t.0 new t.2)
+-- rows that save a log, which leads to the sum
+pub record Made (given : List RowContent) (old : Log) (sum : Sum) : Type 0 where
+  pub log : Log
+  pub read : log_after old given ≡ Ok log
+  pub makes : MakesSum log sum
 
-pub legal_all : {T : Type 0} (log_of : T → Log) (given : List RowContent) (old new : T) → IsLegal (log_of old) → TakesAll (λ before row after. Follows (log_of before) row (log_of after)) given old new → IsLegal (log_of new)
-legal_all log_of [] old new legal t = subst (λ taker. IsLegal (log_of taker)) (sym t) legal
-legal_all log_of (row ∷ more) old new legal t =
-    legal_all log_of more t.0 new (subst IsLegal (sym t.1.extends.extended) (legal_after (log_of old) t.1.extends.batch legal t.1.may)) t.2
+-- the row's batch stands behind the log, and both lead to the sum with it
+made_one : (row : RowContent) (old : Log) (before after : Sum) (follows : Follows before row after) → MakesSum old before → MakesSum (old ++ follows.batch ∷ []) after
+made_one row old before after follows makes =
+    subst (MakesSum (old ++ follows.batch ∷ [])) (sym follows.added) (makes_more old before follows.batch makes follows.may)
+
+-- rows that are taken in turn go on with a log that leads to the sum before
+made_from : (given : List RowContent) (old : Log) (before after : Sum) → MakesSum old before → TakesAll Follows given before after → Made given old after
+made_from [] old before after makes t = record { log = old; read = refl; makes = subst (MakesSum old) (sym t) makes }
+made_from (row ∷ more) old before after makes t =
+    let b = t.1.batch in
+    let read : batch_in (number old) row ≡ Some b = ap (λ n. batch_in n row) (sym (number_made old before makes)) ∙ t.1.read in
+    let rest = made_from more (old ++ b ∷ []) t.0 after (made_one row old before t.0 t.1 makes) t.2 in
+    record { log = rest.log; read = after_one old (old ++ b ∷ []) row more b read refl ∙ rest.read; makes = rest.makes }
+
+pub made_by : (given : List RowContent) (before after : Sum) → before ≡ nothing → TakesAll Follows given before after → Made given [] after
+made_by given before after none t = made_from given [] before after (subst (MakesSum []) (sym none) (makes_all [] tt)) t
 
 -- ---- the batches before the first row that saves none
 

@@ -3,6 +3,8 @@
 ghost use Rattle.std.specs.Prelude.{◌≡◌, ◌⊎◌, ◌+◌, ◌≤◌, IfOk};
 ghost use Rattle.std.specs.Option.{SomeIff};
 ghost use Rattle.pres_ids.specs.Numbers.{greatest_number};
+ghost use Rattle.pres_server.specs.Sums.{nothing};
+ghost use Rattle.pres_server.specs.Replays.{resumed};
 ghost use Rattle.pres_saved.specs.SavedLogs.{batch_in};
 ghost use Rattle.pres_batch_rows.specs.RowContents.{saved_of};
 
@@ -12,8 +14,9 @@ use pres_faults::SavedFault;
 use pres_ids::{Count, Number};
 use pres_keeper::bad_batch;
 use pres_log::{Batch, Log};
-use pres_server::Replay;
+use pres_server::{Replay, Server};
 use std::alloc::{AllocError, Global};
+use std::marker::Model;
 
 // The number after so many.
 fn number_after(before: u64) -> Option<Number>
@@ -36,11 +39,11 @@ fn read_batch(alloc: Global, before: u64, row: &SavedRow) -> Result<Option<Batch
 }
 
 // The refusal of the row behind so many batches.
-fn bad_row(before: usize) -> SavedFault
+fn bad_row(before: u64) -> SavedFault
     ensures { (result ≡ SavedFault.BadRow (before + 1))
         ⊎ ((result ≡ SavedFault.Database) × (greatest_number ≤ before)) }
 {
-    match number_after(before as u64) {
+    match number_after(before) {
         Some(number) => SavedFault::BadRow(Count::up_to(number)),
         None => SavedFault::Database,
     }
@@ -66,32 +69,60 @@ impl Take for Batches {
                 Ok(()) => Ok(()),
                 Err(_) => Err(SavedFault::Memory),
             },
-            None => Err(bad_row(self.log.batches().len())),
+            None => Err(bad_row(self.log.batches().len() as u64)),
         }
     }
 }
 
-/// A server that is made anew of the rows so far.
+/// A server that is made anew of the rows so far. Contracts see it as their sum.
 #[derive(Drop)]
 pub(crate) struct Replaying {
-    pub(crate) alloc: Global,
-    pub(crate) replay: Replay,
+    alloc: Global,
+    replay: Replay,
+}
+
+impl Model for Replaying {
+    ghost use Rattle.pres_server.specs.Sums.{Sum};
+
+    ghost Value = { Sum };
+
+    ghost view = { λ r. r.replay };
+}
+
+impl Replaying {
+    /// No row so far.
+    pub(crate) fn new(alloc: Global) -> Replaying
+        ensures { result ≡ nothing }
+    {
+        Replaying {
+            alloc,
+            replay: Replay::new(alloc),
+        }
+    }
+
+    /// The server of the rows.
+    pub(crate) fn finish(self) -> Server
+        ensures { result ≡ resumed self }
+    {
+        let Replaying { alloc: _, replay } = self;
+        replay.finish()
+    }
 }
 
 impl Take for Replaying {
     ghost use Rattle.pres_saved.specs.RowReplay.{Follows, IsNoFollower};
 
-    ghost takes = { λ old row new. Follows old.replay row new.replay };
+    ghost takes = { λ old row new. Follows old row new };
 
-    ghost refuses = { λ old row e new. IsNoFollower old.replay row e };
+    ghost refuses = { λ old row e new. IsNoFollower old row e };
 
     fn take(&mut self, row: SavedRow) -> Result<(), SavedFault> {
-        match read_batch(self.alloc, self.replay.log().len(), &row)? {
+        match read_batch(self.alloc, self.replay.number(), &row)? {
             Some(batch) => match self.replay.add(batch) {
                 Ok(()) => Ok(()),
                 Err(fault) => Err(bad_batch(fault)),
             },
-            None => Err(bad_row(self.replay.log().batches().len())),
+            None => Err(bad_row(self.replay.batches())),
         }
     }
 }

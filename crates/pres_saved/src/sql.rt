@@ -9,9 +9,9 @@ ghost use Rattle.pres_batch_rows.specs.TableCreation.{HoldsFormat, Makes, FailsT
 ghost use Rattle.pres_batch_rows.specs.TableOpening.{HasFormat, LacksFormat};
 ghost use Rattle.pres_batch_rows.specs.Schemas.{no_schema};
 ghost use Rattle.pres_batch_rows.specs.RowContents.{shown_rows};
-ghost use Rattle.pres_server.specs.Replays.{made_from};
+ghost use Rattle.pres_server.specs.Replays.{resumed};
 ghost use Rattle.pres_saved.specs.SavedLogs.{saved_log};
-ghost use Rattle.pres_keeper.specs.Keepers.{IsUnread, IsNoServer};
+ghost use Rattle.pres_keeper.specs.Keepers.{IsUnread, IsNoServer, SomeLog};
 ghost use Rattle.pres_saved.specs.SqlKeepers.{IsReady, WasShut, KeepsLog, readable_in};
 
 use crate::replaying::{Batches, Glance, Replaying};
@@ -20,7 +20,7 @@ use pres_batch_rows::BatchTable;
 use pres_faults::SavedFault;
 use pres_keeper::Keeper;
 use pres_log::{Batch, Log};
-use pres_server::{Replay, Server};
+use pres_server::Server;
 use sqlite::{Alter, Connection};
 use std::alloc::Global;
 use std::marker::Model;
@@ -147,12 +147,13 @@ impl<S: Alter + Drop> SqlKeeper<S> {
     }
 
     /// The server that the rows make, read one at a time, or `BadRow` with the number that was due
-    /// at the first row that is no batch, or none that may follow those before it.
+    /// at the first row that is no batch, or none that may follow those before it. Whatever the store
+    /// gave, some log leads to its sum.
     pub fn replay(&mut self) -> Result<Server, SavedFault>
-        ensures server { HasCleanDisk (state S.Store self.new.connection) → Serves S.Store self.old
-            → IfOk result (λ server.
-            saved_log (shown_rows (state S.Store self.old.connection)) ≡ Ok server.log) }
-        ensures made { IfOk result (λ server. server ≡ made_from server.log) }
+        ensures server { IfOk result (λ server. SomeLog (λ log.
+            HasCleanDisk (state S.Store self.new.connection) → Serves S.Store self.old
+            → saved_log (shown_rows (state S.Store self.old.connection)) ≡ Ok log) server.sum) }
+        ensures made { IfOk result (λ server. server ≡ resumed server.sum) }
         ensures refused { HasCleanDisk (state S.Store self.new.connection) → Serves S.Store self.old
             → IfErr result (IsNoServer (readable_in S.Store self.old)) }
         ensures left { HasCleanDisk (state S.Store self.new.connection) → Serves S.Store self.old
@@ -164,15 +165,12 @@ impl<S: Alter + Drop> SqlKeeper<S> {
             (state S.Store self.new.connection) (λ _. ⊥) }
         ensures serves { Serves S.Store self.old → Serves S.Store self.new }
     {
-        let mut made = Replaying {
-            alloc: self.alloc,
-            replay: Replay::new(self.alloc),
-        };
+        let mut made = Replaying::new(self.alloc);
         if let Err(fault) = self.table.each(self.alloc, &mut made) {
             drop(made);
             return Err(fault);
         }
-        Ok(made.replay.finish())
+        Ok(made.finish())
     }
 
     /// Whether the store still answers: reads its first row, where there is one. Refused where it gives

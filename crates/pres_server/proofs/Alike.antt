@@ -1,89 +1,64 @@
--- What an index says that is as it was, or that took in a batch without its answers.
-use Rattle.std.proofs.Common.{refl, sym, ◌∙◌, ap, subst, ◌≡◌, ℕ, ◌+◌, ◌^◌, ◌<◌, List, [], ◌∷◌, ◌++◌, length, filter, Bool, true, false, cond, ◌||◌, true≢false, append-nil, append_assoc, arith, IsTrue, length-append, Option, Some, None, IsSome, Result, Ok, Err, OnErr}
+-- An index that takes in entries, all of them or none.
+use Rattle.std.proofs.Common.{refl, sym, ◌∙◌, ap, subst, ◌≡◌, ℕ, ◌+◌, List, [], ◌∷◌, length, Bool, true, false, cond, true≢false, Option, Some, None, IsSome, is_some, Result, Ok, Err, OnErr}
 use Rattle.std.specs.Option.{option_map}
-use Rattle.std.specs.List.{list_any}
 use Rattle.std.specs.BTreeMap.{get, is_at, Updates, IsUnchanged}
 use Rattle.std.specs.Map.{lookup}
-use Rattle.pres_tree.specs.declared.scalar.Scalar.{Scalar}
-use Rattle.pres_tree.specs.Paths.{Path}
-use Rattle.pres_tree.specs.Rows.{Rows, IsValue}
-use Rattle.pres_tree.specs.Writes.{tree_after}
-use Rattle.pres_tree.proofs.Found.{in_order, in_order-after, same_rows}
-use Rattle.pres_tree.proofs.Last.{last_write_decides}
-use Rattle.pres_tree.specs.Writes.{write}
-use Rattle.pres_write.specs.declared.basic.Basic.{Basic}
-use Rattle.pres_write.specs.Basics.{applied}
+use Rattle.pres_tree.specs.Rows.{IsValue}
 use Rattle.pres_write.proofs.Applied.{applied_nothing}
 use Rattle.pres_ids.specs.declared.id.Stamp.{Stamp}
-use Rattle.pres_ids.specs.declared.id.SessionId.{SessionId}
-use Rattle.pres_ids.specs.declared.id.Why.{Why}
 use Rattle.pres_ids.specs.Ids.{ClientId, client_cmp, same_client, stamp_of}
-use Rattle.pres_retry.specs.declared.table.Row.{Row}
 use Rattle.pres_retry.specs.Tables.{Table, rows_of}
-use Rattle.pres_fan.specs.Listeners.{IsListeners, is_touched, paths_of, without_session}
-use Rattle.pres_fan.specs.Listeners as fan
 use Rattle.pres_log.specs.declared.entry.Entry.{Entry}
 use Rattle.pres_log.specs.declared.entry.Entry.TheVariants as entry
-use Rattle.pres_log.specs.Logs.{tree, writes_of}
-use Rattle.pres_log.proofs.Entries.{tree-append}
+use Rattle.pres_log.specs.Logs.{writes_of}
 use Rattle.pres_server.specs.declared.index.Index.{Index}
 use Rattle.pres_server.specs.declared.client_sessions.ClientSessions.{ClientSessions}
-use Rattle.pres_server.specs.Sessions.{is_open, open_sessions_of}
-use Rattle.pres_server.specs.Listening.{listened}
-use Rattle.pres_server.specs.Streams.{push_of}
-use Rattle.pres_server.specs.InternalParts.{Part, Sound, part_of, part_step, live_in, sent_in, sent_of}
-use Rattle.pres_server.specs.InternalInvariants.{MayComeUncounted, MayComeInTurn, MayTakeAll}
-use Rattle.pres_server.specs.InternalSessions.{Session, began, last_stamp, live_part, sent_to}
+use Rattle.pres_server.specs.InternalSessions.{Session, last_stamp, live_part}
 use Rattle.pres_server.specs.InternalPushes.{after_pushes}
-use Rattle.pres_server.specs.InternalIndex.{session_at, gone_at, part_at, sent_at, paths_at, retry_after, Carries, Steps, MayTake, Indexed}
+use Rattle.pres_server.specs.InternalIndex.{session_at, gone_at, retry_after, Carries, Steps, MayTake}
 use Rattle.pres_server.specs.InternalGrowth.{IsAlike, MayKeep, FindsOpen, HasPlace, IsSilent}
 use Rattle.pres_server.proofs.Since.{client_same}
 use Rattle.pres_server.proofs.Pushed.{nobody_touched}
-use Rattle.pres_server.proofs.Parts.{part_after, only_open}
-use Rattle.pres_server.proofs.AfterEntry.{sound_after, same_by_cmp}
-use Rattle.pres_server.proofs.Sent.{push_count, sent_between, sent_after}
-use Rattle.pres_server.proofs.Carried.{Between, between}
-use Rattle.pres_server.proofs.Taken.{part_in, takes, paths_stepped, paths_after, held_after, first_carried, rest_taken}
+use Rattle.pres_server.proofs.AfterEntry.{same_by_cmp}
+use Rattle.pres_server.specs.InternalSums.{open_of, sum_in, Agrees, MayEnter, MayTakeFrom}
+use Rattle.pres_server.specs.Sums.{Sum, sum_after}
+use Rattle.pres_server.specs.InternalParts.{Part, is_live}
+use Rattle.pres_server.proofs.SumSteps.{part_agrees, agrees_in, first_carries, rest_from}
 
 -- ---- as it was
 
-pub indexed_alike : (es : List Entry) (old new : Index) → IsAlike old new → Indexed es old → Indexed es new
-indexed_alike es old new a ix = record {
-  parts = λ c. a.parts c ∙ ix.parts c;
-  sent = λ c. a.sent c ∙ ix.sent c;
-  listens = λ s. ap (paths_of s) a.listeners ∙ ix.listens s;
-  held = subst IsListeners (sym a.listeners) ix.held;
-  tree = a.tree ∙ ix.tree;
-}
-
-pub may_take_alike : (es : List Entry) (z m : ℕ) (more : List Entry) (old new : Index) → IsAlike old new → MayTakeAll es z m more old → MayTakeAll es z m more new
-may_take_alike es z m more old new a f = record { indexed = indexed_alike es old new a f.indexed; sound = f.sound; next = f.next; in_turn = f.in_turn; room = f.room }
-
 pub alike_itself : (index : Index) → IsAlike index index
-alike_itself index = record { parts = λ c. refl; sent = λ c. refl; listeners = refl; tree = refl }
+alike_itself index = record { says = λ sum a. a }
 
 pub alike_then : (a b c : Index) → IsAlike a b → IsAlike b c → IsAlike a c
-alike_then a b c k l = record {
-  parts = λ d. l.parts d ∙ k.parts d;
-  sent = λ d. l.sent d ∙ k.sent d;
-  listeners = l.listeners ∙ k.listeners;
-  tree = l.tree ∙ k.tree;
-}
+alike_then a b c k l = record { says = λ sum h. l.says sum (k.says sum h) }
+
+pub alike_tree : (old new : Index) → IsAlike old new → new.tree ≡ old.tree
+alike_tree old new k = sym (k.says (sum_in 0 0 0 old) (agrees_in 0 0 0 old)).tree
+
+pub may_take_alike : (sum : Sum) (z m : ℕ) (more : List Entry) (old new : Index) → IsAlike old new → MayTakeFrom sum z m more old → MayTakeFrom sum z m more new
+may_take_alike sum z m more old new a f = record { agrees = a.says sum f.agrees; keeps = f.keeps; next = f.next; in_turn = f.in_turn; room = f.room }
 
 -- the index with these places
 abbrev pub placed : ClientSessions → Index → Index
 placed places index = record { places = places; retry = index.retry; listeners = index.listeners; tree = index.tree }
 
+-- what is hidden behind an open session makes no difference
+hidden : (live : Option Session) (g h : Option Stamp) → last_stamp live g ≡ last_stamp live h → cond (is_some live) None g ≡ cond (is_some live) None h
+hidden None g h e = e
+hidden (Some session) g h e = refl
+
 -- whose sessions are those that were
 pub places_alike : (old : Index) (places : ClientSessions) → ((c : ClientId) → get client_cmp places.live c ≡ session_at old c)
     → ((c : ClientId) → last_stamp (session_at old c) (get client_cmp places.gone c) ≡ last_stamp (session_at old c) (gone_at old c)) → IsAlike old (placed places old)
 places_alike old places live gone = record {
-  parts = λ c.
-      (λ i. part_in (live c i) (get client_cmp places.gone c) (rows_of c old.retry))
-      ∙ (λ i. record { last = gone c i; rows = rows_of c old.retry; live = option_map live_part (session_at old c) });
-  sent = λ c. ap sent_to (live c);
-  listeners = refl;
-  tree = refl;
+  says = λ sum a. record {
+    sessions = λ c. a.sessions c ∙ ap (option_map open_of) (sym (live c));
+    gone = λ c. a.gone c ∙ sym (hidden (session_at old c) (get client_cmp places.gone c) (gone_at old c) (gone c)) ∙ ap (λ o. cond (is_some o) None (get client_cmp places.gone c)) (sym (live c));
+    rows = a.rows;
+    listeners = a.listeners;
+    tree = a.tree;
+  };
 }
 
 -- a client whose session is open is told by it, and not by who is gone
@@ -109,32 +84,32 @@ same_alike old places k live gone = places_alike old places (λ c. live.0 c ∙ 
 
 -- ---- what is asked before an entry's writes are carried out
 
-open_by : (live : Option Session) {X : Type 0} (l : X) (f : Session → X) → option_map f live ≡ Some l → IsSome live
-open_by None l f e = absurd cc
-open_by (Some session) l f e = refl
+some_open : (live : Option Session) (t : Stamp) → is_live (option_map live_part live) t ≡ true → IsSome live
+some_open None t h = absurd (true≢false (sym h))
+some_open (Some session) t h = refl
 
-pub finds_open : (es : List Entry) (m : ℕ) (e : Entry) (index : Index) → Indexed es index → Sound es → MayComeUncounted es m e → FindsOpen index e
-finds_open es m (entry.Open s) index ix sound f = tt
-finds_open es m (entry.Op s q n op outcome) index ix sound f = tt
-finds_open es m (entry.Again s q n) index ix sound f = tt
-finds_open es m (entry.Left s q puts) index ix sound f = tt
-finds_open es m (entry.Cancelled s q path) index ix sound f = tt
-finds_open es m (entry.Denied s q why) index ix sound f = tt
-finds_open es m (entry.On s q path) index ix sound f = tt
-finds_open es m (entry.Off s q path) index ix sound f = tt
-finds_open es m (entry.Ended s q why rows) index ix sound f =
-    open_by (session_at index s.client) _ live_part (ap (λ (p : Part). p.live) (ix.parts s.client) ∙ ap (λ xs. live_in xs es) (only_open s es sound f.0))
+pub finds_open : (sum : Sum) (m : ℕ) (e : Entry) (index : Index) → Agrees index sum → MayEnter sum m e → FindsOpen index e
+finds_open sum m (entry.Open s) index a f = tt
+finds_open sum m (entry.Op s q n op outcome) index a f = tt
+finds_open sum m (entry.Again s q n) index a f = tt
+finds_open sum m (entry.Left s q puts) index a f = tt
+finds_open sum m (entry.Cancelled s q path) index a f = tt
+finds_open sum m (entry.Denied s q why) index a f = tt
+finds_open sum m (entry.On s q path) index a f = tt
+finds_open sum m (entry.Off s q path) index a f = tt
+finds_open sum m (entry.Ended s q why rows) index a f =
+    some_open (session_at index s.client) (stamp_of s) (ap (λ (p : Part). is_live p.live (stamp_of s)) (sym (part_agrees index sum a s.client)) ∙ f.0)
 
-pub may_keep : (es : List Entry) (m : ℕ) (e : Entry) (index : Index) → Indexed es index → MayComeUncounted es m e → MayKeep index e
-may_keep es m (entry.Open s) index ix f = tt
-may_keep es m (entry.Op s q n op outcome) index ix f = f.1 ∙ ap (λ (p : Part). length p.rows + 1) (sym (ix.parts s.client))
-may_keep es m (entry.Again s q n) index ix f = tt
-may_keep es m (entry.Left s q puts) index ix f = tt
-may_keep es m (entry.Cancelled s q path) index ix f = tt
-may_keep es m (entry.Denied s q why) index ix f = tt
-may_keep es m (entry.On s q path) index ix f = tt
-may_keep es m (entry.Off s q path) index ix f = tt
-may_keep es m (entry.Ended s q why rows) index ix f = tt
+pub may_keep : (sum : Sum) (m : ℕ) (e : Entry) (index : Index) → Agrees index sum → MayEnter sum m e → MayKeep index e
+may_keep sum m (entry.Open s) index a f = tt
+may_keep sum m (entry.Op s q n op outcome) index a f = f.1 ∙ ap (λ table. length (rows_of s.client table) + 1) a.rows
+may_keep sum m (entry.Again s q n) index a f = tt
+may_keep sum m (entry.Left s q puts) index a f = tt
+may_keep sum m (entry.Cancelled s q path) index a f = tt
+may_keep sum m (entry.Denied s q why) index a f = tt
+may_keep sum m (entry.On s q path) index a f = tt
+may_keep sum m (entry.Off s q path) index a f = tt
+may_keep sum m (entry.Ended s q why rows) index a f = tt
 
 pub place_kept : (old new : Index) (e : Entry) → new.places.gone ≡ old.places.gone → HasPlace old e → HasPlace new e
 place_kept old new (entry.Open s) h k = tt
@@ -158,12 +133,17 @@ pub carried_before : (z : ℕ) (e : Entry) (old mid : Index) → Carries (writes
 carried_before z e old mid k = record { live = k.live; gone = k.gone; retry = refl; listeners = k.listeners; tree = k.tree }
 
 quiet_alike : (old mid : Index) → IsValue old.tree → Carries [] old mid → IsAlike old mid
-quiet_alike old mid v k = record { parts = parts; sent = λ c. ap sent_to (live c); listeners = k.listeners; tree = k.tree ∙ applied_nothing old.tree v } where
+quiet_alike old mid v k = record {
+  says = λ sum a. record {
+    sessions = λ c. a.sessions c ∙ ap (option_map open_of) (sym (live c));
+    gone = λ c. a.gone c ∙ (λ i. cond (is_some (sym (live c) i)) None (get client_cmp (sym k.gone i) c));
+    rows = a.rows ∙ sym k.retry;
+    listeners = a.listeners ∙ sym k.listeners;
+    tree = a.tree ∙ sym (k.tree ∙ applied_nothing old.tree v);
+  };
+} where
   live : (c : ClientId) → session_at mid c ≡ session_at old c
   live c = k.live c ∙ ap (λ t. after_pushes (session_at old) t c) (nobody_touched [] old.listeners refl)
-
-  parts : (c : ClientId) → part_at mid c ≡ part_at old c
-  parts c = λ i. part_in (live c i) (get client_cmp (k.gone i) c) (rows_of c (k.retry i))
 
 -- an entry that writes nothing and keeps no answer changes nothing so far
 pub silent_alike : (z : ℕ) (e : Entry) (old mid : Index) → IsSilent e → IsValue old.tree → Carries (writes_of e) (answering (retry_after z e old.retry) old) mid → IsAlike old mid
@@ -178,11 +158,11 @@ silent_alike z (entry.Off s q path) old mid silent v k = quiet_alike old mid v k
 silent_alike z (entry.Ended s q why rows) old mid silent v k = absurd silent
 
 -- what the rest of an entry asks
-pub may_settle : (es : List Entry) (z m : ℕ) (e : Entry) (more : List Entry) (old mid : Index) → MayTakeAll es z m (e ∷ more) old → Carries (writes_of e) (answering (retry_after z e old.retry) old) mid → MayTake (answering old.retry mid) e
-may_settle es z m e more old mid f k = (first_carried es z m (e ∷ more) e more old refl f).entry (answering old.retry mid) (carried_before z e old mid k)
+pub may_settle : (sum : Sum) (z m : ℕ) (e : Entry) (more : List Entry) (old mid : Index) → MayTakeFrom sum z m (e ∷ more) old → Carries (writes_of e) (answering (retry_after z e old.retry) old) mid → MayTake (answering old.retry mid) e
+may_settle sum z m e more old mid f k = (first_carries sum z m (e ∷ more) e more old refl f).entry (answering old.retry mid) (carried_before z e old mid k)
 
-pub grown : (es : List Entry) (z m : ℕ) (e : Entry) (old mid new : Index) → MayTakeAll es z m (e ∷ []) old → Carries (writes_of e) (answering (retry_after z e old.retry) old) mid → Steps z m (answering old.retry mid) new e → Indexed (es ++ e ∷ []) new
-grown es z m e old mid new f k st = (rest_taken es z m (e ∷ []) e [] old (answering old.retry mid) new refl f (carried_before z e old mid k) st).indexed
+pub grown : (sum : Sum) (z m : ℕ) (e : Entry) (old mid new : Index) → MayTakeFrom sum z m (e ∷ []) old → Carries (writes_of e) (answering (retry_after z e old.retry) old) mid → Steps z m (answering old.retry mid) new e → Agrees new (sum_after e sum)
+grown sum z m e old mid new f k st = (rest_from sum z m (e ∷ []) e [] old (answering old.retry mid) new refl f (carried_before z e old mid k) st).agrees
 
 -- what is refused to an entry that changed nothing so far
 pub alike_where : {A E : Type 0} {P : Type 0} {old new last : Index} (r : Result A E) → (P → IsAlike old new → IsAlike last new) → OnErr r P → OnErr r (IsAlike old new) → OnErr r (IsAlike last new)

@@ -140,7 +140,7 @@ sorted_after_all m (e ∷ es) heard h = sorted_after_all m es (heard_after m e h
 abbrev pub behind : {X : Type 0} → (ClientId → Session → X) → List (ClientId × Session) → List (ClientId × X)
 behind f es = map (λ (e : ClientId × Session). (e.0, f e.0 e.1)) es
 
-keys_behind : {X : Type 0} (f : ClientId → Session → X) (es : List (ClientId × Session)) → keys_of (behind f es) ≡ keys_of es
+pub keys_behind : {X : Type 0} (f : ClientId → Session → X) (es : List (ClientId × Session)) → keys_of (behind f es) ≡ keys_of es
 keys_behind f [] = refl
 keys_behind f (e ∷ es) = ap (λ l. e.0 ∷ l) (keys_behind f es)
 
@@ -235,13 +235,13 @@ indexed_still es k m old new h ix = record {
 
 -- ---- the first client that has a session open
 
-first_heard : (heard : Heard) (c : ClientId) → first_client heard ≡ Some c → is_some (heard_last heard c) ≡ true
+pub first_heard : (heard : Heard) (c : ClientId) → first_client heard ≡ Some c → is_some (heard_last heard c) ≡ true
 first_heard [] c h = absurd (cc h)
 first_heard (e ∷ heard) c h =
     let is : e.0 ≡ c = ap (λ o. unwrap_or o c) h in
     ap (λ b. is_some (cond b (Some e.1) (find client_cmp c heard))) (same_by_cmp c e.0 ∙ ap (same_client c) is ∙ client_itself c)
 
-none_heard : (heard : Heard) (c : ClientId) → first_client heard ≡ None → is_some (heard_last heard c) ≡ false
+pub none_heard : (heard : Heard) (c : ClientId) → first_client heard ≡ None → is_some (heard_last heard c) ≡ false
 none_heard [] c h = refl
 none_heard (e ∷ heard) c h = absurd (cc h)
 

@@ -21,7 +21,6 @@ pub mod Readers
 pub mod Turned
 pub mod OpenList
 pub mod Follows
-pub mod Anew
 pub mod Replayed
 pub mod Views
 pub mod LastingOns
@@ -29,3 +28,9 @@ pub mod Rewritten
 pub mod Stands
 pub mod Alike
 pub mod Superseded
+pub mod Keyed
+pub mod Touching
+pub mod KeptSums
+pub mod Turning
+pub mod SumSteps
+pub mod SumServers

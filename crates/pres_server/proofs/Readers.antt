@@ -34,7 +34,7 @@ some_moment : (live : Option Session) → is_some (moment_at live) ≡ is_some (
 some_moment None = refl
 some_moment (Some session) = refl
 
-some_live : (p : SessionId → Bool) (es : List Entry) (xs : List SessionId) → is_some (live_in (filter p xs) es) ≡ list_any p xs
+pub some_live : (p : SessionId → Bool) (es : List Entry) (xs : List SessionId) → is_some (live_in (filter p xs) es) ≡ list_any p xs
 some_live p es [] = refl
 some_live p es (x ∷ xs) = by (p x) (some_live p es xs) where
   by : (b : Bool) → is_some (live_in (filter p xs) es) ≡ list_any p xs → is_some (live_in (cond b (x ∷ filter p xs) (filter p xs)) es) ≡ (b || list_any p xs)

@@ -1,45 +1,47 @@
 -- What a replay adds and refuses.
-use Rattle.std.proofs.Common.{sym, ◌∙◌, ap, subst, ◌≡◌, ℕ, ◌+◌, ◌^◌, ◌<◌, ◌≤◌, suc, List, [], ◌∷◌, ◌++◌, length, get_or, take, drop, arith, length-append}
+use Rattle.std.proofs.Common.{refl, sym, ◌∙◌, ap, subst, ◌≡◌, ℕ, ◌+◌, ◌<◌, suc, List, [], ◌∷◌, ◌++◌, length, get_or, take, drop, arith}
 use Rattle.std.proofs.Math.Seq.{drop-cons}
 use Rattle.std.proofs.lemmas.List.{take-append-drop, take_more}
 use Rattle.pres_log.specs.declared.entry.Batch.{Batch}
-use Rattle.pres_log.specs.declared.entry.Entry.{Entry}
-use Rattle.pres_log.specs.Logs.{Log, entries}
-use Rattle.pres_log.proofs.Entries.{entries-push}
+use Rattle.pres_log.specs.Logs.{Log}
 use Rattle.pres_server.specs.declared.replay.ReplayFault.{ReplayFault}
 use Rattle.pres_server.specs.declared.replay.ReplayFault.TheVariants.{Memory, NotLegal}
-use Rattle.pres_server.specs.LegalLog.{IsLegal, MayComeTogether, MayFollow}
+use Rattle.pres_server.specs.Sums.{Sum, nothing, sum_with, sum_from}
+use Rattle.pres_server.specs.SumTurns.{FollowsSum, FollowAll}
 use Rattle.pres_server.specs.Replays.{IsNotAdded, IsNoLog}
-use Rattle.pres_server.proofs.Whole.{of_legal, legal_after, legal_leaves_room}
 
-some_entries : (es : List Entry) (m : ℕ) (xs : List Entry) → MayComeTogether es m xs → 1 ≤ length xs
-some_entries es m [] t = absurd t
-some_entries es m (e ∷ xs) t = omega arith
+-- ---- one batch more
 
--- there are no more batches than entries
-length_legal : (log : Log) → IsLegal log → length log ≤ length (entries log)
-length_legal = of_legal (λ log. length log ≤ length (entries log)) (omega arith)
-    (λ log b low f.
-    let n = length-append log (b ∷ []) in
-    let e = ap length (entries-push log b) in
-    let m = length-append (entries log) b.entries in
-    let s = some_entries (entries log) b.moment b.entries f.allowed in
-    omega arith)
+pub sum_push : (sum : Sum) (log : Log) (b : Batch) → sum_from sum (log ++ b ∷ []) ≡ sum_with (sum_from sum log) b
+sum_push sum [] b = refl
+sum_push sum (a ∷ log) b = sum_push (sum_with sum a) log b
 
-pub few_batches : (log : Log) → IsLegal log → length log < 2 ^ 52
-few_batches log legal = let a = length_legal log legal in let room = legal_leaves_room log legal in omega arith
+pub follow_more : (log : Log) (sum : Sum) (b : Batch) → FollowAll sum log → FollowsSum (sum_from sum log) b → FollowAll sum (log ++ b ∷ [])
+follow_more [] sum b f g = (g, tt)
+follow_more (a ∷ log) sum b f g = (f.0, follow_more log (sum_with sum a) b f.1 g)
 
--- the batches before the next one, and those up to it
+pub batches_from : (sum : Sum) (log : Log) → (sum_from sum log).batches ≡ sum.batches + length log
+batches_from sum [] = let none : sum.batches ≡ sum.batches + 0 = omega arith in none
+batches_from sum (a ∷ log) = let rest = batches_from (sum_with sum a) log in omega arith
+
+-- ---- the batches before the next one, and those up to it
+
 begun : (bs : List Batch) (i : ℕ) (b : Batch) → i < length bs → b ≡ get_or bs i b → bs ≡ take i bs ++ b ∷ drop (suc i) bs
 begun bs i b h e = sym (take-append-drop i bs) ∙ ap (λ l. take i bs ++ l) (drop-cons bs i b h ∙ ap (λ x. x ∷ drop (suc i) bs) (sym e))
 
-pub one_further : (bs : List Batch) (i : ℕ) (b : Batch) → i < length bs → b ≡ get_or bs i b → take (i + 1) bs ≡ take i bs ++ b ∷ []
+one_further : (bs : List Batch) (i : ℕ) (b : Batch) → i < length bs → b ≡ get_or bs i b → take (i + 1) bs ≡ take i bs ++ b ∷ []
 one_further bs i b h e = take_more bs i b h ∙ ap (λ x. take i bs ++ x ∷ []) (sym e)
 
-pub legal_further : (bs : List Batch) (i : ℕ) (b : Batch) → i < length bs → b ≡ get_or bs i b → IsLegal (take i bs) → MayFollow (take i bs) b → IsLegal (take (i + 1) bs)
-legal_further bs i b h e legal f = subst IsLegal (sym (one_further bs i b h e)) (legal_after (take i bs) b legal f)
+pub summed_further : (bs : List Batch) (i : ℕ) (b : Batch) → i < length bs → b ≡ get_or bs i b → sum_from nothing (take (i + 1) bs) ≡ sum_with (sum_from nothing (take i bs)) b
+summed_further bs i b h e = ap (sum_from nothing) (one_further bs i b h e) ∙ sum_push nothing (take i bs) b
+
+pub follow_further : (bs : List Batch) (i : ℕ) (b : Batch) → i < length bs → b ≡ get_or bs i b → FollowAll nothing (take i bs) → FollowsSum (sum_from nothing (take i bs)) b → FollowAll nothing (take (i + 1) bs)
+follow_further bs i b h e all f = subst (FollowAll nothing) (sym (one_further bs i b h e)) (follow_more (take i bs) nothing b all f)
 
 -- a batch that isn't added is the first that may not follow
-pub not_added : (bs : List Batch) (i : ℕ) (b : Batch) (fault : ReplayFault) → i < length bs → b ≡ get_or bs i b → IsLegal (take i bs) → IsNotAdded (take i bs) b fault → IsNoLog bs fault
-not_added bs i b Memory h e legal r = tt
-not_added bs i b (NotLegal k) h e legal r = record { before = take i bs; batch = b; later = drop (suc i) bs; parts = begun bs i b h e; number = r.1; legal = legal; refused = r.0 }
+pub not_added : (bs : List Batch) (i : ℕ) (b : Batch) (fault : ReplayFault) → i < length bs → b ≡ get_or bs i b → FollowAll nothing (take i bs) → IsNotAdded (sum_from nothing (take i bs)) b fault → IsNoLog bs fault
+not_added bs i b Memory h e all r = tt
+not_added bs i b (NotLegal k) h e all r =
+    let counted = batches_from nothing (take i bs) in
+    let due = r.1 in
+    record { before = take i bs; batch = b; later = drop (suc i) bs; parts = begun bs i b h e; number = omega arith; legal = all; refused = r.0 }

@@ -81,13 +81,13 @@ room_there es e s index ix sound o small =
 live_there : (es : List Entry) (e : Entry) (s : SessionId) (index : Index) → Between es e index → Sound es → is_open s es ≡ true → option_map live_part (session_at index s.client) ≡ Some (here es s)
 live_there es e s index ix sound o = ap (λ (p : Part). p.live) (ix.parts s.client) ∙ ap (λ xs. live_in xs es) (only_open s es sound o)
 
-due_by : (live : Option Session) (l : LivePart) → option_map live_part live ≡ Some l → (rows : List Basic) (tree : Rows Scalar) (m : ℕ) → rows ≡ due tree m l.plan → AreDueAt live rows
+pub due_by : (live : Option Session) (l : LivePart) → option_map live_part live ≡ Some l → (rows : List Basic) (tree : Rows Scalar) (m : ℕ) → rows ≡ due tree m l.plan → AreDueAt live rows
 due_by None l k rows tree m h = absurd (cc)
 due_by (Some session) l k rows tree m h =
     let p : session.plan ≡ l.plan = ap (λ (o : Option LivePart). (unwrap_or o l).plan) k in
     (tree, m, h ∙ ap (due tree m) (sym p))
 
-leaves_by : (live : Option Session) (l : LivePart) → option_map live_part live ≡ Some l → (q : ℕ) (e : Entry) → q ≡ l.count + 1 → IsAsked (Some l) → length (plan_after e l.plan) ≤ most_rows → MayLeaveAt live q e
+pub leaves_by : (live : Option Session) (l : LivePart) → option_map live_part live ≡ Some l → (q : ℕ) (e : Entry) → q ≡ l.count + 1 → IsAsked (Some l) → length (plan_after e l.plan) ≤ most_rows → MayLeaveAt live q e
 leaves_by None l k q e n asked few = absurd (cc)
 leaves_by (Some session) l k q e n asked few =
     let p : l.plan ≡ session.plan = ap (λ (o : Option LivePart). (unwrap_or o l).plan) (sym k) in
@@ -105,7 +105,7 @@ leaves_there es e q index ix sound o n few =
     (subst (λ xs. IsAsked (live_in xs es)) (only_open s es sound o) (sound.asked s.client))
     (subst (λ rows. length rows ≤ most_rows) (plan_own s es e (and_parts (list_any (opens s) es) _ o).0 (session_itself s)) few)
 
-may_open : (index : Index) (s : SessionId) → option_map live_part (session_at index s.client) ≡ None → comes_after (last_stamp (session_at index s.client) (gone_at index s.client)) (stamp_of s) ≡ true → MayOpen index.places s
+pub may_open : (index : Index) (s : SessionId) → option_map live_part (session_at index s.client) ≡ None → comes_after (last_stamp (session_at index s.client) (gone_at index s.client)) (stamp_of s) ≡ true → MayOpen index.places s
 may_open index s l k =
     let none : session_at index s.client ≡ None = by (session_at index s.client) l in
     record { nobody = none; newer = ap (λ live. comes_after (last_stamp live (gone_at index s.client)) (stamp_of s)) (sym none) ∙ k } where
@@ -119,7 +119,7 @@ not_next n k h = grind (arith, nat_tests)
 not_zero : (n : ℕ) → 1 ≤ n → (n == 0) ≡ false
 not_zero n h = grind (arith, nat_tests)
 
-is_again : (n : ℕ) (rows : List Row) (kept : Row) → 1 ≤ n → n ≤ length rows → slice_get rows (n - 1) ≡ Some kept → verdict n rows ≡ again kept
+pub is_again : (n : ℕ) (rows : List Row) (kept : Row) → 1 ≤ n → n ≤ length rows → slice_get rows (n - 1) ≡ Some kept → verdict n rows ≡ again kept
 is_again n rows kept low high k =
     (λ i. cond (not_zero n low i) gap (cond (not_next n (length rows) high i) fresh (row_status (slice_get rows (n - 1)))))
     ∙ ap row_status k
@@ -218,7 +218,7 @@ live_new z m old new e st c b h =
     st.live.0 c ∙ ap (λ t. cond t (live_after m e (session_at old (session_of e).client)) (session_at old c)) (same_by_cmp (session_of e).client c ∙ h)
 
 -- who is gone: a map in which the client's entry is changed, and one that stays
-gone_changed : (old new : Index) (k : ClientId) (g : Option Gone) → Updates client_cmp old.places.gone new.places.gone k g → (c : ClientId) (b : Bool) → same_client k c ≡ b → gone_at new c ≡ cond b g (gone_at old c)
+pub gone_changed : (old new : Index) (k : ClientId) (g : Option Gone) → Updates client_cmp old.places.gone new.places.gone k g → (c : ClientId) (b : Bool) → same_client k c ≡ b → gone_at new c ≡ cond b g (gone_at old c)
 gone_changed old new k g st c b h = st.0 c ∙ ap (λ t. cond t g (gone_at old c)) (same_by_cmp k c ∙ h)
 
 gone_stays : (old new : Index) (k : ClientId) → new.places.gone ≡ old.places.gone → (c : ClientId) (b : Bool) → same_client k c ≡ b → gone_at new c ≡ cond b (gone_at old k) (gone_at old c)

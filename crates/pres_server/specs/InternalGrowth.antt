@@ -5,12 +5,13 @@ use Rattle.pres_tree.specs.Paths.{Path, meet}
 use Rattle.pres_tree.specs.Rows.{Rows, Fits, is_null, rows_in}
 use Rattle.pres_tree.specs.Writes.{write, after}
 use Rattle.pres_write.specs.Basics.{BasicWrite, applied}
-use Rattle.pres_ids.specs.Ids.{ClientId}
 use Rattle.pres_retry.specs.Tables.{rows_of}
 use Rattle.pres_log.specs.declared.entry.Entry.{Entry}
 use Rattle.pres_log.specs.declared.entry.Entry.TheVariants as entry
 use Rattle.pres_server.specs.declared.index.Index.{Index}
-use Rattle.pres_server.specs.InternalIndex.{session_at, gone_at, part_at, sent_at}
+use Rattle.pres_server.specs.InternalIndex.{session_at, gone_at}
+use Rattle.pres_server.specs.InternalSums.{Agrees}
+use Rattle.pres_server.specs.Sums.{Sum}
 
 -- the write puts something at the path, above it or below it
 abbrev pub puts_by : Path → BasicWrite → Bool
@@ -31,12 +32,9 @@ abbrev pub MayStand : BasicWrite → List BasicWrite → Option (Rows Scalar) �
 MayStand w later None = MayBeLast w later
 MayStand w later (Some value) = StandsIn w later value
 
--- both say the same of each client, the listeners and the tree
+-- what a sum says of the one index it says of the other
 pub record IsAlike (old new : Index) : Type 0 where
-  pub parts : (c : ClientId) → part_at new c ≡ part_at old c
-  pub sent : (c : ClientId) → sent_at new c ≡ sent_at old c
-  pub listeners : new.listeners ≡ old.listeners
-  pub tree : new.tree ≡ old.tree
+  pub says : (sum : Sum) → Agrees old sum → Agrees new sum
 
 -- the answer that an entry keeps is that to its client's next write
 abbrev pub MayKeep : Index → Entry → Type 0

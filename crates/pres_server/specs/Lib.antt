@@ -16,3 +16,9 @@ pub mod InternalGrowth
 pub mod Replays
 pub mod Faults
 pub mod Laws
+pub mod Sums
+pub mod SumStates
+pub mod SumAnswers
+pub mod SumTurns
+pub mod Histories
+pub mod InternalSums

@@ -1,25 +1,29 @@
 -- Servers that are made anew from their batches.
-use Rattle.std.specs.Prelude.{ℕ, ◌+◌, ◌≡◌, List, [], ◌∷◌, ◌++◌, map, length}
+use Rattle.std.specs.Prelude.{ℕ, ◌+◌, ◌≡◌, List, ◌∷◌, ◌++◌, map, length}
 use Rattle.pres_log.specs.declared.entry.Batch.{Batch}
 use Rattle.pres_log.specs.Logs.{Log, entries, last_moment}
 use Rattle.pres_server.specs.declared.replay.ReplayFault.{ReplayFault}
 use Rattle.pres_server.specs.declared.replay.ReplayFault.TheVariants.{Memory, NotLegal}
 use Rattle.pres_server.specs.Sessions.{open_entries}
-use Rattle.pres_server.specs.LegalLog.{MayFollow, IsLegal}
 use Rattle.pres_server.specs.ServerStates.{Heard, ServerState}
+use Rattle.pres_server.specs.Sums.{Sum, nothing, sum_from}
+use Rattle.pres_server.specs.SumStates.{SumState}
+use Rattle.pres_server.specs.SumTurns.{FollowsSum, FollowAll}
 
--- the client of each open session counts as heard of at the log's greatest moment
-abbrev pub heard_anew : Log → Heard
-heard_anew log = map (λ e. (e.0, last_moment log)) (open_entries (entries log))
+-- ---- by the sum
 
--- the server that is made from a log
-abbrev pub made_from : Log → ServerState
-made_from log = record { log = log; heard = heard_anew log }
+-- the client of each open session counts as heard of at the greatest moment
+abbrev pub heard_by : Sum → Heard
+heard_by sum = map (λ e. (e.0, sum.moment)) sum.sessions
 
--- why a batch isn't added to a log
-abbrev pub IsNotAdded : Log → Batch → ReplayFault → Type 0
-IsNotAdded log batch Memory = Unit {0}
-IsNotAdded log batch (NotLegal k) = ¬ (MayFollow log batch) × (k ≡ length log + 1)
+-- the server that is made from a sum
+abbrev pub resumed : Sum → SumState
+resumed sum = record { sum = sum; heard = heard_by sum }
+
+-- why a batch isn't added to the sum
+abbrev pub IsNotAdded : Sum → Batch → ReplayFault → Type 0
+IsNotAdded sum batch Memory = Unit {0}
+IsNotAdded sum batch (NotLegal k) = ¬ (FollowsSum sum batch) × (k ≡ sum.batches + 1)
 
 -- batch number k is the first that may not follow those before it
 pub record IsFirstIllegal (batches : List Batch) (k : ℕ) : Type 0 where
@@ -28,10 +32,20 @@ pub record IsFirstIllegal (batches : List Batch) (k : ℕ) : Type 0 where
   pub later : List Batch
   pub parts : batches ≡ before ++ batch ∷ later
   pub number : k ≡ length before + 1
-  pub legal : IsLegal before
-  pub refused : MayFollow before batch → ⊥
+  pub legal : FollowAll nothing before
+  pub refused : FollowsSum (sum_from nothing before) batch → ⊥
 
--- why batches are refused as a log
+-- why batches are refused
 abbrev pub IsNoLog : List Batch → ReplayFault → Type 0
 IsNoLog batches Memory = Unit {0}
 IsNoLog batches (NotLegal k) = IsFirstIllegal batches k
+
+-- ---- by the log
+
+-- the client of each open session counts as heard of at the log's greatest moment
+abbrev pub heard_anew : Log → Heard
+heard_anew log = map (λ e. (e.0, last_moment log)) (open_entries (entries log))
+
+-- the server that is made from a log
+abbrev pub made_from : Log → ServerState
+made_from log = record { log = log; heard = heard_anew log }

@@ -78,9 +78,3 @@ pub record ServerState : Type 0 where
 -- a server without a history
 abbrev pub blank : ServerState
 blank = record { log = []; heard = [] }
-
--- a turn that waits for the commit of its batch
-pub record PendingTurn : Type 0 where
-  pub state : ServerState
-  pub moment : ℕ
-  pub made : List Entry

@@ -1,5 +1,5 @@
 -- One turn of the server: what an input does to the log, as a function of the log, the input and the moment that
--- is handed in, and what the calls of a server answer.
+-- is handed in.
 use Rattle.std.specs.Prelude.{ℕ, ◌+◌, ◌-◌, ◌^◌, min, max, List, [], ◌∷◌, ◌++◌, map, length, Some, None, if◌then◌else◌, nat_lt, nat_le, ◌==◌, unwrap_or, ◌≡◌, ◌⊎◌, Bool, true, false, Option, Result, MatchResult}
 use Rattle.pres_tree.specs.declared.scalar.Scalar.{Scalar}
 use Rattle.pres_tree.specs.Paths.{Path}
@@ -33,8 +33,6 @@ use Rattle.pres_server.specs.declared.input.Input.TheVariants as input
 use Rattle.pres_server.specs.ServerStates.{heard_from, heard_of, heard_after_all, late_client, ServerState}
 use Rattle.pres_server.specs.declared.turn.TurnEffect.{TurnEffect}
 use Rattle.pres_server.specs.declared.turn.TurnEffect.TheVariants as step
-use Rattle.pres_server.specs.declared.server.Turn.{Turn}
-use Rattle.pres_server.specs.declared.server.Turn.TheVariants as turn_is
 
 -- ---- what a message asks for: entries, nothing, or a refusal
 
@@ -178,8 +176,3 @@ IsEffect from decision (step.Quiet heard) = (decision ≡ quiet) × (heard ≡ f
 -- the step that an input asks for, or its refusal
 abbrev pub Decides : Option SessionId → Decision → Result TurnEffect Fault → Type 0
 Decides from decision result = MatchResult result (IsEffect from decision) (IsRefusal decision)
-
--- a quiet turn answers nothing, and one that waits for its commit is the one that the input asks for
-abbrev pub IsTurn : ServerState → Input → ℕ → Turn → Type 0
-IsTurn state input now (turn_is.Quiet server outs) = (turn state input now ≡ quiet) × (server ≡ state_heard state (moment_of state.log now) input) × (outs ≡ [])
-IsTurn state input now (turn_is.Busy busy) = (turn state input now ≡ makes busy.made) × (busy.state ≡ state) × (busy.moment ≡ moment_of state.log now)

@@ -125,7 +125,10 @@ impl ClientSessions {
     pub(crate) fn open_count(&self) -> u64
         ensures count { result ≡ open_count self.now }
         ensures ordered { IsOrdered client_cmp self.now.live }
+        ensures gone { IsOrdered client_cmp self.now.gone }
     {
+        // it ensures that those that are gone are in order
+        let _ = self.gone.len();
         self.live.len() as u64
     }
 

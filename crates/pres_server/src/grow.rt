@@ -1,17 +1,18 @@
 //! How the index takes in a batch without its answers: all of it or, where memory is refused, none.
 
-ghost use Rattle.std.specs.Prelude.{◌≡◌, ◌≤◌, ◌++◌, ◌∷◌, [], List, length, OnOk, OnErr, IfOk};
+ghost use Rattle.std.specs.Prelude.{◌≡◌, ◌≤◌, ◌∷◌, [], length, OnOk, OnErr, IfOk};
 ghost use Rattle.std.specs.List.{list_any};
 ghost use Rattle.pres_write.specs.Basics.{applied};
 ghost use Rattle.pres_fan.specs.Listeners.{touched, most_paths, paths_of, with_listener};
 ghost use Rattle.pres_retry.specs.Tables.{Table};
 ghost use Rattle.pres_log.specs.Logs.{writes_of};
-ghost use Rattle.pres_log.specs.declared.entry.Entry.{Entry as LogEntry};
 ghost use Rattle.pres_log.specs.declared.entry.Entry.TheVariants as entry;
-ghost use Rattle.pres_server.specs.LegalLog.{MayComeTogether, Supersedes};
+ghost use Rattle.pres_server.specs.LegalLog.{Supersedes};
 ghost use Rattle.pres_server.specs.InternalPushes.{MayPushAll};
-ghost use Rattle.pres_server.specs.InternalIndex.{Indexed, Carries, StepsAt, MayTake, retry_after, session_at};
-ghost use Rattle.pres_server.specs.InternalInvariants.{MayTakeAll};
+ghost use Rattle.pres_server.specs.InternalIndex.{Carries, StepsAt, MayTake, retry_after, session_at};
+ghost use Rattle.pres_server.specs.InternalFollows.{MayComeTogetherBy};
+ghost use Rattle.pres_server.specs.Sums.{Sum, part_in, paths_in, sum_after, sum_after_all};
+ghost use Rattle.pres_server.specs.InternalSums.{Agrees, MayTakeFrom};
 ghost use Rattle.pres_server.specs.InternalGrowth.{puts_by, MayStand, IsAlike, MayKeep, FindsOpen, HasPlace, IsSilent};
 
 use crate::index::{Index, LogPosition};
@@ -212,11 +213,11 @@ impl Index {
 
     // Takes in the one entry of a batch.
     fn grow_one(&mut self, alloc: Global, entry: &Entry, made: LogPosition) -> Result<(), Reopen>
-        requires { (es : List LogEntry)
-            × MayTakeAll es made.number made.moment (entry.now ∷ []) self.old }
-        ensures indexed { (es : List LogEntry)
-            → MayTakeAll es made.number made.moment (entry.now ∷ []) self.old
-            → OnOk result (Indexed (es ++ entry.now ∷ []) self.new) }
+        requires { (sum : Sum)
+            × MayTakeFrom sum made.number made.moment (entry.now ∷ []) self.old }
+        ensures agrees { (sum : Sum)
+            → MayTakeFrom sum made.number made.moment (entry.now ∷ []) self.old
+            → OnOk result (Agrees self.new (sum_after entry.now sum)) }
         ensures unchanged { OnErr result (IsAlike self.old self.new) }
     {
         // it ensures that the tree is a value
@@ -234,12 +235,12 @@ impl Index {
         opened: &SessionId,
         made: LogPosition,
     ) -> Result<(), Reopen>
-        requires may { (es : List LogEntry) × MayTakeAll es made.number made.moment
+        requires may { (sum : Sum) × MayTakeFrom sum made.number made.moment
             (ended.now ∷ entry.Open opened.now ∷ []) self.old }
         requires ends { Supersedes ended.now (entry.Open opened.now) }
-        ensures indexed { (es : List LogEntry) → MayTakeAll es made.number made.moment
-            (ended.now ∷ entry.Open opened.now ∷ []) self.old
-            → OnOk result (Indexed (es ++ ended.now ∷ entry.Open opened.now ∷ []) self.new) }
+        ensures agrees { (sum : Sum) → MayTakeFrom sum made.number made.moment
+            (ended.now ∷ entry.Open opened.now ∷ []) self.old → OnOk result
+            (Agrees self.new (sum_after (entry.Open opened.now) (sum_after ended.now sum))) }
         ensures unchanged { OnErr result (IsAlike self.old self.new) }
     {
         let Entry::Ended { session, .. } = ended else {
@@ -259,12 +260,13 @@ impl Index {
         entries: &[Entry],
         made: LogPosition,
     ) -> Result<(), Reopen>
-        requires { (es : List LogEntry)
-            × MayTakeAll es made.number made.moment entries.now self.old
-            × MayComeTogether es made.moment entries.now }
-        ensures indexed { (es : List LogEntry)
-            → MayTakeAll es made.number made.moment entries.now self.old
-            → OnOk result (Indexed (es ++ entries.now) self.new) }
+        requires { (sum : Sum)
+            × MayTakeFrom sum made.number made.moment entries.now self.old
+            × MayComeTogetherBy (part_in sum) (paths_in sum) (length sum.sessions) sum.tree
+            made.moment entries.now }
+        ensures agrees { (sum : Sum)
+            → MayTakeFrom sum made.number made.moment entries.now self.old
+            → OnOk result (Agrees self.new (sum_after_all entries.now sum)) }
         ensures unchanged { OnErr result (IsAlike self.old self.new) }
     {
         let Some((first, rest)) = entries.split_first() else {

@@ -1,18 +1,18 @@
-//! What the log says of each client and of the tree, kept as the log grows.
+//! What a server knows of each client and of the tree, kept as entries are made.
 
 ghost use Rattle.std.specs.Prelude.{◌≡◌, ◌+◌, ◌++◌, ◌∷◌, [], ℕ, List, Option, length, IfOk, OnErr};
-ghost use Rattle.std.specs.BTreeMap.{IsOrdered};
 ghost use Rattle.pres_write.specs.Outcomes.{kept_of};
 ghost use Rattle.pres_fan.specs.Listeners.{touched};
 ghost use Rattle.pres_write.specs.declared.op.Op.{Op};
 ghost use Rattle.pres_retry.specs.Tables.{row, rows_of, recorded};
-ghost use Rattle.pres_ids.specs.Ids.{ClientId, client_cmp, stamp_of};
+ghost use Rattle.pres_ids.specs.Ids.{ClientId, stamp_of};
 ghost use Rattle.pres_log.specs.declared.entry.Entry.TheVariants as entry;
-ghost use Rattle.pres_server.specs.Streams.{answers};
 ghost use Rattle.pres_server.specs.ServerStates.{Heard, heard_after_all};
 ghost use Rattle.pres_server.specs.InternalPushes.{MayPushAll, pushes};
-ghost use Rattle.pres_server.specs.InternalIndex.{Indexed, Carries, StepsAt, TakesEntry, MayTake, MayCarry, Tells, answer_on, live_at, session_at};
-ghost use Rattle.pres_server.specs.InternalInvariants.{MayTakeAll};
+ghost use Rattle.pres_server.specs.InternalIndex.{Carries, StepsAt, TakesEntry, MayTake, MayCarry, Tells, answer_on, live_at, session_at};
+ghost use Rattle.pres_server.specs.Sums.{Sum, nothing, sum_after_all};
+ghost use Rattle.pres_server.specs.SumAnswers.{answers_by};
+ghost use Rattle.pres_server.specs.InternalSums.{sum_in, Agrees, MayTakeFrom};
 ghost use Rattle.pres_server.specs.InternalSessions.{moment_at, stamp_at};
 ghost use Rattle.pres_server.specs.InternalParts.{count_in};
 
@@ -27,7 +27,7 @@ use pres_wire::{ClientId, Count, Down, Limit, Number, SessionId, Stamp, Why};
 use pres_write::{Basic, Moment, Outcome, Puts, apply};
 use std::alloc::Global;
 
-/// What the log says.
+/// What a server knows.
 #[derive(Drop)]
 pub(crate) struct Index {
     /// Where each client stands.
@@ -48,11 +48,10 @@ pub(crate) struct LogPosition {
 }
 
 impl Index {
-    /// The index of the log without batches.
+    /// The index of a server without a history.
     pub(crate) fn new(alloc: Global) -> Index
-        ensures indexed { Indexed [] result }
+        ensures sum { sum_in 0 0 0 result ≡ nothing }
         ensures nobody { result.places.live.entries ≡ [] }
-        ensures ordered { IsOrdered client_cmp result.places.live }
     {
         Index {
             places: ClientSessions::new(alloc),
@@ -204,7 +203,7 @@ impl Index {
             (λ m. answer_on self.old made (entry.Again session.now q n) ≡ m ∷ []) }
     {
         let r = self.places.answer(&session.client, made.moment);
-        let Verdict::Again(row) = self.retry.find(&session.client, n) else {
+        let Verdict::Again(answer) = self.retry.find(&session.client, n) else {
             unreachable!()
         };
         Ok(Down::Reply {
@@ -213,8 +212,8 @@ impl Index {
             z: made.number,
             q,
             n,
-            done: row.done,
-            out: row.kept.copy(alloc)?,
+            done: answer.done,
+            out: answer.kept.copy(alloc)?,
         })
     }
 
@@ -435,16 +434,13 @@ pub(crate) fn take_all(
     made: LogPosition,
     outs: &mut Vec<Down>,
 ) -> Result<(), Reopen>
-    requires { (es : List Entry)
-        × MayTakeAll es made.number made.moment entries.now index.old }
-    ensures indexed { (es : List Entry)
-        → MayTakeAll es made.number made.moment entries.now index.old
-        → IfOk result (λ _. Indexed (es ++ entries.now) index.new) }
+    requires { (sum : Sum) × MayTakeFrom sum made.number made.moment entries.now index.old }
+    ensures agrees { (sum : Sum) → MayTakeFrom sum made.number made.moment entries.now index.old
+        → IfOk result (λ _. Agrees index.new (sum_after_all entries.now sum)) }
     ensures heard { (heard : Heard) → Tells heard index.old
         → IfOk result (λ _. Tells (heard_after_all made.moment entries.now heard) index.new) }
-    ensures answers { (es : List Entry)
-        → MayTakeAll es made.number made.moment entries.now index.old
-        → IfOk result (λ _. outs.new.items ≡ outs.old.items ++ answers es entries.now) }
+    ensures answers { (sum : Sum) → MayTakeFrom sum made.number made.moment entries.now index.old
+        → IfOk result (λ _. outs.new.items ≡ outs.old.items ++ answers_by sum entries.now) }
 {
     let Some((first, rest)) = entries.split_first() else {
         return Ok(());

@@ -1,14 +1,16 @@
 //! Servers that are made anew from the batches of their log.
 
-ghost use Rattle.std.specs.Prelude.{◌≡◌, ◌+◌, ◌++◌, ◌∷◌, [], ℕ, length, IfErr, IfOk, OnErr, OnOk};
+ghost use Rattle.std.specs.Prelude.{◌≡◌, ◌+◌, ℕ, IfErr, IfOk, OnErr, OnOk};
 ghost use Rattle.pres_server.specs.declared.replay.ReplayFault.TheVariants.{NotLegal};
 ghost use Rattle.pres_server.specs.Faults.{number_of, name_of};
-ghost use Rattle.pres_server.specs.LegalLog.{IsLegal, MayFollow};
-ghost use Rattle.pres_server.specs.Replays.{made_from, IsNotAdded, IsNoLog};
+ghost use Rattle.pres_server.specs.Sums.{nothing, sum_with, sum_from};
+ghost use Rattle.pres_server.specs.SumTurns.{FollowsSum, FollowAll};
+ghost use Rattle.pres_server.specs.Histories.{IsSum};
+ghost use Rattle.pres_server.specs.Replays.{resumed, IsNotAdded, IsNoLog};
 
 use crate::reopen::Reopen;
 use crate::server::Server;
-use pres_log::{Batch, Log};
+use pres_log::Batch;
 use pres_wire::Number;
 use std::alloc::{AllocError, AllocFailed, Global};
 use std::marker::Model;
@@ -80,55 +82,61 @@ impl From<Reopen> for ReplayFault {
     }
 }
 
-/// A server that is made anew batch by batch. Contracts see it as the log so far.
+/// A server that is made anew batch by batch. Contracts see it as the sum so far.
 #[derive(Drop)]
 pub struct Replay {
     server: Server,
 }
 
 impl Model for Replay {
-    ghost use Rattle.pres_log.specs.Logs.{Log};
+    ghost use Rattle.pres_server.specs.Sums.{Sum};
 
-    ghost Value = { Log };
+    ghost Value = { Sum };
 
-    ghost view = { λ r. r.server.log };
+    ghost view = { λ r. r.server.sum };
 }
 
 impl Replay {
     /// No batch so far. It keeps the allocator and takes no memory.
     pub fn new(alloc: Global) -> Replay
-        ensures { result ≡ [] }
+        ensures { result ≡ nothing }
     {
         Replay {
             server: Server::new(alloc),
         }
     }
 
-    /// The log of the batches so far.
-    pub fn log(&self) -> &Log
-        ensures { result.now ≡ self.now }
+    /// How many entries there are so far.
+    pub fn number(&self) -> u64
+        ensures number { result ≡ self.now.number }
+        ensures sum { IsSum self.now }
     {
-        self.server.log()
+        self.server.number()
     }
 
-    // The number of the next batch, which the log refuses.
-    fn refused(&self) -> ReplayFault
-        ensures { (k : ℕ) × (result ≡ NotLegal k) × (k ≡ length self.now + 1) }
+    /// How many batches there are so far.
+    pub fn batches(&self) -> u64
+        ensures batches { result ≡ self.now.batches }
+        ensures sum { IsSum self.now }
     {
-        // it ensures that the log is legal, and so that its batches are few
-        let _ = self.server.number();
-        let Some(number) = Number::new(self.server.log().batches().len() as u64 + 1) else {
+        self.server.batches()
+    }
+
+    // The number of the next batch, which may not follow.
+    fn refused(&self) -> ReplayFault
+        ensures { (k : ℕ) × (result ≡ NotLegal k) × (k ≡ self.now.batches + 1) }
+    {
+        let Some(number) = Number::new(self.server.batches() + 1) else {
             unreachable!()
         };
         ReplayFault::NotLegal(number)
     }
 
-    /// Adds a batch that may follow the log. NotLegal, with one more than the number of the batches
-    /// so far, where it may not follow. At a refusal nothing is changed, also where memory is
-    /// refused.
+    /// Adds a batch that may follow. NotLegal, with one more than the number of the batches so far,
+    /// where it may not follow. At a refusal nothing is changed, also where memory is refused.
     pub fn add(&mut self, batch: Batch) -> Result<(), ReplayFault>
-        ensures follows { OnOk result (MayFollow self.old batch) }
-        ensures added { OnOk result (self.new ≡ self.old ++ batch ∷ []) }
+        ensures follows { OnOk result (FollowsSum self.old batch) }
+        ensures added { OnOk result (self.new ≡ sum_with self.old batch) }
         ensures refused { IfErr result (IsNotAdded self.old batch) }
         ensures unchanged { OnErr result (self.new ≡ self.old) }
     {
@@ -145,11 +153,11 @@ impl Replay {
         }
     }
 
-    /// The server of the log. The client of each open session counts as heard of at the log's
+    /// The server of the batches. The client of each open session counts as heard of at the
     /// greatest moment. It takes no memory.
     pub fn finish(self) -> Server
-        ensures server { result ≡ made_from self }
-        ensures legal { IsLegal self }
+        ensures server { result ≡ resumed self }
+        ensures sum { IsSum self }
     {
         let mut server = self.server;
         server.hear_anew();
@@ -159,11 +167,11 @@ impl Replay {
 
 impl Server {
     /// The server whose log these batches are. The client of each open session counts as heard of
-    /// at the log's greatest moment. Refused as NotLegal with the number of the first batch, from 1
+    /// at the greatest moment. Refused as NotLegal with the number of the first batch, from 1
     /// on, that may not follow those before it.
     pub fn replay(alloc: Global, batches: &[Batch]) -> Result<Server, ReplayFault>
-        ensures server { IfOk result (λ server. server ≡ made_from batches.now) }
-        ensures legal { IfOk result (λ _. IsLegal batches.now) }
+        ensures server { IfOk result (λ server. server ≡ resumed (sum_from nothing batches.now)) }
+        ensures legal { IfOk result (λ _. FollowAll nothing batches.now) }
         ensures refused { IfErr result (IsNoLog batches.now) }
     {
         let mut replay = Replay::new(alloc);

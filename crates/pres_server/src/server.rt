@@ -1,24 +1,24 @@
 //! The server.
 
-ghost use Rattle.std.specs.Prelude.{◌≡◌, ◌↔◌, ◌++◌, ◌∷◌, [], IsTrue, IfOk, IfErr, IfSome, IfNone, OnOk, OnErr, MatchOption, Some, None, true, false, is_some, option_copied, if◌then◌else◌};
+ghost use Rattle.std.specs.Prelude.{◌≡◌, ◌↔◌, IsTrue, IfOk, IfErr, IfSome, IfNone, OnOk, OnErr, MatchOption, true, false, is_some, option_copied, []};
 ghost use Rattle.pres_tree.specs.Rows.{is_null, value_at};
-ghost use Rattle.pres_log.specs.Logs.{number, entries, tree};
 ghost use Rattle.pres_log.specs.declared.fault.Fault.TheVariants.{Busy as OutOfMemory};
 ghost use Rattle.pres_ids.specs.Ids.{ClientId};
-ghost use Rattle.pres_server.specs.Sessions.{is_open, count, has_open, open_sessions_of};
-ghost use Rattle.pres_server.specs.InternalParts.{session_with};
-ghost use Rattle.pres_server.specs.ServerStates.{heard_last, heard_again, blank, first_client};
-ghost use Rattle.pres_server.specs.Outcomes.{rows_for};
-ghost use Rattle.pres_server.specs.LegalLog.{IsLegal, MayFollow};
-ghost use Rattle.pres_server.specs.Turns.{turn, batch_of, state_after, IsTurn, IsRefusal};
-ghost use Rattle.pres_server.specs.Streams.{answers};
-ghost use Rattle.pres_server.specs.Replays.{made_from};
+ghost use Rattle.pres_retry.specs.Tables.{rows_of};
+ghost use Rattle.pres_server.specs.ServerStates.{heard_last, heard_again, first_client};
+ghost use Rattle.pres_server.specs.Turns.{IsRefusal};
+ghost use Rattle.pres_server.specs.Sums.{is_open_in, accepted_in, has_open_in, open_stamp_in, sum_with};
+ghost use Rattle.pres_server.specs.SumStates.{blank};
+ghost use Rattle.pres_server.specs.SumAnswers.{answers_by};
+ghost use Rattle.pres_server.specs.SumTurns.{FollowsSum, turn_by, batch_by, after_commit, IsTurn};
+ghost use Rattle.pres_server.specs.Histories.{IsSum};
+ghost use Rattle.pres_server.specs.Replays.{resumed};
 
 use crate::index::{Index, LogPosition, take_all};
 use crate::input::Input;
 use crate::reopen::Reopen;
 use crate::turn::{TurnEffect, TurnTime};
-use pres_log::{Batch, Entry, Fault, Log};
+use pres_log::{Batch, Entry, Fault};
 use pres_retry::Row;
 use pres_tree::{Path, Tree};
 use pres_wire::{ClientId, Count, Down, Number, SessionId, Stamp};
@@ -26,12 +26,13 @@ use pres_write::{Items, Moment};
 use std::alloc::{AllocError, Global};
 use std::marker::Model;
 
-/// A server of one thread: many clients share its tree by sessions and numbered writes. All that
-/// it says is what its log says. Contracts see it as that log, and when the client of each open
-/// session was heard of last.
+/// A server of one thread: many clients share its tree by sessions and numbered writes. It holds no
+/// entry of its log. Contracts see it as the log's sum, and when the client of each open session
+/// was heard of last.
 pub struct Server {
     alloc: Global,
-    log: Log,
+    batches: u64,
+    number: u64,
     moment: Moment,
     index: Index,
 }
@@ -41,7 +42,8 @@ impl Drop for Server {
     fn drop(self) {
         let Server {
             alloc: _,
-            log: _,
+            batches: _,
+            number: _,
             moment: _,
             index: _,
         } = self;
@@ -49,16 +51,18 @@ impl Drop for Server {
 }
 
 impl Model for Server {
-    ghost use Rattle.pres_server.specs.ServerStates.{ServerState};
+    ghost use Rattle.pres_server.specs.SumStates.{SumState};
 
-    ghost Value = { ServerState };
+    ghost Value = { SumState };
 
     ghost use Rattle.pres_server.specs.InternalIndex.{heard_in};
-    ghost use Rattle.pres_server.specs.InternalInvariants.{ServerInvariant};
+    ghost use Rattle.pres_server.specs.InternalSums.{sum_in};
+    ghost use Rattle.pres_server.specs.Histories.{IsSum};
 
-    ghost view = { λ s. record { log = s.log; heard = heard_in s.index } };
+    ghost view = { λ s. record
+        { sum = sum_in s.batches s.moment s.number s.index; heard = heard_in s.index } };
 
-    ghost invariant = { λ s. ServerInvariant s.log s.moment s.index };
+    ghost invariant = { λ s. IsSum (sum_in s.batches s.moment s.number s.index) };
 }
 
 /// A turn whose batch waits for its commit. It may not be let go: `done` takes it once the batch is
@@ -70,16 +74,16 @@ pub struct Busy {
 }
 
 impl Model for Busy {
-    ghost use Rattle.pres_server.specs.ServerStates.{PendingTurn};
+    ghost use Rattle.pres_server.specs.SumStates.{PendingTurn};
 
     ghost Value = { PendingTurn };
 
-    ghost use Rattle.pres_server.specs.InternalInvariants.{PendingInvariant};
+    ghost use Rattle.pres_server.specs.SumTurns.{FollowsSum};
 
     ghost view = { λ b. record
         { state = b.server; moment = b.batch.moment; made = b.batch.entries } };
 
-    ghost invariant = { λ b. PendingInvariant b.server.log b.batch };
+    ghost invariant = { λ b. FollowsSum b.server.sum b.batch };
 }
 
 /// What an input did.
@@ -98,42 +102,44 @@ impl Server {
     {
         Server {
             alloc,
-            log: Log::new(alloc),
+            batches: 0,
+            number: 0,
             moment: Moment::at(0),
             index: Index::new(alloc),
         }
     }
 
-    /// How many entries the log has: the number of the last one.
+    /// How many entries there are: the number of the last one.
     pub fn number(&self) -> u64
-        ensures number { result ≡ number self.now.log }
-        ensures legal { IsLegal self.now.log }
+        ensures number { result ≡ self.now.sum.number }
+        ensures sum { IsSum self.now.sum }
     {
-        self.log.len()
+        self.number
+    }
+
+    /// How many batches there are.
+    pub(crate) fn batches(&self) -> u64
+        ensures batches { result ≡ self.now.sum.batches }
+        ensures sum { IsSum self.now.sum }
+    {
+        self.batches
     }
 
     /// The value at the path, where something stands there.
     pub fn value_at(&self, path: &Path) -> Option<&Tree>
         ensures { MatchOption result
-            (value_at path.now (tree (entries self.now.log)) ≡ [])
+            (value_at path.now self.now.sum.tree ≡ [])
             (λ value. (is_null value.now ≡ false)
-            × (value_at path.now (tree (entries self.now.log)) ≡ value.now)) }
+            × (value_at path.now self.now.sum.tree ≡ value.now)) }
     {
         self.index.tree.at(path)
-    }
-
-    /// The log.
-    pub fn log(&self) -> &Log
-        ensures { result.now ≡ self.now.log }
-    {
-        &self.log
     }
 
     /// What became of the client's writes, in their order. Busy, for want of memory, is the one
     /// refusal.
     pub fn history_of(&self, client: &ClientId) -> Result<Vec<Row>, Fault>
         ensures rows { IfOk result
-            (λ rows. rows.items ≡ rows_for client.now (entries self.now.log)) }
+            (λ rows. rows.items ≡ rows_of client.now self.now.sum.rows) }
         ensures busy { IfErr result (λ e. e ≡ OutOfMemory) }
     {
         let Ok(rows) = self.index.retry.rows(self.alloc, client) else {
@@ -144,15 +150,14 @@ impl Server {
 
     /// Whether the session is open.
     pub fn is_open(&self, session: &SessionId) -> bool
-        ensures { result ≡ is_open session.now (entries self.now.log) }
+        ensures { result ≡ is_open_in session.now self.now.sum }
     {
         self.index.is_live(session)
     }
 
     /// How many messages of the session were accepted, none where it isn't open.
     pub fn count(&self, session: &SessionId) -> Option<Count>
-        ensures { let es = entries self.now.log in
-            result ≡ (if is_open session.now es then Some (count session.now es) else None) }
+        ensures { result ≡ accepted_in session.now self.now.sum }
     {
         self.index.count(session)
     }
@@ -160,17 +165,14 @@ impl Server {
     /// When the client was heard of last, none where no session of it is open.
     pub fn heard(&self, client: &ClientId) -> Option<Moment>
         ensures heard { result ≡ heard_last self.now.heard client.now }
-        ensures open { is_some result ≡ has_open client.now (entries self.now.log) }
+        ensures open { is_some result ≡ has_open_in client.now self.now.sum }
     {
         self.index.heard(client)
     }
 
     /// The stamp of the client's open session: a client has one at the most.
     pub fn open_stamp(&self, client: &ClientId) -> Option<Stamp>
-        ensures { MatchOption result
-            (open_sessions_of client.now (entries self.now.log) ≡ [])
-            (λ stamp. open_sessions_of client.now (entries self.now.log)
-            ≡ session_with client.now stamp ∷ []) }
+        ensures { result ≡ open_stamp_in client.now self.now.sum }
     {
         self.index.open_stamp(client)
     }
@@ -178,9 +180,8 @@ impl Server {
     /// The first client, in byte order, that has a session open.
     pub fn first_open(&self) -> Option<&ClientId>
         ensures first { option_copied result ≡ first_client self.now.heard }
-        ensures open { IfSome result (λ c. has_open c.now (entries self.now.log) ≡ true) }
-        ensures none { IfNone result
-            ((c : ClientId) → has_open c (entries self.now.log) ≡ false) }
+        ensures open { IfSome result (λ c. has_open_in c.now self.now.sum ≡ true) }
+        ensures none { IfNone result ((c : ClientId) → has_open_in c self.now.sum ≡ false) }
     {
         self.index.places.first()
     }
@@ -195,10 +196,10 @@ impl Server {
 
     // The turn that makes these entries at the moment.
     fn wait(self, moment: Moment, entries: Items<Entry>) -> Busy
-        requires { MayFollow self.log (batch_of self.log moment entries) }
+        requires { FollowsSum self.sum (batch_by self.sum moment entries) }
         ensures { result ≡ record { state = self; moment = moment; made = entries } }
     {
-        let Some(first) = Number::new(self.log.len() + 1) else {
+        let Some(first) = Number::new(self.number + 1) else {
             unreachable!()
         };
         let batch = Batch::new(first, moment, entries);
@@ -208,19 +209,19 @@ impl Server {
         }
     }
 
-    /// What the input does, at the later of the given moment and the log's greatest one. Nothing is
+    /// What the input does, at the later of the given moment and the greatest one so far. Nothing is
     /// changed before `done` but, by a message that was accepted before, when its client was heard
     /// of last. Refused, in this order, with the server as it was: Old, Session, Order, Spent,
     /// Full, Busy.
     pub fn prepare(mut self, input: Input, now: Moment) -> Result<Turn, (Fault, Server)>
         ensures turn { IfOk result (IsTurn self input now) }
-        ensures refused { IfErr result (λ e. IsRefusal (turn self input now) e.0) }
+        ensures refused { IfErr result (λ e. IsRefusal (turn_by self input now) e.0) }
         ensures unchanged { IfErr result (λ e. e.1 ≡ self) }
     {
         // it ensures that the moment is in range
         let _ = now.millis();
         let moment = self.moment.max(now);
-        let number = self.log.len();
+        let number = self.number;
         let none = Items::of(Vec::new(self.alloc));
         match self
             .index
@@ -236,11 +237,11 @@ impl Server {
         }
     }
 
-    /// Whether the batch may follow the log.
+    /// Whether the batch may follow.
     pub(crate) fn may_follow(&self, batch: &Batch) -> Result<bool, AllocError>
-        ensures { IfOk result (λ may. IsTrue may ↔ MayFollow self.now.log batch.now) }
+        ensures { IfOk result (λ may. IsTrue may ↔ FollowsSum self.now.sum batch.now) }
     {
-        let number = self.log.len();
+        let number = self.number;
         let moment = batch.moment();
         if batch.first().get() != number + 1 || moment.millis() < self.moment.millis() {
             return Ok(false);
@@ -249,17 +250,17 @@ impl Server {
             .may_join(self.alloc, batch.entries(), TurnTime { number, moment })
     }
 
-    /// The server with a batch behind its log, and the answers of the batch in their order.
+    /// The server with a batch more, and the answers of the batch in their order.
     pub(crate) fn join(self, batch: Batch) -> Result<(Server, Items<Down>), Reopen>
-        requires { MayFollow self.log batch }
+        requires { FollowsSum self.sum batch }
         ensures server { IfOk result
-            (λ done. done.0 ≡ state_after self batch.moment batch.entries) }
-        ensures answers { IfOk result
-            (λ done. done.1 ≡ answers (entries self.log) batch.entries) }
+            (λ done. done.0 ≡ after_commit self batch.moment batch.entries) }
+        ensures answers { IfOk result (λ done. done.1 ≡ answers_by self.sum batch.entries) }
     {
         let Server {
             alloc,
-            mut log,
+            batches,
+            number,
             moment: _,
             mut index,
         } = self;
@@ -268,53 +269,46 @@ impl Server {
             number: batch.first(),
             moment,
         };
+        let entries = batch.entries();
         let mut answers = Vec::new(alloc);
-        take_all(&mut index, alloc, batch.entries(), made, &mut answers)?;
+        take_all(&mut index, alloc, entries, made, &mut answers)?;
         // it ensures that the clients are in order
         let _ = index.places.open_count();
-        let Ok(()) = log.push(batch) else {
-            return Err(Reopen);
-        };
         let server = Server {
             alloc,
-            log,
+            batches: batches + 1,
+            number: number + entries.len() as u64,
             moment,
             index,
         };
         Ok((server, Items::of(answers)))
     }
 
-    /// Adds a batch that may follow the log. Where memory is refused the log is as it was.
+    /// Adds a batch that may follow. Where memory is refused the sum is as it was.
     pub(crate) fn grow(&mut self, batch: Batch) -> Result<(), Reopen>
-        requires { MayFollow self.old.log batch }
-        ensures added { OnOk result (self.new.log ≡ self.old.log ++ batch ∷ []) }
-        ensures unchanged { OnErr result (self.new.log ≡ self.old.log) }
+        requires { FollowsSum self.old.sum batch }
+        ensures added { OnOk result (self.new.sum ≡ sum_with self.old.sum batch) }
+        ensures unchanged { OnErr result (self.new.sum ≡ self.old.sum) }
     {
         let moment = batch.moment();
         let made = LogPosition {
             number: batch.first(),
             moment,
         };
-        let Ok(()) = self.log.push(batch) else {
-            return Err(Reopen);
-        };
-        let Some(batch) = self.log.batches().last() else {
-            unreachable!()
-        };
-        let grown = self.index.grow(self.alloc, batch.entries(), made);
+        let entries = batch.entries();
+        let grown = self.index.grow(self.alloc, entries, made);
         // it ensures that the clients are in order
         let _ = self.index.places.open_count();
-        if let Err(refused) = grown {
-            drop(self.log.pop());
-            return Err(refused);
-        }
+        grown?;
+        self.batches += 1;
+        self.number += entries.len() as u64;
         self.moment = moment;
         Ok(())
     }
 
-    /// The client of each open session counts as heard of at the log's greatest moment.
+    /// The client of each open session counts as heard of at the greatest moment.
     pub(crate) fn hear_anew(&mut self)
-        ensures { self.new ≡ made_from self.old.log }
+        ensures { self.new ≡ resumed self.old.sum }
     {
         self.index.places.hear_anew(self.moment);
     }
@@ -323,8 +317,8 @@ impl Server {
 impl Busy {
     /// The batch that is to be committed.
     pub fn batch(&self) -> &Batch
-        ensures made { result.now ≡ batch_of self.now.state.log self.now.moment self.now.made }
-        ensures legal { IsLegal (self.now.state.log ++ result.now ∷ []) }
+        ensures made { result.now ≡ batch_by self.now.state.sum self.now.moment self.now.made }
+        ensures follows { FollowsSum self.now.state.sum result.now }
     {
         &self.batch
     }
@@ -341,9 +335,8 @@ impl Busy {
     /// The server after the commit, and the answers of the batch in their order.
     pub fn done(self) -> Result<(Server, Items<Down>), Reopen>
         ensures server { IfOk result
-            (λ done. done.0 ≡ state_after self.state self.moment self.made) }
-        ensures answers { IfOk result
-            (λ done. done.1 ≡ answers (entries self.state.log) self.made) }
+            (λ done. done.0 ≡ after_commit self.state self.moment self.made) }
+        ensures answers { IfOk result (λ done. done.1 ≡ answers_by self.state.sum self.made) }
     {
         let Busy { server, batch } = self;
         server.join(batch)

@@ -1,30 +1,29 @@
 -- Sessions that end one after the other, when the server starts again.
-use Rattle.std.proofs.Common.{refl, sym, ◌∙◌, ap, subst, ◌≡◌, ◌<◌, ◌≤◌, ◌+◌, ◌-◌, ◌^◌, ℕ, Bool, true, false, cond, if◌then◌else◌, ◌||◌, List, [], ◌∷◌, ◌++◌, length, Some, None, append_assoc, length-append, true≢false, arith}
-use Rattle.std.specs.List.{filter, list_any}
-use Rattle.std.specs.Option.{is_some}
-use Rattle.std.proofs.lemmas.Bool.{le-ltb}
+use Rattle.std.proofs.Common.{refl, sym, ◌∙◌, ap, subst, ◌≡◌, ◌<◌, ◌+◌, ℕ, Bool, true, false, if◌then◌else◌, List, [], ◌∷◌, ◌++◌, length, Option, Some, None, append_assoc, true≢false, arith}
+use Rattle.std.specs.Option.{option_map, is_some}
+use Rattle.std.specs.FinMap.Entries.{find}
+use Rattle.pres_tree.specs.declared.scalar.Scalar.{Scalar}
+use Rattle.pres_tree.specs.Paths.{Path}
+use Rattle.pres_tree.specs.Rows.{Rows}
 use Rattle.pres_ids.specs.declared.id.SessionId.{SessionId}
 use Rattle.pres_ids.specs.declared.id.Why.TheVariants as why
-use Rattle.pres_ids.specs.Ids.{ClientId, same_session}
+use Rattle.pres_ids.specs.Ids.{ClientId, client_cmp}
+use Rattle.pres_log.specs.declared.entry.Batch.{Batch}
 use Rattle.pres_log.specs.declared.entry.Entry.{Entry}
-use Rattle.pres_log.specs.declared.entry.Entry.TheVariants as entry
+use Rattle.pres_log.specs.declared.fault.Fault.{Fault}
 use Rattle.pres_log.specs.declared.fault.Fault.TheVariants as fault
-use Rattle.pres_log.specs.Logs.{Log, entries, number}
-use Rattle.pres_log.proofs.Entries.{entries-push, number-push}
+use Rattle.pres_log.specs.Logs.{Log}
 use Rattle.pres_server.specs.declared.input.Input.TheVariants as input
-use Rattle.pres_server.specs.ServerStates.{ServerState, first_client}
-use Rattle.pres_server.specs.LegalLog.{MayCome, MayFollow, MayComeTogether, IsLegal}
-use Rattle.pres_server.specs.InternalParts.{Sound, live_in, open_step}
-use Rattle.pres_server.specs.Sessions.{is_open, has_open, sessions_of, open_sessions, open_sessions_of}
-use Rattle.pres_server.specs.Turns.{Decision, makes, refused, end_of, ends_first, limited, turn, is_made, moment_of, batch_of}
-use Rattle.pres_server.proofs.AfterEntry.{sound_start, sound_after, open_after, open_counted}
-use Rattle.pres_server.proofs.Parts.{uncounted}
-use Rattle.pres_server.proofs.Since.{session_itself}
-use Rattle.pres_server.proofs.Steps.{in_open}
-use Rattle.pres_server.proofs.Whole.{legal_leaves_room}
-use Rattle.pres_world.specs.ServerSides.{IsEndOf, EndsAll}
-use Rattle.pres_world.proofs.Legal.{last_follows}
-use Rattle.pres_world.proofs.Stands.{entries_rule}
+use Rattle.pres_server.specs.InternalFollows.{MayComeTogetherBy}
+use Rattle.pres_server.specs.InternalParts.{Part, ends_of, limited_by}
+use Rattle.pres_server.specs.LegalLog.{IsLegal}
+use Rattle.pres_server.specs.ServerStates.{ServerState, first_client, heard_after_all}
+use Rattle.pres_server.specs.Turns.{Decision, makes, quiet, refused, moment_of, batch_of, state_after}
+use Rattle.pres_server.specs.Sums.{Sum, OpenSession, live_of, part_in, paths_in, has_open_in, sum_after, sum_after_all, sum_of}
+use Rattle.pres_server.specs.SumStates.{SumState}
+use Rattle.pres_server.specs.SumTurns.{FollowsSum, turn_by, moment_by, batch_by, after_commit}
+use Rattle.pres_world.specs.ServerSides.{by_sum, HasLog, IsEndOf, EndsAll}
+use Rattle.pres_world.proofs.Held.{turn_is, moment_is, Commits, commits}
 
 -- one more at the front
 pub ended_by : (now : ℕ) (c : ClientId) (s u t : ServerState) (old new : Log) (cs : List ClientId) → first_client s.heard ≡ Some c → IsEndOf s c now u old new → EndsAll now cs u t → EndsAll now (c ∷ cs) s t
@@ -36,94 +35,71 @@ log_by now c s u from old new end is =
     let batch = batch_of s.log (moment_of s.log now) end.0 in
     ap (λ x. x.log) end.2 ∙ ap (λ l. l ++ batch ∷ []) is ∙ append_assoc from old (batch ∷ []) ∙ ap (λ l. from ++ l) (sym end.3)
 
-some_entries : (before : List Entry) (moment : ℕ) (es : List Entry) → MayComeTogether before moment es → 0 < length es
-some_entries before moment [] h = absurd h
-some_entries before moment (e ∷ es) h = omega arith
+-- ---- a batch makes the number greater
 
--- a log that grew by a batch is longer, and has a number left
-pub longer : (log : Log) (moment : ℕ) (es : List Entry) → IsLegal (log ++ batch_of log moment es ∷ []) → (number log < number (log ++ batch_of log moment es ∷ [])) × (number (log ++ batch_of log moment es ∷ []) ≤ 2 ^ 52 - 1)
-longer log moment es legal =
-    let batch = batch_of log moment es in
-    let follows : MayFollow log batch = last_follows log batch legal in
-    let some = some_entries (entries log) moment es follows.allowed in
-    let all : number (log ++ batch ∷ []) ≡ length (entries log ++ es) = ap length (entries-push log batch) in
-    let room = follows.room in
-    let more = number-push log batch in
-    (omega (arith, more, some), omega (arith, all, room))
+some_entries : (part : ClientId → Part) (paths : SessionId → List Path) (sessions : ℕ) (tree : Rows Scalar) (m : ℕ) (es : List Entry) → MayComeTogetherBy part paths sessions tree m es → 0 < length es
+some_entries part paths sessions tree m [] h = absurd h
+some_entries part paths sessions tree m (e ∷ es) h = omega arith
 
--- ---- the end of an open session is always made
+counted : (es : List Entry) (sum : Sum) → (sum_after_all es sum).number ≡ sum.number + length es
+counted [] sum = let none : sum.number ≡ sum.number + 0 = omega arith in none
+counted (e ∷ es) sum = let rest = counted es (sum_after e sum) in omega (arith, rest)
 
--- no more sessions are open than there may be
-record Few (es : List Entry) : Type 0 where
-  sound : Sound es
-  few : length (open_sessions es) ≤ 1024
+pub more : (s : SumState) (m : ℕ) (es : List Entry) (batch : Batch) → FollowsSum s.sum batch → batch ≡ batch_by s.sum m es → s.sum.number < (after_commit s m es).sum.number
+more s m es batch f is =
+    let follows : FollowsSum s.sum (batch_by s.sum m es) = subst (FollowsSum s.sum) is f in
+    let some = some_entries (part_in s.sum) (paths_in s.sum) (length s.sum.sessions) s.sum.tree m es follows.allowed in
+    let all = counted es s.sum in
+    omega (arith, some, all)
 
-few_more : (es : List Entry) (m : ℕ) (e : Entry) → Few es → MayCome es m e → Few (es ++ e ∷ [])
-few_more es m e h may = record { sound = sound_after es m e h.sound (uncounted es m e may); few = by e may (open_after es m e h.sound (uncounted es m e may)) } where
-  by : (x : Entry) → MayCome es m x → length (open_sessions (es ++ x ∷ [])) ≡ open_step x (length (open_sessions es)) → length (open_sessions (es ++ x ∷ [])) ≤ 1024
-  by (entry.Open s) g n = g.2
-  by (entry.Op s q i op outcome) g n = let was = h.few in omega (arith, was, n)
-  by (entry.Again s q i) g n = let was = h.few in omega (arith, was, n)
-  by (entry.Left s q puts) g n = let was = h.few in omega (arith, was, n)
-  by (entry.Cancelled s q path) g n = let was = h.few in omega (arith, was, n)
-  by (entry.Denied s q why) g n = let was = h.few in omega (arith, was, n)
-  by (entry.On s q path) g n = let was = h.few in omega (arith, was, n)
-  by (entry.Off s q path) g n = let was = h.few in omega (arith, was, n)
-  by (entry.Ended s q why rows) g n = let was = h.few in omega (arith, was, n)
+-- ---- the end of a session
 
-none_few : Few []
-none_few = record { sound = sound_start; few = let none : length (open_sessions []) ≡ 0 = refl in omega (arith, none) }
+-- of a server that is its log's sum
+ends_here : (s : ServerState) (c : ClientId) (now m : ℕ) (es : List Entry) (batch : Batch) (old new : Log) → IsLegal s.log → turn_by (by_sum s) (input.Restart c) now ≡ makes es → m ≡ moment_by (sum_of s.log) now
+    → FollowsSum (sum_of s.log) batch → batch ≡ batch_by (sum_of s.log) m es → new ≡ old ++ batch ∷ [] → (t : ServerState) × HasLog (after_commit (by_sum s) m es) t × IsEndOf s c now t old new
+ends_here s c now m es batch old new legal made at f is kept = (
+  state_after s m es,
+  (k.legal, ap (λ (x : Sum). record { sum = x; heard = heard_after_all m es s.heard }) k.summed),
+  (
+    es,
+    sym (turn_is s.log (by_sum s) (input.Restart c) now legal refl) ∙ made,
+    ap (λ x. state_after s x es) moment,
+    kept ∙ ap (λ b. old ++ b ∷ []) (is ∙ k.batch ∙ ap (λ x. batch_of s.log x es) moment),
+  ),
+) where
+  k : Commits s.log (by_sum s) m es
+  k = commits s.log (by_sum s) m es legal refl (subst (FollowsSum (sum_of s.log)) is f)
 
-none_passed : (p : SessionId → Bool) (xs : List SessionId) → filter p xs ≡ [] → list_any p xs ≡ false
-none_passed p [] e = refl
-none_passed p (x ∷ xs) e = by (p x) e (none_passed p xs) where
-  by : (b : Bool) → cond b (x ∷ filter p xs) (filter p xs) ≡ [] → (filter p xs ≡ [] → list_any p xs ≡ false) → (b || list_any p xs) ≡ false
-  by true f rest = absurd (cc f)
-  by false f rest = rest f
+  moment : m ≡ moment_of s.log now
+  moment = at ∙ moment_is s.log (sum_of s.log) now legal refl
 
-passes : (a b : Bool) (x y z : Decision) → a ≡ false → b ≡ false → (if a then x else (if b then y else z)) ≡ z
-passes true b x y z h k = absurd (true≢false h)
-passes false true x y z h k = absurd (true≢false k)
-passes false false x y z h k = refl
+-- a turn ended it, and its batch was kept
+pub record IsEnded (server : SumState) (c : ClientId) (now m : ℕ) (es : List Entry) (batch : Batch) : Type 0 where
+  pub made : turn_by server (input.Restart c) now ≡ makes es
+  pub moment : m ≡ moment_by server.sum now
+  pub follows : FollowsSum server.sum batch
+  pub batch_is : batch ≡ batch_by server.sum m es
 
--- a session of the client is open, so a restart ends it: there is a number left for that
-pub restart_makes : (s : ServerState) (c : ClientId) (now : ℕ) → IsLegal s.log → has_open c (entries s.log) ≡ true → (es : List Entry) × (turn s (input.Restart c) now ≡ makes es)
-restart_makes s c now legal has = by (open_sessions_of c es) refl where
-  es : List Entry
-  es = entries s.log
+pub one_ended : (server after : SumState) (c : ClientId) (now m : ℕ) (es : List Entry) (batch : Batch) (old new : Log) → IsEnded server c now m es batch → new ≡ old ++ batch ∷ [] → after ≡ after_commit server m es
+    → (s : ServerState) → HasLog server s → (t : ServerState) × HasLog after t × IsEndOf s c now t old new
+one_ended server after c now m es batch old new e kept done s h =
+    let here : IsEnded (by_sum s) c now m es batch = subst (λ x. IsEnded x c now m es batch) h.1 e in
+    let end = ends_here s c now m es batch old new h.0 here.made here.moment here.follows here.batch_is kept in
+    (end.0, subst (λ x. HasLog x end.0) (sym (done ∙ ap (λ x. after_commit x m es) h.1)) end.1, end.2)
 
-  m : ℕ
-  m = moment_of s.log now
+-- ---- the end of an open session is always made, or refused
 
-  few : Few es
-  few = entries_rule Few none_few few_more s.log legal
+abbrev is_quiet : Decision → Bool
+is_quiet quiet = true
+is_quiet _ = false
 
-  by : (xs : List SessionId) → open_sessions_of c es ≡ xs → (made : List Entry) × (turn s (input.Restart c) now ≡ makes made)
-  by [] is = absurd (true≢false (sym has ∙ none_passed (λ x. is_open x es) (sessions_of c es) is))
-  by (x ∷ more) is = (e ∷ [], ap (λ l. limited es (ends_first es m why.Restart l)) is ∙ allowed) where
-    e : Entry
-    e = end_of es m None why.Restart x
+not_quiet : (a b : Bool) (f g : Fault) (es : List Entry) → (if a then refused f else (if b then refused g else makes es)) ≡ quiet → ⊥
+not_quiet true b f g es e = true≢false (sym (ap is_quiet e))
+not_quiet false true f g es e = true≢false (sym (ap is_quiet e))
+not_quiet false false f g es e = true≢false (sym (ap is_quiet e))
 
-    is_there : is_open x es ≡ true
-    is_there = (in_open x c es (ap (list_any (same_session x)) is ∙ ap (λ b. b || list_any (same_session x) more) (session_itself x))).1
-
-    after : length (open_sessions (es ++ e ∷ [])) ≡ length (open_sessions es) - 1
-    after = open_after es m e few.sound (is_there, refl, refl)
-
-    some : 1 ≤ length (open_sessions es)
-    some = open_counted c es (ap (λ l. is_some (live_in l es)) is)
-
-    allowed : limited es (makes (e ∷ [])) ≡ makes (e ∷ [])
-    allowed =
-        let all = length-append es (e ∷ []) in
-        let room = legal_leaves_room s.log legal in
-        let most = few.few in
-        passes _ _ (refused fault.Spent) (refused fault.Full) (makes (e ∷ []))
-        (le-ltb (2 ^ 52 - 1) (length (es ++ e ∷ []) + length (open_sessions (es ++ e ∷ []))) (omega (arith, all, after, some, room)))
-        (le-ltb 1024 (length (open_sessions (es ++ e ∷ []))) (omega (arith, after, most)))
-
--- so a turn that refuses it or makes nothing is none
-pub none_unmade : (s : ServerState) (c : ClientId) (now : ℕ) (d : Decision) → IsLegal s.log → has_open c (entries s.log) ≡ true → turn s (input.Restart c) now ≡ d → is_made d ≡ false → ⊥
-none_unmade s c now d legal has is none =
-    let made = restart_makes s c now legal has in
-    true≢false (sym (ap is_made made.1) ∙ ap is_made is ∙ none)
+pub never_quiet : (s : SumState) (c : ClientId) (now : ℕ) → has_open_in c s.sum ≡ true → turn_by s (input.Restart c) now ≡ quiet → ⊥
+never_quiet s c now has is = by (find client_cmp c s.sum.sessions) has is where
+  by : (o : Option OpenSession) → is_some o ≡ true → limited_by s.sum.number (length s.sum.sessions) (ends_of (option_map live_of o) s.sum.tree (moment_by s.sum now) why.Restart c) ≡ quiet → ⊥
+  by None h e = absurd (true≢false (sym h))
+  by (Some x) h e = not_quiet _ _ fault.Spent fault.Full _ e

@@ -5,6 +5,7 @@ pub mod Ended
 pub mod Faith
 pub mod Follow
 pub mod Found
+pub mod Held
 pub mod Hears
 pub mod Known
 pub mod Legal

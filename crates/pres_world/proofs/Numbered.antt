@@ -1,7 +1,7 @@
 -- What each client of a world sent, and shows, in a world as a whole, and that the world goes on so.
 use Rattle.std.proofs.Common.{if◌then◌else◌, ◌&&◌, not, refl, sym, ◌∙◌, ap, subst, ◌≡◌, ◌+◌, ◌≤◌, ℕ, Bool, true, false, cond, List, [], ◌∷◌, ◌++◌, slice_get, ◌⊎◌, inl, inr, Option, Some, None, true≢false, arith, unwrap_or, is_eq, Ordering, Less, Equal, Greater, length, take}
 use Rattle.std.specs.Prelude.{fold}
-use Rattle.std.specs.List.{All, AllByRecursion, Contains}
+use Rattle.std.specs.List.{AllByRecursion, Contains}
 use Rattle.std.specs.Ordering.{eq_by_cmp}
 use Rattle.std.specs.Cmp.{tied_itself}
 use Rattle.std.specs.FinMap.Entries.{find, put, find-put}

@@ -1,5 +1,5 @@
 -- The entries of a client stand in the order of its sessions.
-use Rattle.std.proofs.Common.{refl, sym, ◌∙◌, ap, ◌≡◌, ◌<◌, ◌≤◌, ℕ, length, not, unwrap_or, List, [], ◌∷◌, ◌++◌, Bool, true, false, ◌||◌, ◌&&◌, ◌⊎◌, inl, inr, Option, Some, true≢false, arith, IsTrue, slice_get, take}
+use Rattle.std.proofs.Common.{refl, sym, ◌∙◌, ap, ◌≡◌, ◌<◌, ◌≤◌, ℕ, length, not, unwrap_or, List, [], ◌∷◌, ◌++◌, Bool, true, false, ◌||◌, ◌&&◌, ◌⊎◌, inl, inr, Some, true≢false, arith, IsTrue, slice_get, take}
 use Rattle.std.specs.List.{list_any}
 use Rattle.std.proofs.lemmas.Bool.{and_parts, false_from_ne_true, cases_order}
 use Rattle.pres_ids.specs.declared.id.SessionId.{SessionId}

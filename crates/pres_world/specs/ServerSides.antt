@@ -11,12 +11,14 @@ use Rattle.pres_log.specs.Faults.{code_of}
 use Rattle.pres_log.specs.Logs.{Log, entries}
 use Rattle.pres_server.specs.declared.input.Input.{Input}
 use Rattle.pres_server.specs.declared.input.Input.TheVariants as input
-use Rattle.pres_server.specs.ServerStates.{ServerState, PendingTurn, heard_from, first_client}
+use Rattle.pres_server.specs.ServerStates.{ServerState, heard_from, first_client}
 use Rattle.pres_server.specs.Sessions.{has_open, open_sessions_of}
 use Rattle.pres_server.specs.Streams.{answers}
 use Rattle.pres_server.specs.Turns.{Decision, refused, quiet, makes, turn, moment_of, state_after, state_heard, batch_of}
 use Rattle.pres_server.specs.Replays.{made_from}
 use Rattle.pres_server.specs.LegalLog.{IsLegal}
+use Rattle.pres_server.specs.Sums.{sum_of}
+use Rattle.pres_server.specs.SumStates.{SumState, PendingTurn}
 use Rattle.pres_world.specs.declared.event.Ending.{Ending}
 use Rattle.pres_world.specs.declared.event.Ending.TheVariants as ending
 
@@ -30,6 +32,27 @@ pub record ServerSideState : Type 0 where
 pub record ServerSideInvariant (w : ServerSideState) : Type 0 where
   pub legal : IsLegal w.history
   pub its_log : MatchOption w.server ⊤ (λ s. s.log ≡ w.history)
+
+-- ---- a server holds its log's sum
+
+-- a server as that of a log
+abbrev pub of_log : Log → SumState → ServerState
+of_log log server = record { log = log; heard = server.heard }
+
+-- the server of a log, as it is by its log's sum
+abbrev pub by_sum : ServerState → SumState
+by_sum s = record { sum = sum_of s.log; heard = s.heard }
+
+-- the server is that of a legal log
+abbrev pub HasLog : SumState → ServerState → Type 0
+HasLog server s = IsLegal s.log × (server ≡ by_sum s)
+
+-- the history is a legal log, and the server holds its sum
+pub record HoldsSum (history : Log) (server : Option SumState) : Type 0 where
+  pub legal : IsLegal history
+  pub summed : MatchOption server ⊤ (λ s. s.sum ≡ sum_of history)
+
+-- ---- what an event does
 
 -- a refusal, where there is a session that it goes to
 abbrev pub fault_for : Option SessionId → Code → List Down
@@ -76,8 +99,8 @@ abbrev pub served : ServerSideState → Input → ℕ → Ending → ServerSideS
 served w i now e = served_by w.server w i now e
 
 -- the log with the batch of a turn that waits
-abbrev pub log_with : PendingTurn → Log
-log_with busy = busy.state.log ++ batch_of busy.state.log busy.moment busy.made ∷ []
+abbrev pub log_with : Log → PendingTurn → Log
+log_with log busy = log ++ batch_of log busy.moment busy.made ∷ []
 
 -- the sessions that a client has open, while the server runs
 abbrev pub open_on : Option ServerState → ClientId → List SessionId

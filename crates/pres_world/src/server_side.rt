@@ -1,18 +1,18 @@
 //! The server's part of a world.
 
-ghost use Rattle.std.specs.Prelude.{◌≡◌, ◌⊎◌, ◌+◌, ◌++◌, ◌∷◌, [], ℕ, true, false, List, Some, None, IfOk, IfErr, OnOk, IfSome, IfNone, MatchOption, option_copied};
+ghost use Rattle.std.specs.Prelude.{◌≡◌, ◌<◌, ◌⊎◌, ◌+◌, ◌++◌, ◌∷◌, [], ℕ, true, false, List, Some, None, IfOk, IfErr, OnOk, IfSome, IfNone, MatchOption, option_copied, option_map};
 ghost use Rattle.pres_ids.specs.Ids.{ClientId};
-ghost use Rattle.pres_log.specs.Logs.{entries};
 ghost use Rattle.pres_server.specs.ServerStates.{ServerState, heard_from, first_client, blank};
 ghost use Rattle.pres_server.specs.LegalLog.{IsLegal};
 ghost use Rattle.pres_server.specs.InternalParts.{session_with};
-ghost use Rattle.pres_server.specs.Replays.{made_from};
-ghost use Rattle.pres_server.specs.Sessions.{has_open};
-ghost use Rattle.pres_server.specs.Streams.{answers};
-ghost use Rattle.pres_server.specs.Turns.{turn, makes, quiet, state_after, state_heard};
+ghost use Rattle.pres_server.specs.Replays.{resumed};
+ghost use Rattle.pres_server.specs.Sums.{has_open_in, sum_of};
+ghost use Rattle.pres_server.specs.SumAnswers.{answers_by};
+ghost use Rattle.pres_server.specs.SumTurns.{after_commit};
+ghost use Rattle.pres_server.specs.Turns.{makes, quiet, state_heard};
 ghost use Rattle.pres_server.specs.declared.input.Input.{Input};
 ghost use Rattle.pres_server.specs.declared.input.Input.TheVariants as input;
-ghost use Rattle.pres_world.specs.ServerSides.{ServerSideInvariant, fault_for, turned, served, lost, log_with, open_on, EndsAll, IsEndOf, IsRestarted};
+ghost use Rattle.pres_world.specs.ServerSides.{ServerSideInvariant, HasLog, of_log, by_sum, fault_for, turned, served, lost, log_with, open_on, EndsAll, IsEndOf, IsRestarted};
 ghost use Rattle.pres_world.specs.declared.fault.WorldFault.TheVariants.{Memory};
 
 use crate::event::Ending;
@@ -24,7 +24,8 @@ use pres_server::{
 use std::alloc::{AllocError, Global};
 use std::marker::Model;
 
-/// The server while it runs, the batches that were committed, and what went out.
+/// The server while it runs, the batches that were committed, and what went out. The server holds
+/// no batch: contracts see it as that of the batches here, of which it holds the sum.
 #[derive(Drop)]
 pub(crate) struct ServerSide {
     alloc: Global,
@@ -34,13 +35,18 @@ pub(crate) struct ServerSide {
 }
 
 impl Model for ServerSide {
-    ghost use Rattle.pres_world.specs.ServerSides.{ServerSideState, ServerSideInvariant};
+    ghost use Rattle.std.specs.Prelude.{option_map};
+    ghost use Rattle.pres_world.specs.ServerSides.{ServerSideState, HoldsSum, of_log};
 
     ghost Value = { ServerSideState };
 
-    ghost view = { λ s. record { server = s.server; history = s.history.items; downs = s.downs.items } };
+    ghost view = { λ s. record {
+      server = option_map (of_log s.history.items) s.server;
+      history = s.history.items;
+      downs = s.downs.items;
+    } };
 
-    ghost invariant = { λ s. ServerSideInvariant (record { server = s.server; history = s.history.items; downs = s.downs.items }) };
+    ghost invariant = { λ s. HoldsSum s.history.items s.server };
 }
 
 // The session whose message the input is.
@@ -57,9 +63,9 @@ fn sender(alloc: Global, input: &Input) -> Result<Option<SessionId>, AllocError>
 fn first_open(alloc: Global, server: &Server) -> Result<Option<ClientId>, AllocError>
     ensures first { IfOk result (λ found. found ≡ first_client server.now.heard) }
     ensures open { IfOk result
-        (λ found. IfSome found (λ c. has_open c (entries server.now.log) ≡ true)) }
+        (λ found. IfSome found (λ c. has_open_in c server.now.sum ≡ true)) }
     ensures none { IfOk result
-        (λ found. IfNone found ((c : ClientId) → has_open c (entries server.now.log) ≡ false)) }
+        (λ found. IfNone found ((c : ClientId) → has_open_in c server.now.sum ≡ false)) }
 {
     match server.first_open() {
         Some(client) => Ok(Some(client.copy(alloc)?)),
@@ -75,13 +81,13 @@ fn end_one(
     now: Moment,
     ended: &mut Vec<Batch>,
 ) -> Result<Server, WorldFault>
-    requires { has_open client (entries server.log) ≡ true }
-    ensures ended { IfOk result (λ after.
-        IsEndOf server client now after ended.old.items ended.new.items) }
+    requires { has_open_in client server.sum ≡ true }
+    ensures ended { IfOk result (λ after. (s : ServerState) → HasLog server s
+        → (t : ServerState) × HasLog after t
+        × IsEndOf s client now t ended.old.items ended.new.items) }
+    ensures more { IfOk result (λ after. server.sum.number < after.sum.number) }
     ensures refused { IfErr result (λ e. e ≡ Memory) }
 {
-    // it ensures that the log is legal
-    let _ = server.number();
     let busy = match server.prepare(Input::Restart(client), now) {
         Ok(Turn::Busy(busy)) => busy,
         Ok(Turn::Quiet(..)) => unreachable!(),
@@ -117,9 +123,9 @@ fn keep(alloc: Global, batch: &Batch, batches: &mut Vec<Batch>) -> bool
 
 // Ends each session that is open, with the batches of these ends.
 fn end_all(alloc: Global, server: Server, now: Moment) -> Result<(Server, Vec<Batch>), WorldFault>
-    ensures ended { IfOk result (λ r. (cs : List ClientId) × EndsAll now cs server r.0) }
-    ensures log { IfOk result (λ r. r.0.log ≡ server.log ++ r.1.items) }
-    ensures legal { IfOk result (λ r. IsLegal r.0.log) }
+    ensures ended { IfOk result (λ r. (s : ServerState) → HasLog server s
+        → (cs : List ClientId) × (t : ServerState) × HasLog r.0 t
+        × EndsAll now cs s t × (t.log ≡ s.log ++ r.1.items)) }
     ensures refused { IfErr result (λ e. e ≡ Memory) }
 {
     let mut server = server;
@@ -127,10 +133,9 @@ fn end_all(alloc: Global, server: Server, now: Moment) -> Result<(Server, Vec<Ba
     while let Some(client) = first_open(alloc, &server)? {
         let next = end_one(alloc, server, client, now, &mut ended)?;
         server = next;
-        // it ensures that the log is legal
+        // it ensures that so many entries are within the limit
         let _ = server.number();
     }
-    let _ = server.number();
     Ok((server, ended))
 }
 
@@ -149,7 +154,7 @@ impl ServerSide {
 
     /// The server, while it runs.
     pub(crate) fn server(&self) -> Option<&Server>
-        ensures server { option_copied result ≡ self.now.server }
+        ensures server { option_copied result ≡ option_map by_sum self.now.server }
         ensures serves { ServerSideInvariant self.now }
     {
         self.server.as_ref()
@@ -173,8 +178,9 @@ impl ServerSide {
     // The server runs on behind a turn that makes nothing, unless it stops.
     fn run_on(&mut self, server: Server, ending: Ending)
         requires waits { self.old.server ≡ None }
-        requires log { server.log ≡ self.old.history }
-        ensures { (s : ServerState) (moment : ℕ) (i : Input) → server ≡ state_heard s moment i
+        requires sum { server.sum ≡ sum_of self.old.history }
+        ensures { (s : ServerState) (moment : ℕ) (i : Input)
+            → of_log self.old.history server ≡ state_heard s moment i
             → self.new ≡ turned ending self.old.downs quiet s moment i }
     {
         match ending {
@@ -190,14 +196,14 @@ impl ServerSide {
         session: Option<SessionId>,
         code: Code,
     ) -> Result<(), WorldFault>
-        requires log { server.log ≡ self.old.history }
+        requires sum { server.sum ≡ sum_of self.old.history }
         ensures ok { OnOk result (self.new ≡ record {
-          server = Some server;
+          server = Some (of_log self.old.history server);
           history = self.old.history;
           downs = self.old.downs ++ fault_for session code;
         }) }
         ensures err { IfErr result (λ e. (e ≡ Memory)
-            × (self.new ≡ record self.old { server = Some server })) }
+            × (self.new ≡ record self.old { server = Some (of_log self.old.history server) })) }
     {
         drop(self.server.replace(server));
         if session.is_some() {
@@ -208,11 +214,13 @@ impl ServerSide {
 
     // A turn whose batch was committed: its answers go out.
     fn finish(&mut self, busy: Busy) -> Result<(), WorldFault>
-        requires log { self.old.history ≡ log_with busy }
+        requires sum { (after_commit busy.state busy.moment busy.made).sum
+            ≡ sum_of self.old.history }
         ensures ok { OnOk result (self.new ≡ record {
-          server = Some (state_after busy.state busy.moment busy.made);
+          server = Some (of_log self.old.history
+              (after_commit busy.state busy.moment busy.made));
           history = self.old.history;
-          downs = self.old.downs ++ answers (entries busy.state.log) busy.made;
+          downs = self.old.downs ++ answers_by busy.state.sum busy.made;
         }) }
         ensures err { IfErr result (λ e. (e ≡ Memory) × (self.new ≡ self.old)) }
     {
@@ -237,12 +245,14 @@ impl ServerSide {
         ending: Ending,
     ) -> Result<(), WorldFault>
         requires waits { self.old.server ≡ None }
-        requires log { busy.state.log ≡ self.old.history }
+        requires sum { busy.state.sum ≡ sum_of self.old.history }
         ensures ok { OnOk result ((i : Input) → session ≡ heard_from i → self.new
-            ≡ turned ending self.old.downs (makes busy.made) busy.state busy.moment i) }
+            ≡ turned ending self.old.downs (makes busy.made)
+            (of_log self.old.history busy.state) busy.moment i) }
         ensures err { IfErr result (λ e. (e ≡ Memory)
-            × ((self.new ≡ record self.old { server = Some busy.state })
-            ⊎ (self.new ≡ record self.old { history = log_with busy }))) }
+            × ((self.new ≡ record self.old
+            { server = Some (of_log self.old.history busy.state) })
+            ⊎ (self.new ≡ record self.old { history = log_with self.old.history busy }))) }
     {
         if ending == Ending::Refused {
             return self.refuse(busy.abandon(), session, Code::Busy);
@@ -329,7 +339,7 @@ impl ServerSide {
 
     // The server that the committed batches make.
     fn replayed(&self) -> Result<Server, WorldFault>
-        ensures made { IfOk result (λ server. server ≡ made_from self.now.history) }
+        ensures made { IfOk result (λ server. server ≡ resumed (sum_of self.now.history)) }
         ensures refused { IfErr result (λ e. e ≡ Memory) }
     {
         match Server::replay(self.alloc, self.history.as_slice()) {

@@ -1,6 +1,6 @@
 //! A world.
 
-ghost use Rattle.std.specs.Prelude.{◌≡◌, List, [], None, IfOk, IfErr, OnOk, OnErr, option_copied};
+ghost use Rattle.std.specs.Prelude.{◌≡◌, List, [], None, IfOk, IfErr, OnOk, OnErr, option_copied, option_map};
 ghost use Rattle.std.specs.FinMap.Entries.{find, put};
 ghost use Rattle.pres_ids.specs.Ids.{ClientId, client_cmp};
 ghost use Rattle.pres_client.specs.Clients.{ClientState};
@@ -9,7 +9,7 @@ ghost use Rattle.pres_server.specs.LegalLog.{IsLegal};
 ghost use Rattle.pres_world.specs.Distinct.{AreDistinct};
 ghost use Rattle.pres_world.specs.Orderly.{CancelsStand, EndsStand, SessionsStand, WritesStand};
 ghost use Rattle.pres_world.specs.Safe.{IsSafe, Occurrence, Reaches};
-ghost use Rattle.pres_world.specs.ServerSides.{ServerSideInvariant};
+ghost use Rattle.pres_world.specs.ServerSides.{ServerSideInvariant, by_sum};
 ghost use Rattle.pres_world.specs.Worlds.{IsCall, IsClient, IsArrival, IsDelivery, IsLoss, IsStart, IsRestart, IsStep, IsStop, IsRefused, IsCutShort, Lacks, RunsTo, new_world};
 ghost use Rattle.pres_world.specs.declared.event.Ending.TheVariants as ending;
 ghost use Rattle.pres_world.specs.declared.event.Event.TheVariants as event;
@@ -83,7 +83,7 @@ impl World {
 
     /// The server, while it runs.
     pub fn server(&self) -> Option<&Server>
-        ensures server { option_copied result ≡ self.now.serving.server }
+        ensures server { option_copied result ≡ option_map by_sum self.now.serving.server }
         ensures serves { ServerSideInvariant self.now.serving }
     {
         self.serving.server()

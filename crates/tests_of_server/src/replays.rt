@@ -10,9 +10,14 @@ fn said(rt: &impl Abort, alloc: Global, word: &str) -> String {
     String::from_str(alloc, word).expect(rt, "memory")
 }
 
-// The server that is made anew from all batches of this one.
-pub(crate) fn replayed(rt: &impl Abort, alloc: Global, server: Server) -> (Server, String) {
-    let made = Server::replay(alloc, server.log().batches());
+// The server that is made anew from all batches of this one's log.
+pub(crate) fn replayed(
+    rt: &impl Abort,
+    alloc: Global,
+    server: Server,
+    log: &[Batch],
+) -> (Server, String) {
+    let made = Server::replay(alloc, log);
     drop(server);
     (
         made.expect(rt, "the same batches"),
@@ -83,15 +88,16 @@ fn all_added(
     words
 }
 
-// The server, and what becomes of its batches, added by their numbers in this order.
+// The server, and what becomes of the batches of its log, added by their numbers in this order.
 pub(crate) fn ordered(
     rt: &impl Abort,
     alloc: Global,
     server: Server,
+    log: &[Batch],
     order: &str,
 ) -> (Server, String) {
     let mut replay = Replay::new(alloc);
-    let words = all_added(rt, alloc, &mut replay, server.log().batches(), order);
+    let words = all_added(rt, alloc, &mut replay, log, order);
     let number = replay.finish().number();
     let said = format!(in alloc; "{words}{number} entries").expect(rt, "memory");
     (server, said)

@@ -10,8 +10,8 @@ use crate::replays::{ordered, replayed};
 use crate::said::expect_said;
 use pres_batch_json::print_entries;
 use pres_server::{
-    Batch, Busy, ClientId, Count, Down, Fault, Input, Log, Moment, Path, Row, Server, SessionId,
-    Turn, Up,
+    Batch, Busy, ClientId, Count, Down, Fault, Input, Moment, Path, Row, Server, SessionId, Turn,
+    Up,
 };
 use pres_tree::TreeJson;
 use std::alloc::Global;
@@ -78,8 +78,10 @@ fn fault_text(rt: &impl Abort, alloc: Global, fault: Fault) -> String {
     text.expect(rt, "memory")
 }
 
-// The server after the commit, and what it answers.
-fn done(rt: &impl Abort, alloc: Global, busy: Busy) -> (Server, String) {
+// The server after the commit, whose batch goes behind those before, and what it answers.
+fn done(rt: &impl Abort, alloc: Global, busy: Busy, log: &mut Vec<Batch>) -> (Server, String) {
+    let batch = busy.batch().copy(alloc).expect(rt, "memory");
+    log.push(batch).expect(rt, "memory");
     let (server, answers) = busy.done().expect(rt, "memory");
     let said = texts(rt, alloc, answers.as_slice());
     (server, said)
@@ -94,10 +96,16 @@ fn quiet(rt: &impl Abort, alloc: Global, answers: &[Down]) -> String {
 }
 
 // The server after the input, and what it answers.
-fn turn(rt: &impl Abort, alloc: Global, server: Server, case: &str) -> (Server, String) {
+fn turn(
+    rt: &impl Abort,
+    alloc: Global,
+    server: Server,
+    log: &mut Vec<Batch>,
+    case: &str,
+) -> (Server, String) {
     let (input, now) = given(rt, alloc, case);
     match server.prepare(input, now) {
-        Ok(Turn::Busy(busy)) => done(rt, alloc, busy),
+        Ok(Turn::Busy(busy)) => done(rt, alloc, busy, log),
         Ok(Turn::Quiet(server, answers)) => (server, quiet(rt, alloc, answers.as_slice())),
         Err((fault, server)) => (server, fault_text(rt, alloc, fault)),
     }
@@ -121,9 +129,9 @@ fn batch_text(rt: &impl Abort, alloc: Global, batch: &Batch) -> String {
 }
 
 // The batches, each on a line.
-fn log_text(rt: &impl Abort, alloc: Global, log: &Log) -> String {
+fn log_text(rt: &impl Abort, alloc: Global, log: &[Batch]) -> String {
     let mut text = String::new(alloc);
-    for batch in log.batches() {
+    for batch in log {
         if !text.is_empty() {
             text.push('\n').expect(rt, "memory");
         }
@@ -134,9 +142,9 @@ fn log_text(rt: &impl Abort, alloc: Global, log: &Log) -> String {
 }
 
 // The moments of the log's batches.
-fn moments(rt: &impl Abort, alloc: Global, log: &Log) -> String {
+fn moments(rt: &impl Abort, alloc: Global, log: &[Batch]) -> String {
     let mut moments = Vec::new(alloc);
-    for batch in log.batches() {
+    for batch in log {
         moments.push(batch.moment().millis()).expect(rt, "memory");
     }
     format!(in alloc; "{moments:?}").expect(rt, "memory")
@@ -191,61 +199,93 @@ fn seen(rt: &impl Abort, alloc: Global, server: &Server) -> String {
     text.expect(rt, "memory")
 }
 
-// The answer to a question about the server.
-fn answer(rt: &impl Abort, alloc: Global, server: &Server, question: &str) -> String {
+// The answer to a question about the server, whose log these batches are.
+fn answer(
+    rt: &impl Abort,
+    alloc: Global,
+    server: &Server,
+    log: &[Batch],
+    question: &str,
+) -> String {
     match question.split_once(' ') {
         Some(("value", path)) => value(rt, alloc, server, path),
         Some(("history", client)) => history(rt, alloc, server, client),
         _ => match question {
-            "log" => log_text(rt, alloc, server.log()),
-            "moments" => moments(rt, alloc, server.log()),
+            "log" => log_text(rt, alloc, log),
+            "moments" => moments(rt, alloc, log),
             _ => seen(rt, alloc, server),
         },
     }
 }
 
 // The server after a question, and the answer.
-fn asked(rt: &impl Abort, alloc: Global, server: Server, question: &str) -> (Server, String) {
-    let text = answer(rt, alloc, &server, question);
+fn asked(
+    rt: &impl Abort,
+    alloc: Global,
+    server: Server,
+    log: &[Batch],
+    question: &str,
+) -> (Server, String) {
+    let text = answer(rt, alloc, &server, log, question);
     (server, text)
 }
 
 // The server after a turn, and what is seen of it.
-fn watched(rt: &impl Abort, alloc: Global, server: Server, case: &str) -> (Server, String) {
-    let (server, _) = turn(rt, alloc, server, case);
-    asked(rt, alloc, server, "seen")
+fn watched(
+    rt: &impl Abort,
+    alloc: Global,
+    server: Server,
+    log: &mut Vec<Batch>,
+    case: &str,
+) -> (Server, String) {
+    let (server, _) = turn(rt, alloc, server, log, case);
+    asked(rt, alloc, server, log.as_slice(), "seen")
 }
 
 // The server after a turn whose commit was refused, and what is seen of it.
-fn abandoned(rt: &impl Abort, alloc: Global, server: Server, case: &str) -> (Server, String) {
+fn abandoned(
+    rt: &impl Abort,
+    alloc: Global,
+    server: Server,
+    log: &[Batch],
+    case: &str,
+) -> (Server, String) {
     let server = given_back(rt, alloc, server, case);
-    asked(rt, alloc, server, "seen")
+    asked(rt, alloc, server, log, "seen")
 }
 
-// The server after a step, and what it says.
-fn step(rt: &impl Abort, alloc: Global, server: Server, case: &str) -> (Server, String) {
+// The server after a step, and what it says. The log is that of the server, which holds none.
+fn step(
+    rt: &impl Abort,
+    alloc: Global,
+    server: Server,
+    log: &mut Vec<Batch>,
+    case: &str,
+) -> (Server, String) {
     if case.starts_with(|c: char| c.is_ascii_digit()) {
-        return turn(rt, alloc, server, case);
+        return turn(rt, alloc, server, log, case);
     }
     match case.split_once(' ') {
-        Some(("see", case)) => watched(rt, alloc, server, case),
-        Some(("abandon", case)) => abandoned(rt, alloc, server, case),
-        Some(("replay", order)) => ordered(rt, alloc, server, order),
-        None if case == "replay" => replayed(rt, alloc, server),
-        _ => asked(rt, alloc, server, case),
+        Some(("see", case)) => watched(rt, alloc, server, log, case),
+        Some(("abandon", case)) => abandoned(rt, alloc, server, log.as_slice(), case),
+        Some(("replay", order)) => ordered(rt, alloc, server, log.as_slice(), order),
+        None if case == "replay" => replayed(rt, alloc, server, log.as_slice()),
+        _ => asked(rt, alloc, server, log.as_slice(), case),
     }
 }
 
 /// Each step of the run has to say what it must.
 pub(crate) fn check(rt: &impl Abort, alloc: Global, run: &str) {
     let mut server = Server::new(alloc);
+    let mut log = Vec::new(alloc);
     for text in run.split("\n\n") {
         let (case, wanted) = text.split_once("\n=> ").expect(rt, "an answer");
-        let (after, said) = step(rt, alloc, server, case);
+        let (after, said) = step(rt, alloc, server, &mut log, case);
         server = after;
         expect_said(rt, case, said, wanted);
     }
     drop(server);
+    drop(log);
 }
 
 const SUPERSEDED: &str = r#"1000 {"m":"hello","s":["alice",1,1]}

@@ -1,4 +1,4 @@
-use Rattle.std.proofs.Common.{◌≡◌, ◌⊎◌, ◌+◌, inl, inr, ℕ, [], Some, refl, sym, subst, ◌∙◌, IsTrue, rules, arith}
+use Rattle.std.proofs.Common.{◌≡◌, ◌⊎◌, ◌+◌, inl, inr, ℕ, [], ◌∷◌, ◌++◌, Some, refl, sym, subst, ◌∙◌, IsTrue, rules, arith}
 use Rattle.std.proofs.lemmas.Result.{err_from_is_err_and}
 use Rattle.sqlite.specs.State.{HasCleanDisk, IsUnchanged, IsRolledBack, Survives, CommitsShowing}
 use Rattle.sqlite.specs.Held.{state}
@@ -10,7 +10,7 @@ use Rattle.pres_batch_rows.proofs.Refusals.{named}
 use Rattle.pres_batch_rows.proofs.Statements.{select_text}
 use Rattle.pres_batch_rows.proofs.Inserting.{left_by}
 use Rattle.pres_batch_rows.proofs.Plain.{rows_are_read, query_fails, commits_none}
-use Rattle.pres_batch_rows.proofs.Progress.{open_if_begun, progress_begins, nothing_more, first_clean, at_end, at_stop, at_bad_row, at_refusal, at_next, left_at, still}
+use Rattle.pres_batch_rows.proofs.Progress.{open_if_begun, progress_begins, nothing_more, first_clean, taken_push, at_end, at_end_read, at_stop, at_bad_row, at_refusal, at_next, left_at, still}
 use Rattle.pres_batch_rows.proofs.take.go_over.Goals as goal
 use Rattle.std.proofs.lemmas.Grind.{common_steps}
 
@@ -43,7 +43,11 @@ rows-init g c =
     λ clean k awaits. ((awaits (omega (arith, made.survives.clean, clean))).ready (open_if_begun g.S.Store select_text [] old held (made.begun clean))).ours in (
       refl,
       commits_none select_text rows_are_read (state g.S.Store old) (state g.S.Store held) made.survives,
-      λ clean k awaits. progress_begins g.S.Store g.T.Take.takes g.T.Take.refuses old c.args.taker.now (ours clean k awaits) held (made.begun clean),
+      record {
+        saved = [];
+        taken = refl;
+        read = λ clean k awaits. progress_begins g.S.Store g.T.Take.takes g.T.Take.refuses old c.args.taker.now (ours clean k awaits) held (made.begun clean);
+      },
     )
 
 -- ---- the next row is refused
@@ -99,6 +103,22 @@ returns-in_default-clause-goes g c clean k awaits =
     let late : HasCleanDisk (state g.S.Store now) = subst (λ h. HasCleanDisk (state g.S.Store h)) (sym same) clean in
     at_end g.S.Store g.T.Take.takes g.T.Take.refuses old c.args.taker.now held now c.rows.taker c.rows.before k awaits c.rows.invariant.1 c.rows.invariant.2 moved.survives late (rw (c.in_ok-row.was, c.in_default.is) at (moved.ok late))
 
+pub returns-in_default-clause-taken : goal.returns-in_default-clause-taken
+returns-in_default-clause-taken g c =
+    let old = c.args.connection.now in
+    let held = c.rows.rows.conn.now in
+    let moved = c.next.follows.holds-at-none in
+    let now = c.next.follows.lender-at-none.conn.now in
+    let end = c.connection-in_default-1.given.0 in
+    let same : now ≡ end = search rules in
+    record {
+      rows = c.rows.invariant.2.saved;
+      taken = c.rows.invariant.2.taken;
+      held = λ clean k awaits.
+          let late : HasCleanDisk (state g.S.Store now) = subst (λ h. HasCleanDisk (state g.S.Store h)) (sym same) clean in
+          at_end_read g.S.Store g.T.Take.takes g.T.Take.refuses old c.args.taker.now held now c.rows.taker c.rows.before k awaits c.rows.invariant.1 c.rows.invariant.2 moved.survives late (rw (c.in_ok-row.was, c.in_default.is) at (moved.ok late));
+    }
+
 pub returns-in_default-clause-left : goal.returns-in_default-clause-left
 returns-in_default-clause-left g c clean k awaits =
     let old = c.args.connection.now in
@@ -134,7 +154,7 @@ returns-in_default-clause-same g c clean k awaits =
     let end = c.connection-in_default-1.given.0 in
     let same : now ≡ end = search rules in
     let late : HasCleanDisk (state g.S.Store now) = subst (λ h. HasCleanDisk (state g.S.Store h)) (sym same) clean in
-    let progress = c.rows.invariant.2 (omega (arith, moved.survives.clean, late)) k awaits in
+    let progress = c.rows.invariant.2.read (omega (arith, moved.survives.clean, late)) k awaits in
     let stays = rw c.in_ok-row.was at (moved.same late) in
     subst (λ h. IsUnchanged (state g.S.Store old) (state g.S.Store h)) same
     (unchanged_then (state g.S.Store old) (state g.S.Store held) (state g.S.Store now) progress.same stays)
@@ -280,13 +300,17 @@ rows-preserved g c =
     let now = c.next.follows.lender-at-none.conn.now in (
       moved.same_reference ∙ c.rows.invariant.0,
       nothing_more (state g.S.Store old) (state g.S.Store held) (state g.S.Store now) c.rows.invariant.1 moved.survives,
-      λ late k awaits.
-          let row = c.in-Some.row.now in
-          let next = rw (c.in_ok-row.was, c.in-Some.is) at (moved.ok late) in
-          let stays = rw c.in_ok-row.was at (moved.same late) in
-          let due : c.in-Some-new.due ≡ c.rows.before + 1 = c.in-Some-new.ensures.1 in
-          let reads : saved_row (c.rows.before + 1) row ≡ Some (saved_of c.in_ok-saved.saved) = subst (λ n. saved_row n row ≡ Some (saved_of c.in_ok-saved.saved)) due c.in_ok-saved.ensures in
-          at_next g.S.Store g.T.Take.takes g.T.Take.refuses old c.args.taker.now held now c.rows.taker c.rows.before k awaits c.rows.invariant.1 c.rows.invariant.2 moved.survives late row next stays (saved_of c.in_ok-saved.saved) reads c.take.new.self c.in_ok-take.ensures.taken,
+      record {
+        saved = c.rows.invariant.2.saved ++ saved_of c.in_ok-saved.saved ∷ [];
+        taken = taken_push g.T.Take.takes c.rows.invariant.2.saved (saved_of c.in_ok-saved.saved) c.args.taker.now c.rows.taker c.take.new.self c.rows.invariant.2.taken c.in_ok-take.ensures.taken;
+        read = λ late k awaits.
+            let row = c.in-Some.row.now in
+            let next = rw (c.in_ok-row.was, c.in-Some.is) at (moved.ok late) in
+            let stays = rw c.in_ok-row.was at (moved.same late) in
+            let due : c.in-Some-new.due ≡ c.rows.before + 1 = c.in-Some-new.ensures.1 in
+            let reads : saved_row (c.rows.before + 1) row ≡ Some (saved_of c.in_ok-saved.saved) = subst (λ n. saved_row n row ≡ Some (saved_of c.in_ok-saved.saved)) due c.in_ok-saved.ensures in
+            at_next g.S.Store g.T.Take.takes g.T.Take.refuses old c.args.taker.now held now c.rows.taker c.rows.before k awaits c.rows.invariant.1 c.rows.invariant.2 moved.survives late row next stays (saved_of c.in_ok-saved.saved) reads;
+      },
     )
 
 -- ---- so many rows were read as a loop may read
@@ -310,7 +334,7 @@ returns-clause-left g c clean k awaits =
     let early = first_clean g.S.Store g.T.Take.takes g.T.Take.refuses old c.args.taker.now held held c.rows.taker c.rows.before k awaits c.rows.invariant.1 c.rows.invariant.2 (still (state g.S.Store held)) late in
     let settled : IsTrue (state g.S.Store old).is_open → (state g.S.Store old).now ≡ (state g.S.Store old).committed =
     λ live. c.is_autocommit-alone.ensures.settled (rw (c.is_autocommit-alone.ensures.value, (awaits early).alone)) live in
-    let progress = c.rows.invariant.2 late k awaits in
+    let progress = c.rows.invariant.2.read late k awaits in
     subst (λ h. IsLeft (state g.S.Store old) (state g.S.Store h)) same (left_at g.S.Store g.T.Take.takes g.T.Take.refuses old c.args.taker.now held held c.rows.taker c.rows.before k awaits c.rows.invariant.1 c.rows.invariant.2 (still (state g.S.Store held)) late settled (inl (unchanged (state g.S.Store held) progress.same.0.is_open)))
 
 pub returns-clause-crash : goal.returns-clause-crash

@@ -1,8 +1,7 @@
-use Rattle.std.proofs.Common.{◌≡◌, ℕ}
-use Rattle.sqlite.specs.State.{HasCleanDisk, Survives}
+use Rattle.std.proofs.Common.{◌≡◌}
+use Rattle.sqlite.specs.State.{Survives}
 use Rattle.sqlite.specs.Held.{state}
-use Rattle.pres_batch_rows.specs.TableStates.{Awaits}
-use Rattle.pres_batch_rows.proofs.Progress.{Progress}
+use Rattle.pres_batch_rows.proofs.Progress.{SoFar}
 use Rattle.pres_batch_rows.proofs.take.go_over.Given as goal
 
 abbrev pub invariant-rows : goal.invariant-rows
@@ -11,4 +10,4 @@ invariant-rows g l =
     let now = state g.S.Store l.rows.conn.now in
     (l.rows.conn.ghost_name ≡ l.initial.rows.conn.ghost_name)
     × Survives old now (λ _. ⊥)
-    × (HasCleanDisk now → (k : ℕ) → Awaits old k → Progress g.S.Store g.T.Take.takes l.fn.connection l.fn.taker l.rows.conn.now l.taker l.before)
+    × SoFar g.S.Store g.T.Take.takes l.fn.connection l.fn.taker l.rows.conn.now l.taker l.before

@@ -1,12 +1,16 @@
 use Rattle.std.proofs.Common.{◌+◌, arith}
 use Rattle.sqlite.specs.State.{HasCleanDisk}
 use Rattle.sqlite.specs.Held.{state}
+use Rattle.pres_batch_rows.proofs.Collecting.{taken_so}
 use Rattle.pres_batch_rows.proofs.Inserting.{awaits_left}
 use Rattle.pres_batch_rows.proofs.Shut.{nothing_done}
 use Rattle.pres_batch_rows.proofs.table.BatchTable.each.Goals as goal
 
 pub returns-clause-goes : goal.returns-clause-goes
 returns-clause-goes g c = rw (← c.self.view_is) (λ clean serves. c.go_over.ensures.goes clean (c.self.inside.last + 1) serves)
+
+pub returns-clause-taken : goal.returns-clause-taken
+returns-clause-taken g c = rw (← c.self.view_is) (taken_so g.T.Take.takes _ _ c.args.taker.now c.go_over.new.taker c.go_over.result (λ rows read clean serves. read clean (c.self.inside.last + 1) serves) c.go_over.ensures.taken)
 
 pub returns-clause-left : goal.returns-clause-left
 returns-clause-left g c = rw (← c.self.view_is) (λ clean serves. c.go_over.ensures.left clean (c.self.inside.last + 1) serves)

@@ -1,33 +1,57 @@
 use Rattle.std.proofs.Common.{◌≡◌, sym, subst, ap, Some, IfOk, arith}
+use Rattle.pres_server.specs.declared.input.Input.TheVariants as input
 use Rattle.pres_ring.specs.Lines.{first_slow}
-use Rattle.pres_dispatch.specs.Dispatches.{AreEnded}
-use Rattle.pres_dispatch.proofs.Ended.{slow_turned, slow_unheard}
-use Rattle.pres_dispatch.proofs.Marks.{stay_twice}
+use Rattle.pres_keeper.specs.EngineTurns.{log_turned}
+use Rattle.pres_dispatch.specs.Dispatches.{Stands}
+use Rattle.pres_dispatch.proofs.Ended.{Before, if_done, goes_on, slow_turned, slow_unheard}
+use Rattle.pres_dispatch.proofs.Since.{ended_first, ended_more, ended_last}
+use Rattle.pres_dispatch.proofs.Marks.{stay_same, stay_twice}
 use Rattle.pres_dispatch.proofs.dispatcher.Dispatcher.end_slow.Goals as goal
+
+pub loop-next-init : goal.loop-next-init
+loop-next-init g c = (ended_first g.K.Keeper.works g.K.Keeper.keeps c.args.now c.args.self.now, omega arith, stay_same c.args.self.now.lines)
 
 pub loop-next-preserved-in-Ok : goal.loop-next-preserved-in-Ok
 loop-next-preserved-in-Ok g c =
+    let here = c.loop-next.self in
+    let mid = c.next_slow.new.self in
+    let new = c.turn.new.self in
     let since = c.loop-next.invariant.1 in
     let same = ap (λ run. run.number) c.in-Some.ensures.run in
     let rises = c.turn.ensures.rises in
-    let found = first_slow c.loop-next.self.lines in
+    let found = first_slow here.lines in
     let is : found ≡ Some c.in-Ok.session = subst (λ r. IfOk r (λ s. found ≡ Some s)) c.in-Ok.is c.in-Some.ensures.session in (
-      λ after behind h. c.loop-next.invariant.0 after behind
-          (subst (λ o. AreEnded c.args.now o after c.loop-next.self.lines behind) (ap (λ run. run.server) c.in-Some.ensures.run)
-          (slow_turned c.args.now c.next_slow.new.self.run.server c.loop-next.self.lines c.next_slow.new.self.lines found c.in-Some.ensures.first c.in-Some.ensures.opened c.in-Some.ensures.marked
-          c.in-Ok.session c.turn.new.self.run.server after c.turn.new.self.lines behind c.turn.result is c.turn.ensures.answered c.turn.ensures.refused c.turn.ensures.lines h)),
+      ended_more g.K.Keeper.works g.K.Keeper.keeps c.args.now c.args.self.now here new (λ log. if_done c.turn.result (log_turned log mid.run.server (input.Slow c.in-Ok.session) c.args.now) log) c.loop-next.invariant.0
+          (λ after behind h.
+          subst (λ o. Before c.args.now o new.run.server after here.lines new.lines behind (λ log. if_done c.turn.result (log_turned log mid.run.server (input.Slow c.in-Ok.session) c.args.now) log) h) (ap (λ run. run.server) c.in-Some.ensures.run)
+          (slow_turned c.args.now mid.run.server here.lines mid.lines found c.in-Some.ensures.first c.in-Some.ensures.opened c.in-Some.ensures.marked
+          c.in-Ok.session new.run.server after new.lines behind c.turn.result is c.turn.ensures.answered c.turn.ensures.refused c.turn.ensures.lines h))
+          (λ log stands.
+          goes_on c.turn.result (λ l. Stands g.K.Keeper.works g.K.Keeper.keeps l new) (log_turned log mid.run.server (input.Slow c.in-Ok.session) c.args.now) log
+          (c.turn.ensures.stands log (c.in-Some.ensures.stands log stands))),
       omega (arith, since, same, rises),
-      stay_twice c.args.self.now.lines c.loop-next.self.lines c.turn.new.self.lines c.loop-next.invariant.2 (stay_twice c.loop-next.self.lines c.next_slow.new.self.lines c.turn.new.self.lines c.in-Some.ensures.marks c.turn.ensures.marks),
+      stay_twice c.args.self.now.lines here.lines new.lines c.loop-next.invariant.2 (stay_twice here.lines mid.lines new.lines c.in-Some.ensures.marks c.turn.ensures.marks),
     )
 
 pub loop-next-preserved : goal.loop-next-preserved
 loop-next-preserved g c =
+    let here = c.loop-next.self in
+    let mid = c.next_slow.new.self in
     let since = c.loop-next.invariant.1 in
     let same = ap (λ run. run.number) c.in-Some.ensures.run in (
-      λ after behind h. c.loop-next.invariant.0 after behind
-          (subst (λ o. AreEnded c.args.now o after c.loop-next.self.lines behind) (ap (λ run. run.server) c.in-Some.ensures.run)
-          (slow_unheard c.args.now c.next_slow.new.self.run.server c.loop-next.self.lines c.next_slow.new.self.lines (first_slow c.loop-next.self.lines) c.in-Some.ensures.first c.in-Some.ensures.opened c.in-Some.ensures.marked
-          (sym c.in-Some.ensures.found) after behind h)),
+      ended_more g.K.Keeper.works g.K.Keeper.keeps c.args.now c.args.self.now here mid (λ log. log) c.loop-next.invariant.0
+          (λ after behind h.
+          subst (λ o. Before c.args.now o mid.run.server after here.lines mid.lines behind (λ log. log) h) (ap (λ run. run.server) c.in-Some.ensures.run)
+          (slow_unheard c.args.now mid.run.server here.lines mid.lines (first_slow here.lines) c.in-Some.ensures.first c.in-Some.ensures.opened c.in-Some.ensures.marked (sym c.in-Some.ensures.found) after behind h))
+          (λ log stands. c.in-Some.ensures.stands log stands),
       omega (arith, since, same),
-      stay_twice c.args.self.now.lines c.loop-next.self.lines c.next_slow.new.self.lines c.loop-next.invariant.2 c.in-Some.ensures.marks,
+      stay_twice c.args.self.now.lines here.lines mid.lines c.loop-next.invariant.2 c.in-Some.ensures.marks,
     )
+
+pub returns-clause-ended : goal.returns-clause-ended
+returns-clause-ended g c = (ended_last g.K.Keeper.works g.K.Keeper.keeps c.args.now c.args.self.now c.loop-next.self c.next_slow.new.self c.loop-next.invariant.0 c.in_default.ensures.none c.in_default.ensures.none_slow).0
+
+pub returns-clause-stands : goal.returns-clause-stands
+returns-clause-stands g c = λ log stands.
+    let last = ended_last g.K.Keeper.works g.K.Keeper.keeps c.args.now c.args.self.now c.loop-next.self c.next_slow.new.self c.loop-next.invariant.0 c.in_default.ensures.none c.in_default.ensures.none_slow in
+    (last.0, last.1 log stands)

@@ -1,33 +1,58 @@
-use Rattle.std.proofs.Common.{◌+◌, sym, ◌∙◌, ap, subst}
-use Rattle.pres_log.specs.Logs.{entries}
-use Rattle.pres_server.specs.Sessions.{is_open, count}
-use Rattle.pres_hub.specs.Cores.{AreAccepted}
-use Rattle.pres_hub.specs.CoreCalls.{accepted_of, HasSameCount}
-use Rattle.pres_hub.proofs.Counted.{ended_accepted}
-use Rattle.pres_hub.proofs.SayAnswered.{few_runs, said_accepted}
+use Rattle.std.proofs.Common.{◌≡◌, sym, ap, subst, refl, IfSome}
+use Rattle.pres_server.specs.declared.input.Input.TheVariants as input
+use Rattle.pres_wire.specs.Messages.{session_in}
+use Rattle.pres_server.specs.Sums.{accepted_in}
+use Rattle.pres_keeper.specs.Engines.{Runs}
+use Rattle.pres_keeper.specs.EngineTurns.{log_turned}
+use Rattle.pres_hub.specs.CoreCalls.{HasSameCount}
+use Rattle.pres_hub.proofs.Counted.{Accepted, said_accepted}
+use Rattle.pres_dispatch.specs.Dispatches.{NoneSlow}
+use Rattle.pres_hub.proofs.CoreLogs.{some_goes_on, goes_same, goes_carried, few_runs}
+use Rattle.pres_hub.proofs.Ends.{event_left}
 use Rattle.pres_hub.proofs.center.tests.say_for.Goals as goal
 
 pub take_message-requires-clause-abreast : goal.take_message-requires-clause-abreast
 take_message-requires-clause-abreast g c =
-    let es = entries c.in-Some.server.now.log in
-    let session = c.session.ensures in
+    let sum = c.in-Some.server.now.sum in
     subst (HasSameCount c.args.up c.args.seat.now.q) c.in-Some.ensures
-    (λ h. sym (ap (λ t. count t es) session) ∙ c.is_apart.ensures.abreast c.if-is_apart.false (ap (λ t. is_open t es) session ∙ h) ∙ c.q.ensures)
+    (subst (λ n. IfSome (accepted_in (session_in c.args.up) sum) (λ count. count ≡ n)) c.q.ensures (subst (λ t. IfSome (accepted_in t sum) (λ count. count ≡ c.q.result)) c.session.ensures (c.is_apart.ensures.abreast c.if-is_apart.false)))
 
 pub take_message-requires-clause-few : goal.take_message-requires-clause-few
-take_message-requires-clause-few g c = few_runs c.core.inside.start c.core.inside.tally.accepted c.core.inside.exchange.run.server c.number.ensures.legal c.core.invariant.1
+take_message-requires-clause-few g c =
+    few_runs g.K.Keeper.works g.K.Keeper.keeps (record { run = c.core.inside.exchange.run; lines = c.core.inside.exchange.lines; counts = c.core.inside.tally; start = c.core.inside.start }) c.core.invariant.stands
 
 pub invariant_of-core-2 : goal.invariant_of-core-2
 invariant_of-core-2 g c =
-    let start = c.core.inside.start in
-    let count = c.core.inside.tally.accepted in
-    let old = c.core.inside.exchange.run.server in
-    let middle = c.take_message.new.exchange.run.server in
-    let new = c.end_slow.new.self.run.server in
     let answered = c.in_ok-take_message.ensures.answered in
-    let ended = c.end_slow.ensures.ended in (
-      c.end_slow.ensures.none_slow,
-      subst (λ n. AreAccepted start n new) (sym (ap (λ t. t.accepted) c.in_ok-take_message.ensures.tally))
-          (ended_accepted start (count + accepted_of old c.args.up c.args.now) c.args.now middle new c.take_message.new.exchange.lines c.end_slow.new.self.lines ended
-          (said_accepted start count old middle c.args.up c.args.now answered.0 answered.1 c.core.invariant.1)),
-    )
+    let i = input.Up c.args.up in
+    record {
+      stands =
+          some_goes_on g.K.Keeper.works g.K.Keeper.keeps
+          (record { run = c.core.inside.exchange.run; lines = c.core.inside.exchange.lines; counts = c.core.inside.tally; start = c.core.inside.start })
+          (record { run = c.end_slow.new.self.run; lines = c.end_slow.new.self.lines; counts = c.take_message.new.tally; start = c.core.inside.start })
+          (goes_carried g.K.Keeper.works g.K.Keeper.keeps
+          (record { run = c.core.inside.exchange.run; lines = c.core.inside.exchange.lines; counts = c.core.inside.tally; start = c.core.inside.start })
+          (record { run = c.end_slow.new.self.run; lines = c.end_slow.new.self.lines; counts = c.take_message.new.tally; start = c.core.inside.start })
+          c.take_message.new.exchange i c.args.now refl c.in_ok-take_message.ensures.stands
+          (λ log h.
+          subst (λ n. Runs (Accepted c.core.inside.start n (log_turned log c.core.inside.exchange.run.server i c.args.now)) c.take_message.new.exchange.run.server) (sym (ap (λ x. x.accepted) c.in_ok-take_message.ensures.tally))
+          (said_accepted c.core.inside.start c.core.inside.tally.accepted log c.core.inside.exchange.run.server c.take_message.new.exchange.run.server c.args.up c.args.now answered.0 answered.1 h))
+          c.end_slow.ensures.stands)
+          c.core.invariant.stands;
+      none_slow = c.end_slow.ensures.none_slow;
+    }
+
+pub invariant_of-core : goal.invariant_of-core
+invariant_of-core g c = record {
+  stands =
+      some_goes_on g.K.Keeper.works g.K.Keeper.keeps
+      (record { run = c.core.inside.exchange.run; lines = c.core.inside.exchange.lines; counts = c.core.inside.tally; start = c.core.inside.start })
+      (record { run = c.take_message.new.exchange.run; lines = c.take_message.new.exchange.lines; counts = c.take_message.new.tally; start = c.core.inside.start })
+      (goes_same g.K.Keeper.works g.K.Keeper.keeps
+      (record { run = c.core.inside.exchange.run; lines = c.core.inside.exchange.lines; counts = c.core.inside.tally; start = c.core.inside.start })
+      (record { run = c.take_message.new.exchange.run; lines = c.take_message.new.exchange.lines; counts = c.take_message.new.tally; start = c.core.inside.start })
+      c.in_err-take_message.ensures.stands (event_left (input.Up c.args.up) c.args.now c.core.inside.exchange.run.server c.take_message.new.exchange.run.server c.in_err-take_message.field-0.0 c.in_err-take_message.ensures.refused) refl
+      (ap (λ x. x.accepted) c.in_err-take_message.ensures.kept.0))
+      c.core.invariant.stands;
+  none_slow = subst NoneSlow (sym c.in_err-take_message.ensures.lines) c.core.invariant.none_slow;
+}

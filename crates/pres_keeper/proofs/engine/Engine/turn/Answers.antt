@@ -5,8 +5,8 @@ use Rattle.pres_keeper.proofs.engine.Engine.turn.Goals as goal
 pub invariant_of-self-in-Err-Busy-default : goal.invariant_of-self-in-Err-Busy-default
 invariant_of-self-in-Err-Busy-default g c = grind (arith, common_steps)
 
-pub carry_out-requires-clause-legal : goal.carry_out-requires-clause-legal
-carry_out-requires-clause-legal g c = grind (arith, common_steps)
+pub carry_out-requires-clause-summed : goal.carry_out-requires-clause-summed
+carry_out-requires-clause-summed g c = grind (arith, common_steps)
 
 pub invariant_of-self-in-Err : goal.invariant_of-self-in-Err
 invariant_of-self-in-Err g c = grind (arith, common_steps)

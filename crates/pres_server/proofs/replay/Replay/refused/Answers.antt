@@ -1,10 +1,9 @@
-use Rattle.std.proofs.Common.{◌≡◌, ◌∙◌, ap, length, arith}
-use Rattle.pres_server.proofs.Replayed.{few_batches}
+use Rattle.std.proofs.Common.{◌≡◌, ◌∙◌, ap, arith}
+use Rattle.pres_server.proofs.SumServers.{batches_small}
 use Rattle.pres_server.proofs.replay.Replay.refused.Goals as goal
 
 pub unreachable-requires : goal.unreachable-requires
 unreachable-requires c =
-    let log = c.self.inside.server.log in
-    let small = few_batches log c.number.ensures.legal in
-    let same : length c.batches.result.now ≡ length log = ap length (c.batches.ensures.batches ∙ c.log.ensures) in
+    let small = batches_small c.self.inside.server.sum c.batches.ensures.sum in
+    let same = c.batches.ensures.batches in
     c.in_default.ensures (omega arith, omega arith)

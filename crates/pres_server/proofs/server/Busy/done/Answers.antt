@@ -1,4 +1,4 @@
 use Rattle.pres_server.proofs.server.Busy.done.Goals as goal
 
 pub join-requires : goal.join-requires
-join-requires c = c.self.invariant.follows
+join-requires c = c.self.invariant

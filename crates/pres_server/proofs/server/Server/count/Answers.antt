@@ -1,14 +1,11 @@
-use Rattle.std.proofs.Common.{◌∙◌, ap, cond, Some, None}
-use Rattle.pres_log.specs.Logs.{entries}
-use Rattle.pres_server.specs.Sessions.{is_open, count}
-use Rattle.pres_server.specs.ServerStates.{ServerState}
-use Rattle.pres_server.proofs.Readers.{count_is}
-use Rattle.pres_server.proofs.Whole.{legal_is_sound}
+use Rattle.std.proofs.Common.{◌∙◌, ap}
+use Rattle.pres_server.specs.Sums.{accepted_in}
+use Rattle.pres_server.specs.SumStates.{SumState}
+use Rattle.pres_server.proofs.SumServers.{accepted_is}
 use Rattle.pres_server.proofs.server.Server.count.Goals as goal
 
 pub returns : goal.returns
 returns c =
     let inside = c.self.inside in
-    let kept = c.self.invariant in
-    c.count.ensures ∙ count_is (entries inside.log) inside.index c.args.session.now (legal_is_sound inside.log kept.legal) kept.indexed
-    ∙ ap (λ (x : ServerState). cond (is_open c.args.session.now (entries x.log)) (Some (count c.args.session.now (entries x.log))) None) c.self.view_is
+    c.count.ensures ∙ accepted_is inside.batches inside.moment inside.number inside.index c.args.session.now
+    ∙ ap (λ (x : SumState). accepted_in c.args.session.now x.sum) c.self.view_is

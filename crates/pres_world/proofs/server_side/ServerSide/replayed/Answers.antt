@@ -1,9 +1,10 @@
-use Rattle.std.proofs.Common.{subst}
-use Rattle.pres_server.specs.Replays.{IsNoLog}
+use Rattle.std.proofs.Common.{◌∙◌, ap, subst}
+use Rattle.pres_log.specs.Logs.{Log}
+use Rattle.pres_server.specs.Replays.{resumed, IsNoLog}
+use Rattle.pres_server.specs.Sums.{sum_of}
+use Rattle.pres_world.specs.ServerSides.{ServerSideState}
 use Rattle.pres_world.proofs.Legal.{none_illegal}
 use Rattle.pres_world.proofs.server_side.ServerSide.replayed.Goals as goal
-use Rattle.std.proofs.Common.{arith}
-use Rattle.std.proofs.lemmas.Grind.{common_steps}
 
 pub unreachable-requires : goal.unreachable-requires
 unreachable-requires c =
@@ -12,4 +13,4 @@ unreachable-requires c =
     none_illegal history c.in-Err-NotLegal.field-0-0 c.self.invariant.legal (subst (IsNoLog history) c.in-Err-NotLegal.field-0-is refused)
 
 pub returns-in-Ok-clause-made : goal.returns-in-Ok-clause-made
-returns-in-Ok-clause-made c = grind (arith, common_steps)
+returns-in-Ok-clause-made c = c.in-Ok.ensures.server ∙ ap (λ (log : Log). resumed (sum_of log)) (c.as_slice.ensures.value ∙ ap (λ (w : ServerSideState). w.history) c.self.view_is)

@@ -11,7 +11,7 @@ use Rattle.pres_server.specs.Sessions.{session_of}
 use Rattle.pres_server.specs.Streams.{shown}
 use Rattle.pres_server.specs.InternalParts.{message_next, answer_by}
 use Rattle.pres_server.specs.InternalPushes.{TouchedSession}
-use Rattle.pres_history.specs.Sums.{Sum, OpenSessions, part_in, sent_by, pushed, carried, sum_after}
+use Rattle.pres_server.specs.Sums.{Sum, OpenSessions, part_in, sent_by, pushed, carried, sum_after}
 
 -- the Push of entry number z, with what stands at the paths
 abbrev pub push_by : ℕ → Rows Scalar → OpenSessions → TouchedSession → List Down

@@ -11,9 +11,9 @@ use Rattle.pres_fan.specs.Listeners.{IsListeners}
 use Rattle.pres_log.specs.declared.entry.Batch.{Batch}
 use Rattle.pres_log.specs.Logs.{Log}
 use Rattle.pres_server.specs.InternalParts.{IsAsked}
-use Rattle.pres_history.specs.Sums.{Sum, OpenSession, nothing, live_of, is_open_in, paths_in, sum_with, sum_from}
-use Rattle.pres_history.specs.SumAnswers.{answers_by}
-use Rattle.pres_history.specs.SumTurns.{FollowAll}
+use Rattle.pres_server.specs.Sums.{Sum, OpenSession, nothing, live_of, is_open_in, paths_in, sum_with, sum_from}
+use Rattle.pres_server.specs.SumAnswers.{answers_by}
+use Rattle.pres_server.specs.SumTurns.{FollowAll}
 
 -- ---- what holds of every server's sum
 

@@ -1,5 +1,5 @@
 -- The sum of a log: what a server knows of it, as plain data. What its next batches and their answers depend on is all here.
-use Rattle.std.specs.Prelude.{ℕ, ◌+◌, Bool, not, List, [], ◌∷◌, map, fold, Option, Some, None, if◌then◌else◌}
+use Rattle.std.specs.Prelude.{ℕ, ◌+◌, Bool, not, List, [], ◌∷◌, map, fold, Option, Some, None, is_some, if◌then◌else◌}
 use Rattle.std.specs.Option.{option_map}
 use Rattle.std.specs.FinMap.Entries.{find, put, where_key}
 use Rattle.pres_tree.specs.declared.scalar.Scalar.{Scalar}
@@ -18,7 +18,7 @@ use Rattle.pres_log.specs.declared.entry.Entry.{Entry}
 use Rattle.pres_log.specs.declared.entry.Entry.TheVariants as entry
 use Rattle.pres_log.specs.Logs.{Log, writes_of}
 use Rattle.pres_server.specs.Sessions.{session_of}
-use Rattle.pres_server.specs.InternalParts.{LivePart, Part, plan_after, is_live}
+use Rattle.pres_server.specs.InternalParts.{LivePart, Part, plan_after, is_live, count_in}
 use Rattle.pres_server.specs.InternalIndex.{retry_after, listeners_after}
 use Rattle.pres_server.specs.InternalPushes.{TouchedSession}
 
@@ -73,6 +73,18 @@ part_in sum client = part_by (find client_cmp client sum.sessions) (find client_
 -- the session is its client's open one
 abbrev pub is_open_in : SessionId → Sum → Bool
 is_open_in session sum = is_live (part_in sum session.client).live (stamp_of session)
+
+-- how many messages of the session were accepted, where it is its client's open one
+abbrev pub accepted_in : SessionId → Sum → Option ℕ
+accepted_in session sum = count_in (part_in sum session.client).live (stamp_of session)
+
+-- a session of the client is open
+abbrev pub has_open_in : ClientId → Sum → Bool
+has_open_in client sum = is_some (find client_cmp client sum.sessions)
+
+-- the stamp of the client's open session
+abbrev pub open_stamp_in : ClientId → Sum → Option Stamp
+open_stamp_in client sum = option_map (λ session. session.stamp) (find client_cmp client sum.sessions)
 
 -- the paths that a session listens to
 abbrev pub paths_in : Sum → SessionId → List Path

@@ -29,18 +29,14 @@ use Rattle.pres_server.specs.InternalFollows.{IsNextIn, IsNextBy, IsNewerBy, May
 use Rattle.pres_server.proofs.Since.{client_same, client_itself, session_same}
 use Rattle.pres_server.proofs.Sorted.{sorted_put}
 use Rattle.pres_server.proofs.PlanSteps.{number_in, asked_by}
-use Rattle.pres_history.specs.Sums.{Sum, OpenSession, OpenSessions, live_of, part_by, part_in, paths_in, is_open_in, changed, sent_more, pushed, carried, began, answered, sessions_after, gone_after, sum_after, sum_after_all, sum_with}
-use Rattle.pres_history.specs.SumTurns.{FollowsSum}
-use Rattle.pres_history.specs.Histories.{IsOpenSession, Keeps, IsSum}
-use Rattle.pres_history.proofs.Keyed.{sorted_with, sorted_others, sorted_changed, find_put, find_others, find_changed, length_put, length_others, length_changed}
-use Rattle.pres_history.proofs.Touching.{IsPushed, part_carried, each_pushed}
+use Rattle.pres_server.specs.InternalSums.{MayEnter, MayEnterAll}
+use Rattle.pres_server.specs.Sums.{Sum, OpenSession, OpenSessions, live_of, part_by, part_in, paths_in, is_open_in, changed, sent_more, pushed, carried, began, answered, sessions_after, gone_after, sum_after, sum_after_all, sum_with}
+use Rattle.pres_server.specs.SumTurns.{FollowsSum}
+use Rattle.pres_server.specs.Histories.{IsOpenSession, Keeps, IsSum}
+use Rattle.pres_server.proofs.Keyed.{sorted_with, sorted_others, sorted_changed, find_put, find_others, find_changed, length_put, length_others, length_changed}
+use Rattle.pres_server.proofs.Touching.{IsPushed, part_carried, each_pushed}
 
 -- ---- one entry
-
--- the entry may come, but for the limit on open sessions
-abbrev pub MayEnter : Sum → ℕ → Entry → Type 0
-MayEnter sum m (entry.Open s) = IsTrue (comes_after (part_in sum s.client).last (stamp_of s)) × ((part_in sum s.client).live ≡ None)
-MayEnter sum m e = MayComeBy (part_in sum (session_of e).client) (paths_in sum (session_of e)) (length sum.sessions) sum.tree m e
 
 pub entered_by : (sum : Sum) (m : ℕ) (e : Entry) → MayComeBy (part_in sum (session_of e).client) (paths_in sum (session_of e)) (length sum.sessions) sum.tree m e → MayEnter sum m e
 entered_by sum m (entry.Open s) f = (f.0, f.1)
@@ -57,7 +53,7 @@ some_same : {A : Type 0} (a b : A) → Some a ≡ Some b → a ≡ b
 some_same a b k = ap (λ o. unwrap_or o a) k
 
 -- q is the next message of this open session
-next_is : (s : SessionId) (q : ℕ) (l : LivePart) → IsNextBy (Some l) s q → q ≡ l.count + 1
+pub next_is : (s : SessionId) (q : ℕ) (l : LivePart) → IsNextBy (Some l) s q → q ≡ l.count + 1
 next_is s q l h = by (same_stamp (stamp_of s) l.stamp) h where
   by : (b : Bool) → IsNextIn (cond b (Some l.count) None) q → q ≡ l.count + 1
   by true k = k
@@ -337,10 +333,6 @@ counted_after sum m (entry.Ended s q w rows) k f =
 
 -- ---- a batch
 
-abbrev pub MayEnterAll : Sum → ℕ → List Entry → Type 0
-MayEnterAll sum m [] = Unit {0}
-MayEnterAll sum m (e ∷ more) = MayEnter sum m e × MayEnterAll (sum_after e sum) m more
-
 -- what follows its entries
 pub record After (xs : List Entry) (sum : Sum) : Type 0 where
   pub keeps : Keeps (sum_after_all xs sum)
@@ -400,7 +392,7 @@ stamp_is s t h =
     λ i. record { incarnation = eqb-true s.incarnation t.incarnation p.0 i; attempt = eqb-true s.attempt t.attempt p.1 i }
 
 -- the stamp of an open session is its client's last
-last_is : (sum : Sum) (s : SessionId) → is_open_in s sum ≡ true → (part_in sum s.client).last ≡ Some (stamp_of s)
+pub last_is : (sum : Sum) (s : SessionId) → is_open_in s sum ≡ true → (part_in sum s.client).last ≡ Some (stamp_of s)
 last_is sum s h =
     let here = some_live (find client_cmp s.client sum.sessions) (stamp_of s) h in
     ap (λ o. (part_by o (find client_cmp s.client sum.gone) sum.rows s.client).last) here.1 ∙ ap Some (sym (stamp_is (stamp_of s) here.0.stamp here.2))

@@ -24,10 +24,10 @@ use Rattle.pres_server.specs.InternalPushes.{TouchedSession, Standing, after_pus
 use Rattle.pres_server.proofs.Since.{client_same, client_itself}
 use Rattle.pres_server.proofs.AfterEntry.{same_by_cmp, by_client}
 use Rattle.pres_server.proofs.Reached.{InOrder, reached, stepped, step_by, after_reached, find_reached, reached_sorted, is_found, any_found}
-use Rattle.pres_history.specs.Sums.{Sum, OpenSession, OpenSessions, live_of, part_by, part_in, paths_in, is_open_in, sent_more, pushed, carried}
-use Rattle.pres_history.specs.Histories.{IsOpenSession, Keeps}
-use Rattle.pres_history.proofs.Keyed.{in_order, find_changed}
-use Rattle.pres_history.proofs.Summed.{open_of}
+use Rattle.pres_server.specs.Sums.{Sum, OpenSession, OpenSessions, live_of, part_by, part_in, paths_in, is_open_in, sent_more, pushed, carried}
+use Rattle.pres_server.specs.Histories.{IsOpenSession, Keeps}
+use Rattle.pres_server.proofs.Keyed.{in_order, find_changed}
+use Rattle.pres_server.specs.InternalSums.{open_of}
 
 -- ---- the open sessions in byte order of their clients
 
@@ -50,7 +50,7 @@ ids_found c (e ∷ es) = by (is_eq (client_cmp c e.0)) refl (ids_found c es) whe
   by false h r = r
 
 -- a session is among them where it is open
-is_among : (s : SessionId) (sum : Sum) → IsStrictlySortedBy client_cmp (keys_of sum.sessions) → list_any (same_session s) (ids sum.sessions) ≡ is_open_in s sum
+pub is_among : (s : SessionId) (sum : Sum) → IsStrictlySortedBy client_cmp (keys_of sum.sessions) → list_any (same_session s) (ids sum.sessions) ≡ is_open_in s sum
 is_among s sum h =
     any_found (ids sum.sessions) s (ids_in_order sum.sessions h)
     ∙ ap (is_found s) (ids_found s.client sum.sessions)
@@ -87,7 +87,7 @@ one_more : (o : Option Session) → option_map sent_more (option_map open_of o) 
 one_more None = refl
 one_more (Some session) = refl
 
-push_stands : (t : TouchedSession) (es : OpenSessions) (live : Standing) → Stands es live → Stands (pushed es t) (after_push live t)
+pub push_stands : (t : TouchedSession) (es : OpenSessions) (live : Standing) → Stands es live → Stands (pushed es t) (after_push live t)
 push_stands t es live f c = find_changed t.0.client sent_more es c ∙ by (same_client t.0.client c) where
   by : (b : Bool) → cond b (option_map sent_more (find client_cmp c es)) (find client_cmp c es) ≡ option_map open_of (cond b (sent_one (live c)) (live c))
   by true = ap (option_map sent_more) (f c) ∙ one_more (live c)

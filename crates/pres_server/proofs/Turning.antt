@@ -30,10 +30,12 @@ use Rattle.pres_server.specs.Turns.{Decision, refused, quiet, makes, op_by, with
 use Rattle.pres_server.specs.InternalParts.{LivePart, comes_after, same_stamp, is_live, session_with, listed, said_by, plan_in, end_by, hello_by, message_by, ends_live, ends_of, ends_late_by, wanted_by, open_step, open_steps, limited_by}
 use Rattle.pres_server.specs.InternalFollows.{IsNextIn, IsNextBy, IsEndNumberBy, MayComeBy, IsNewerBy, MayComeTogetherBy}
 use Rattle.pres_server.proofs.Decide.{from_one, stamp_itself}
-use Rattle.pres_history.specs.Sums.{Sum, part_in, paths_in}
-use Rattle.pres_history.specs.SumTurns.{SumState, moment_by}
-use Rattle.pres_history.specs.HistoryLaws.{TurnFollows}
-use Rattle.pres_history.proofs.Kept.{MayEnter, pair_of, next_open}
+use Rattle.pres_server.specs.Sums.{Sum, part_in, paths_in}
+use Rattle.pres_server.specs.SumStates.{SumState}
+use Rattle.pres_server.specs.SumTurns.{FollowsSum, moment_by, turn_by, batch_by}
+use Rattle.pres_server.specs.Histories.{IsSum}
+use Rattle.pres_server.specs.InternalSums.{MayEnter}
+use Rattle.pres_server.proofs.KeptSums.{pair_of, next_open}
 
 -- ---- what is asked for may come, but for the limits
 
@@ -225,7 +227,7 @@ module _ (sum : Sum) (m : ℕ) where
     by true room e = absurd (cc)
     by false room e = full room (nat_lt 1024 (open_steps xs (length sum.sessions))) refl e
 
-pub turn_follows : (state : SumState) (i : Input) (now : ℕ) → TurnFollows state i now
+pub turn_follows : (state : SumState) (i : Input) (now : ℕ) → IsSum state.sum → (es : List Entry) → turn_by state i now ≡ makes es → FollowsSum state.sum (batch_by state.sum (moment_by state.sum now) es)
 turn_follows state i now k es e =
     let sum = state.sum in
     let m = moment_by sum now in
