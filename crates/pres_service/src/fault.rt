@@ -5,6 +5,7 @@ ghost use Rattle.pres_service.specs.Faults.{status_of};
 
 use pres_faults::{HubFault, SavedFault};
 use pres_script::ScriptFault;
+use pres_tcp::Halt;
 use pres_websocket::SockFault;
 use std::alloc::{AllocError, AllocFailed};
 use thiserror::Error;
@@ -27,6 +28,12 @@ pub enum ServiceFault {
     /// The connection ended.
     #[error("socket refused {n}", n = .0.number())]
     Sock(SockFault),
+    /// The file failed while it was served.
+    #[error("store refused 2")]
+    Shut,
+    /// An allocation was refused behind a commit while the file was served.
+    #[error("out of memory")]
+    Down,
 }
 
 impl ServiceFault {
@@ -39,6 +46,8 @@ impl ServiceFault {
             ServiceFault::Store(_) => 3,
             ServiceFault::Address | ServiceFault::Sock(_) => 4,
             ServiceFault::Memory => 5,
+            ServiceFault::Shut => 3,
+            ServiceFault::Down => 5,
         }
     }
 }
@@ -83,6 +92,20 @@ impl From<SockFault> for ServiceFault {
             SockFault::Memory => ServiceFault::Memory,
             SockFault::Hub(fault) => ServiceFault::from(fault),
             other => ServiceFault::Sock(other),
+        }
+    }
+}
+
+impl From<Halt> for ServiceFault {
+    ghost use Rattle.std.specs.Prelude.{◌≡◌};
+    ghost use Rattle.pres_service.specs.Faults.{of_halt};
+
+    ghost from_gives = { λ halt e. e ≡ of_halt halt };
+
+    fn from(halt: Halt) -> ServiceFault {
+        match halt {
+            Halt::Shut => ServiceFault::Shut,
+            Halt::Down => ServiceFault::Down,
         }
     }
 }

@@ -1,16 +1,19 @@
 //! `presence serve`: a server over TCP, kept in a file.
 
-ghost use Rattle.std.specs.Prelude.{◌≡◌, ◌≢◌, false, ◌^◌, ◌++◌, ℕ, IfErr, OnOk};
+ghost use Rattle.std.specs.Prelude.{◌≡◌, ◌≢◌, true, false, ◌^◌, ◌++◌, ℕ, IfErr, OnOk};
 ghost use Rattle.std.specs.Io.KnownBytes.{Appends};
 ghost use Rattle.pres_file.specs.FileOpening.{HoldsOurs};
 ghost use Rattle.pres_service.specs.declared.fault.ServiceFault.TheVariants as fault;
+ghost use Rattle.pres_service.specs.Faults.{is_halt};
 ghost use Rattle.pres_service.specs.Outputs.{listening_line, number_line};
 
 use crate::fault::ServiceFault;
 use pres_file::{OpenedFile, connect, keeper_for};
 use pres_keeper::{Premise, Supposed};
-use pres_saved::SqlKeeper;
-use pres_tcp::{Core, Hub, Keeper, Moment, OpenGate, StreamBell, WallClock, serve_connections};
+use pres_saved::{Commit, Watch, Watched};
+use pres_tcp::{
+    Core, Halt, Health, Hub, Keeper, Moment, OpenGate, StreamBell, WallClock, serve_connections,
+};
 use sqlite::{Alter, Connection, Unknown};
 use std::alloc::Global;
 use std::io::Write;
@@ -33,7 +36,8 @@ pub struct ServeOptions<'a> {
 /// Opens the file, or makes it where it is absent or holds nothing, goes over what it holds, listens
 /// at the address, and serves connections. It says on the output where it listens, once it does, and
 /// at its end the number of the last entry; on the stream for faults, over an old file, how many
-/// entries it has and how long it took to read them.
+/// entries it has and how long it took to read them, and when commits begin and end to be refused.
+/// Where it can't go on, as its store was shut or its hub is down, it ends early.
 pub fn serve_run<R, W: Write, F: Write>(
     host: &HostRuntime,
     rt: &R,
@@ -47,7 +51,11 @@ where
     ensures said { OnOk result ((number : ℕ) × Appends
         (W.contents output.old) (W.contents output.new)
         (listening_line serving.entry.address.now ++ number_line number)) }
-    ensures silent { IfErr result (λ e. e ≢ fault.Input → output.new ≡ output.old) }
+    ensures silent { IfErr result (λ e. e ≢ fault.Input → is_halt e ≡ false
+        → output.new ≡ output.old) }
+    ensures halted { IfErr result (λ e. is_halt e ≡ true
+        → Appends (W.contents output.old) (W.contents output.new)
+        (listening_line serving.entry.address.now)) }
 {
     let connection = connect(host, serving.file, Unknown)?;
     let number = granted(rt, alloc, connection, serving, output, faults)?;
@@ -72,7 +80,11 @@ where
     requires mode { connection.in_transaction ≡ false }
     ensures said { OnOk result (Appends (W.contents output.old) (W.contents output.new)
         (listening_line serving.entry.address.now)) }
-    ensures silent { IfErr result (λ e. e ≢ fault.Input → output.new ≡ output.old) }
+    ensures silent { IfErr result (λ e. e ≢ fault.Input → is_halt e ≡ false
+        → output.new ≡ output.old) }
+    ensures halted { IfErr result (λ e. is_halt e ≡ true
+        → Appends (W.contents output.old) (W.contents output.new)
+        (listening_line serving.entry.address.now)) }
 {
     supposing::<Brand, S, R, W, F>(rt, alloc, connection, serving, output, faults)
 }
@@ -92,13 +104,35 @@ where
     requires ours { P.holds → HoldsOurs S.Store connection }
     ensures said { OnOk result (Appends (W.contents output.old) (W.contents output.new)
         (listening_line serving.entry.address.now)) }
-    ensures silent { IfErr result (λ e. e ≢ fault.Input → output.new ≡ output.old) }
+    ensures silent { IfErr result (λ e. e ≢ fault.Input → is_halt e ≡ false
+        → output.new ≡ output.old) }
+    ensures halted { IfErr result (λ e. is_halt e ≡ true
+        → Appends (W.contents output.old) (W.contents output.new)
+        (listening_line serving.entry.address.now)) }
 {
     let OpenedFile { keeper, is_new } = keeper_for(alloc, connection)?;
-    let keeper = Supposed::<SqlKeeper<S>, P>::new(keeper);
-    counted::<Supposed<SqlKeeper<S>, P>, R, W, F>(
-        rt, alloc, keeper, serving, is_new, output, faults,
+    let health = Health::new();
+    let keeper = Watched::new(keeper, Noted { health: &health });
+    let keeper = Supposed::<Watched<S, Noted<'_>>, P>::new(keeper);
+    counted::<Supposed<Watched<S, Noted<'_>>, P>, R, W, F>(
+        rt, alloc, keeper, &health, serving, is_new, output, faults,
     )
+}
+
+// Takes note of what becomes of commits.
+#[derive(Drop)]
+struct Noted<'a> {
+    health: &'a Health,
+}
+
+impl Watch for Noted<'_> {
+    fn note(&self, commit: Commit) {
+        match commit {
+            Commit::Taken => self.health.note_commit(false),
+            Commit::Refused => self.health.note_commit(true),
+            Commit::Shut => self.health.end(Halt::Shut),
+        }
+    }
 }
 
 // The same over a keeper.
@@ -106,6 +140,7 @@ fn counted<K: Keeper + Drop + Send, R, W: Write, F: Write>(
     rt: &R,
     alloc: Global,
     keeper: K,
+    health: &Health,
     serving: ServeOptions<'_>,
     is_new: bool,
     output: &mut W,
@@ -116,10 +151,16 @@ where
     requires ready { K.ready keeper }
     ensures said { OnOk result (Appends (W.contents output.old) (W.contents output.new)
         (listening_line serving.entry.address.now)) }
-    ensures silent { IfErr result (λ e. e ≢ fault.Input → output.new ≡ output.old) }
+    ensures silent { IfErr result (λ e. e ≢ fault.Input → is_halt e ≡ false
+        → output.new ≡ output.old) }
+    ensures halted { IfErr result (λ e. is_halt e ≡ true
+        → Appends (W.contents output.old) (W.contents output.new)
+        (listening_line serving.entry.address.now)) }
 {
     let blank = Blank::new(1 << 53);
-    served::<Brand, K, R, W, F>(rt, alloc, blank, keeper, serving, is_new, output, faults)
+    served::<Brand, K, R, W, F>(
+        rt, alloc, blank, keeper, health, serving, is_new, output, faults,
+    )
 }
 
 // The same with a ledger that the caller picks.
@@ -128,6 +169,7 @@ fn served<L: Ledger + Send + Sync, K: Keeper + Drop + Send, R, W: Write, F: Writ
     alloc: Global,
     blank: Blank,
     keeper: K,
+    health: &Health,
     serving: ServeOptions<'_>,
     is_new: bool,
     output: &mut W,
@@ -141,7 +183,11 @@ where
     requires ready { K.ready keeper }
     ensures said { OnOk result (Appends (W.contents output.old) (W.contents output.new)
         (listening_line serving.entry.address.now)) }
-    ensures silent { IfErr result (λ e. e ≢ fault.Input → output.new ≡ output.old) }
+    ensures silent { IfErr result (λ e. e ≢ fault.Input → is_halt e ≡ false
+        → output.new ≡ output.old) }
+    ensures halted { IfErr result (λ e. is_halt e ≡ true
+        → Appends (W.contents output.old) (W.contents output.new)
+        (listening_line serving.entry.address.now)) }
 {
     let start = Instant::now(rt).ok();
     let now = Moment::at(pres_tcp::Clock::now(&mut WallClock::new(rt)));
@@ -158,8 +204,13 @@ where
     match listening(rt, serving.address, output) {
         Ok(listener) => {
             let hub = Hub::new(core, OpenGate);
-            serve_connections(rt, alloc, &hub, &listener, serving.connections);
-            Ok(hub.into_core().finish().number())
+            let count = serving.connections;
+            let ended = serve_connections(rt, alloc, &hub, &listener, count, health, faults);
+            let number = hub.into_core().finish().number();
+            match ended {
+                Ok(()) => Ok(number),
+                Err(halt) => Err(ServiceFault::from(halt)),
+            }
         }
         Err(fault) => {
             drop(core.finish());
@@ -177,6 +228,7 @@ fn listening<R: Net<Listener = TcpListener, Stream = TcpStream>, W: Write>(
     ensures said { OnOk result (Appends (W.contents output.old) (W.contents output.new)
         (listening_line address.now)) }
     ensures silent { IfErr result (λ e. e ≢ fault.Input → output.new ≡ output.old) }
+    ensures early { IfErr result (λ e. is_halt e ≡ false) }
 {
     let Ok(listener) = TcpListener::bind(rt, address) else {
         return Err(ServiceFault::Address);

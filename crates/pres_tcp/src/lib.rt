@@ -1,15 +1,20 @@
 //! The connections of the machine: TCP streams whose waiting reads a bell ends, a thread for each
-//! connection of a hub, and one that looks each second which sessions are to end. It hands on the names
-//! of a hub that whoever serves one needs.
+//! connection of a hub, and one that looks each second which sessions are to end, until the hub can't go
+//! on. It hands on the names of a hub that whoever serves one needs.
 #![tactic(auto)]
 
 mod alarm;
+mod door;
+mod ending;
+mod health;
+mod notices;
 mod serve;
 mod stop;
 mod stream_count;
 mod wakeable;
 
 pub use alarm::StreamBell;
+pub use health::{Halt, Health};
 pub use pres_faults::HubFault;
 pub use pres_hub::{Core, Hub, Keeper, Moment, OpenGate};
 pub use pres_sock::Clock;

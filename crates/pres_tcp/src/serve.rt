@@ -1,9 +1,14 @@
 //! A hub's connections.
 
 use crate::alarm::StreamBell;
+use crate::door::Door;
+use crate::ending::{Ending, WRITE_MILLIS};
+use crate::health::{Halt, Health};
+use crate::notices::CommitNotices;
 use crate::stop::Stop;
 use crate::stream_count::StreamCount;
 use crate::wakeable::Wakeable;
+use pres_faults::HubFault;
 use pres_hub::{Bell, Hub, Keeper, Moment, OpenGate};
 use pres_sock::serve_stream;
 use pres_websocket::SockFault;
@@ -19,14 +24,11 @@ use std::time::{Clock, Duration, SystemTime, UNIX_EPOCH};
 // How long a read waits for bytes or for its bell, in milliseconds.
 const READ_MILLIS: u64 = 50;
 
-// How long a write waits for a peer that doesn't read.
-const WRITE_MILLIS: u64 = 5_000;
-
-// How long nothing is accepted behind a connection that could not be, as where no descriptor is left.
-const REFUSED_MILLIS: u64 = 50;
-
 // How often it is looked which sessions are to end.
 const TICK_MILLIS: u64 = 1_000;
+
+// How often it is looked whether the last connections are over, where no further one is accepted.
+const LAST_MILLIS: u64 = 10;
 
 // What answers a peer that opened no WebSocket (RFC 6455, 4.2.2 and 4.4; RFC 9110, 15.5.22).
 const UPGRADE_REQUIRED: &[u8] = b"HTTP/1.1 426 Upgrade Required\r\n\
@@ -64,56 +66,96 @@ impl<R: Clock> pres_sock::Clock for WallClock<'_, R> {
 }
 
 /// Serves each connection that comes in a thread of its own, and ends the sessions that are to end
-/// each second in a further one. With a count it returns once so many connections have ended; else
-/// it doesn't. A push ends the wait of its connection at once; where the system has no descriptors
-/// for that, it goes out within 50 ms.
+/// each second in a further one. With a count it returns once so many connections have ended; else it
+/// goes on. It ends early where the server can't go on: then no connection is accepted any more, those
+/// that are open are closed, and it says why. It says on the stream for faults when commits begin to be
+/// refused, and when they are taken again.
+///
+/// A push ends the wait of its connection at once; where the system has no descriptors for that, it
+/// goes out within 50 ms.
 pub fn serve_connections<
     L: Ledger + Send + Sync,
     K: Keeper + Drop + Send,
     R: Net<Listener = TcpListener, Stream = TcpStream> + Threads + Wait + Clock + Sync,
+    F: Write,
 >(
     rt: &R,
     alloc: Global,
     hub: &Hub<L, K, StreamBell, OpenGate>,
     listener: &TcpListener,
     count: Option<u32>,
-) {
+    health: &Health,
+    faults: &mut F,
+) -> Result<(), Halt> {
     let stop = Stop::new();
     let shared = &stop;
+    let mut notices = CommitNotices::new();
     thread::scope(thread::scope_env(), rt, |scope| {
-        let ticker = scope.spawn(move || tick_on(rt, alloc, hub, shared));
+        let ticker = scope.spawn(move || tick_on(rt, alloc, hub, shared, health));
+        if ticker.is_err() {
+            health.end(Halt::Down);
+        }
         drop(ticker);
-        accept_all(rt, alloc, hub, listener, count);
+        accept_all(
+            rt,
+            alloc,
+            hub,
+            listener,
+            count,
+            health,
+            &mut notices,
+            faults,
+        );
         shared.end(rt);
     });
+    notices.tell(health, faults);
+    match health.halt() {
+        Some(halt) => Err(halt),
+        None => Ok(()),
+    }
 }
 
-// Accepts connections, each of which has a thread of its own, until all of so many have ended.
+// Accepts connections, each of which has a thread of its own, until all of so many have ended, or the
+// server can't go on. It says what becomes of commits.
+#[inline(never)]
 fn accept_all<
     L: Ledger + Send + Sync,
     K: Keeper + Drop + Send,
     R: Net<Listener = TcpListener, Stream = TcpStream> + Threads + Wait + Clock + Sync,
+    F: Write,
 >(
     rt: &R,
     alloc: Global,
     hub: &Hub<L, K, StreamBell, OpenGate>,
     listener: &TcpListener,
     count: Option<u32>,
+    health: &Health,
+    notices: &mut CommitNotices,
+    faults: &mut F,
 ) {
     let crowd = StreamCount::new();
     let shared = &crowd;
+    let mut door = Door::at(rt, alloc, listener);
     thread::scope(thread::scope_env(), rt, |scope| {
         let mut accepted = 0u32;
-        for stream in listener.incoming() {
-            let Ok(stream) = stream else {
-                thread::sleep(rt, Duration::from_millis(REFUSED_MILLIS));
+        for _ in rt.forever() {
+            notices.tell(health, faults);
+            let is_full = count == Some(accepted);
+            if health.halt().is_some() || is_full && shared.over() >= accepted as usize {
+                break;
+            }
+            if is_full {
+                thread::sleep(rt, Duration::from_millis(LAST_MILLIS));
+                continue;
+            }
+            let Some(stream) = door.accept(rt) else {
                 continue;
             };
-            // a connection for which there is no thread is closed
-            let _ = scope.spawn(move || connection(rt, alloc, hub, shared, stream));
             accepted = accepted.saturating_add(1);
-            if count == Some(accepted) {
-                break;
+            let begun = scope.spawn(move || connection(rt, alloc, hub, shared, health, stream));
+            // a connection for which there is no thread is closed
+            if begun.is_err() {
+                shared.end_one();
             }
         }
     });
@@ -130,6 +172,7 @@ fn connection<
     alloc: Global,
     hub: &Hub<L, K, StreamBell, OpenGate>,
     crowd: &StreamCount,
+    health: &Health,
     stream: TcpStream,
 ) {
     let (_, _) = (
@@ -138,13 +181,16 @@ fn connection<
     );
     let wait = Duration::from_millis(READ_MILLIS);
     match Wakeable::new(rt, alloc, stream, wait, crowd) {
-        Ok((mut stream, bell)) => attend(rt, alloc, hub, &mut stream, Some(bell)),
-        Err(mut stream) => {
+        Ok((stream, bell)) => {
+            attend(rt, alloc, hub, &mut Ending::new(stream, health), Some(bell));
+        }
+        Err(stream) => {
             if stream.set_read_timeout(Some(wait)).is_ok() {
-                attend(rt, alloc, hub, &mut stream, None);
+                attend(rt, alloc, hub, &mut Ending::new(stream, health), None);
             }
         }
     }
+    crowd.end_one();
 }
 
 // Serves the connection. A peer that opened no WebSocket is told what is served here.
@@ -168,28 +214,44 @@ fn attend<
     }
 }
 
-// Ends the sessions that are to end, each second. What is refused is tried again a second later.
+// Ends the sessions that are to end, each second and once more at the end. What is refused is tried again
+// a second later. Where the hub is down the server can't go on.
 #[inline(never)]
 fn tick_on<L: Ledger, K: Keeper + Drop, R: Wait + Clock>(
     rt: &R,
     alloc: Global,
     hub: &Hub<L, K, StreamBell, OpenGate>,
     stop: &Stop,
+    health: &Health,
 ) {
     let mut clock = WallClock::new(rt);
     let mut due = Vec::new(alloc);
     for _ in rt.forever() {
-        if stop.wait(rt, Duration::from_millis(TICK_MILLIS)) {
+        let is_over = stop.wait(rt, Duration::from_millis(TICK_MILLIS));
+        let now = Moment::at(pres_sock::Clock::now(&mut clock));
+        if !tick(rt, hub, now, &mut due) {
+            health.end(Halt::Down);
+        }
+        if is_over {
             return;
         }
-        let now = Moment::at(pres_sock::Clock::now(&mut clock));
-        let mut core = hub.enter(rt, 0);
-        let _ = core.tick(now);
-        core.take_due(None, &mut due);
-        drop(core);
-        for bell in due.iter() {
-            bell.ring();
-        }
-        due.clear();
     }
+}
+
+// Ends the sessions that are to end: whether the hub isn't down.
+fn tick<L: Ledger, K: Keeper + Drop, R: Wait>(
+    rt: &R,
+    hub: &Hub<L, K, StreamBell, OpenGate>,
+    now: Moment,
+    due: &mut Vec<StreamBell>,
+) -> bool {
+    let mut core = hub.enter(rt, 0);
+    let ticked = core.tick(now);
+    core.take_due(None, due);
+    drop(core);
+    for bell in due.iter() {
+        bell.ring();
+    }
+    due.clear();
+    !matches!(ticked, Err(HubFault::Down))
 }

@@ -8,10 +8,11 @@ const WAKES_A_MILLI: usize = 64;
 
 const MOST_REST_MILLIS: usize = 16;
 
-/// How many streams are open.
+/// How many streams are open, and how many connections are over.
 #[derive(Drop)]
 pub struct StreamCount {
     open: AtomicUsize,
+    over: AtomicUsize,
 }
 
 impl StreamCount {
@@ -19,7 +20,18 @@ impl StreamCount {
     pub fn new() -> StreamCount {
         StreamCount {
             open: AtomicUsize::new(0),
+            over: AtomicUsize::new(0),
         }
+    }
+
+    /// A further connection is over.
+    pub(crate) fn end_one(&self) {
+        self.over.fetch_add(1, Ordering::SeqCst);
+    }
+
+    /// How many connections are over.
+    pub(crate) fn over(&self) -> usize {
+        self.over.load(Ordering::SeqCst)
     }
 
     /// How long a stream doesn't hear its bell after it heard it, so that what is put meanwhile goes

@@ -17,6 +17,8 @@ mod drives;
 #[cfg(test)]
 mod files;
 #[cfg(test)]
+mod halts;
+#[cfg(test)]
 mod script;
 #[cfg(test)]
 mod texts;

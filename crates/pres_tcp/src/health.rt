@@ -1,0 +1,69 @@
+//! Whether a server can go on, as its threads share it.
+
+use std::sync::atomic::{AtomicBool, AtomicUsize, Ordering};
+
+/// Why a server can't go on: it has to be started again over what it keeps.
+#[derive(Clone, Copy, Debug, PartialEq, Eq)]
+pub enum Halt {
+    /// The store was shut, and refuses everything from then on.
+    Shut,
+    /// Memory was refused behind a commit, so the hub is down.
+    Down,
+}
+
+/// Whether a server can go on, and whether its commits are taken.
+#[derive(Drop)]
+pub struct Health {
+    is_shut: AtomicBool,
+    is_down: AtomicBool,
+    // How often the fate of commits changed: odd while they are refused.
+    changes: AtomicUsize,
+}
+
+impl Health {
+    /// It goes on, and its commits are taken.
+    pub fn new() -> Health {
+        Health {
+            is_shut: AtomicBool::new(false),
+            is_down: AtomicBool::new(false),
+            changes: AtomicUsize::new(0),
+        }
+    }
+
+    /// Why the server can't go on, where it can't.
+    pub fn halt(&self) -> Option<Halt> {
+        if self.is_shut.load(Ordering::SeqCst) {
+            Some(Halt::Shut)
+        } else if self.is_down.load(Ordering::SeqCst) {
+            Some(Halt::Down)
+        } else {
+            None
+        }
+    }
+
+    /// From now on the server can't go on.
+    pub fn end(&self, halt: Halt) {
+        match halt {
+            Halt::Shut => self.is_shut.store(true, Ordering::SeqCst),
+            Halt::Down => self.is_down.store(true, Ordering::SeqCst),
+        }
+    }
+
+    /// Takes note of a commit that was refused, or taken. One thread at a time may tell of commits.
+    pub fn note_commit(&self, is_refused: bool) {
+        let was_refused = is_odd(self.changes.load(Ordering::SeqCst));
+        if is_refused != was_refused {
+            self.changes.fetch_add(1, Ordering::SeqCst);
+        }
+    }
+
+    /// How often the fate of commits changed.
+    pub(crate) fn changes(&self) -> usize {
+        self.changes.load(Ordering::SeqCst)
+    }
+}
+
+/// Whether commits are refused behind so many changes.
+pub(crate) fn is_odd(changes: usize) -> bool {
+    changes % 2 == 1
+}
