@@ -69,13 +69,15 @@ def batches_of(file):
 
 
 class Server:
-    """The program, serving a file at a port of this machine. It is killed at the end of a `with`."""
+    """The program, serving a file at a port of this machine, by another program's words before it, and in another environment
+    than this one's, where they are given. It is killed at the end of a `with`."""
 
-    def __init__(self, program, file, port=None):
+    def __init__(self, program, file, port=None, before=(), environment=None):
         self.port = port or free_port()
-        words = [program, "serve", "127.0.0.1:%d" % self.port, file]
+        words = [*before, program, "serve", "127.0.0.1:%d" % self.port, file]
         self.started = time.perf_counter()
-        self.process = subprocess.Popen(words, stdout=subprocess.PIPE, stderr=subprocess.PIPE, text=True)
+        self.process = subprocess.Popen(
+            words, stdout=subprocess.PIPE, stderr=subprocess.PIPE, text=True, env=environment)
 
     def __enter__(self):
         self.wait()

@@ -2,6 +2,7 @@
 //
 //   load write KIND PORT CLIENTS SECONDS   clients with one write in flight each; KIND: presence, redis, mqtt,
 //                                          etcd, loop_append, loop_page or loop_place
+//   load make KIND PORT CLIENTS WRITES     so many writes by clients with one write in flight each
 //   load sync FILE append|page|place SECONDS
 //                                          the disk alone: 200 bytes or 4 KiB behind the file's end, or 2 KiB over old bytes
 //                                          in the three writes of a commit, synced
@@ -431,6 +432,28 @@ static void time_writes(const Kind *kind, int clients, double seconds) {
     printf("count=%zu rate=%.1f ", times.count, times.count / spent);
     print_times("", &times);
     puts("");
+}
+
+// Makes so many writes, and waits for all their answers.
+static void make_writes(const Kind *kind, int clients, long writes) {
+    Conn *conns = conns_of(clients, "m");
+    struct epoll_event events[64];
+    long asked = 0, answered = 0;
+    for (int i = 0; i < clients; i++) kind->open(&conns[i]), look_at(&conns[i]);
+    for (; asked < clients; asked++) kind->ask(&conns[asked]);
+    double start = now();
+    while (answered < writes) {
+        int ready = epoll_wait(watch, events, 64, SILENCE * 1000);
+        if (ready == 0) refuse("answer", silence);
+        for (int i = 0; i < ready; i++) {
+            Conn *c = events[i].data.ptr;
+            receive(c, MSG_DONTWAIT);
+            if (!kind->answered(c)) continue;
+            answered++;
+            if (asked < writes) kind->ask(c), asked++;
+        }
+    }
+    printf("count=%ld rate=%.1f\n", answered, answered / (now() - start));
 }
 
 // ---- the disk alone
@@ -948,10 +971,11 @@ int main(int count, char **words) {
     watch = epoll_create1(0);
     if (count < 3) return 2;
     const char *use = words[1];
-    int has_kind = (!strcmp(use, "write") || !strcmp(use, "hold")) && count == 6;
+    int has_kind = (!strcmp(use, "write") || !strcmp(use, "make") || !strcmp(use, "hold")) && count == 6;
     Text kind = {words[2], strlen(words[2])};
     port = atoi(words[has_kind ? 3 : 2]);
     if (!strcmp(use, "write") && count == 6) time_writes(kind_of(words[2]), atoi(words[4]), atof(words[5]));
+    else if (!strcmp(use, "make") && count == 6) make_writes(kind_of(words[2]), atoi(words[4]), atol(words[5]));
     else if (!strcmp(use, "sync") && count == 5) time_syncs(words[2], words[3], atof(words[4]));
     else if (!strcmp(use, "loop") && count == 4) serve_in_a_loop(words[2], words[3]);
     else if (!strcmp(use, "ends") && count == 3) serve_ends(words[2]);
