@@ -3,3 +3,4 @@ pub mod Summed
 pub mod Whole
 pub mod Histories
 pub mod Samples
+pub mod Bases

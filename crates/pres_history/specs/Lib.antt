@@ -1,2 +1,3 @@
 pub mod SumLaws
 pub mod HistoryLaws
+pub mod BaseLaws

@@ -34,3 +34,4 @@ pub mod KeptSums
 pub mod Turning
 pub mod SumSteps
 pub mod SumServers
+pub mod BaseSums

@@ -22,3 +22,4 @@ pub mod SumAnswers
 pub mod SumTurns
 pub mod Histories
 pub mod InternalSums
+pub mod BaseSums

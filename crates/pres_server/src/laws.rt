@@ -7,6 +7,8 @@ ghost use Rattle.pres_log.specs.Logs.{Log};
 ghost use Rattle.pres_log.specs.declared.entry.Batch.{Batch};
 ghost use Rattle.pres_log.specs.declared.entry.Entry.{Entry};
 ghost use Rattle.pres_server.specs.declared.input.Input.{Input};
+ghost use Rattle.pres_base.specs.declared.parts.BaseParts.{BaseParts};
+ghost use Rattle.pres_server.specs.BaseSums.{BaseHasSum, BaseIsKept};
 ghost use Rattle.pres_server.specs.ServerStates.{ServerState};
 ghost use Rattle.pres_server.specs.Laws.{TurnIsLegal, LegalIsSound, StreamSteps, StreamGrows, EndsAreDue, StreamTells, ViewsAreTrue, ListensByOns};
 
@@ -55,4 +57,10 @@ pub fn views_are_true()
 pub fn ons_last_until_their_offs()
     ensures { (session : SessionId) (path : Path) (es : List Entry)
         → ListensByOns session path es }
+{}
+
+/// What holds of every server's sum holds of the sum of a base.
+pub fn bases_have_sums()
+    ensures sum { (base : BaseParts) → BaseHasSum base }
+    ensures kept { (base : BaseParts) → BaseIsKept base }
 {}

@@ -26,7 +26,9 @@ impl Model for Gone {
 }
 
 impl Gone {
-    pub(crate) fn of(last: Stamp) -> Gone
+    /// A client whose last session had this stamp: for whoever kept the stamp, and makes a server
+    /// anew. It takes no memory.
+    pub fn known(last: Stamp) -> Gone
         ensures { result ≡ last }
     {
         Gone { last }
