@@ -12,8 +12,8 @@ use Rattle.pres_log.specs.Logs.{Log, entries}
 use Rattle.pres_log.proofs.Entries.{entries-push}
 use Rattle.pres_server.specs.declared.input.Input.{Input}
 use Rattle.pres_server.specs.declared.input.Input.TheVariants as input
-use Rattle.pres_server.specs.LegalLog.{IsLegal}
-use Rattle.pres_server.specs.Sessions.{opens, is_open}
+use Rattle.pres_history.specs.LegalLog.{IsLegal}
+use Rattle.pres_history.specs.Sessions.{opens, is_open}
 use Rattle.pres_server.specs.Turns.{Decision, refused, quiet, makes}
 use Rattle.pres_server.specs.SumStates.{SumState}
 use Rattle.pres_server.specs.SumAnswers.{answers_by}

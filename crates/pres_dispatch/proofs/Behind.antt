@@ -6,11 +6,12 @@ use Rattle.pres_log.specs.declared.entry.Batch.{Batch}
 use Rattle.pres_log.specs.declared.entry.Entry.{Entry}
 use Rattle.pres_log.specs.Logs.{Log, entries, number}
 use Rattle.pres_server.specs.declared.input.Input.{Input}
-use Rattle.pres_server.specs.ServerStates.{ServerState}
-use Rattle.pres_server.specs.LegalLog.{IsLegal}
-use Rattle.pres_server.specs.Sessions.{is_open, has_open, count}
-use Rattle.pres_server.specs.Streams.{answers}
-use Rattle.pres_server.specs.Turns.{makes, turn}
+use Rattle.pres_history.specs.ServerStates.{ServerState}
+use Rattle.pres_history.specs.LegalLog.{IsLegal}
+use Rattle.pres_history.specs.Sessions.{is_open, has_open, count}
+use Rattle.pres_history.specs.Streams.{answers}
+use Rattle.pres_server.specs.Turns.{makes}
+use Rattle.pres_history.specs.Turns.{turn}
 use Rattle.pres_server.specs.Sums.{Sum, sum_of, is_open_in, has_open_in, accepted_in, sum_after, sum_after_all, sum_with}
 use Rattle.pres_server.specs.SumStates.{SumState}
 use Rattle.pres_server.specs.SumAnswers.{answers_by}

@@ -7,7 +7,8 @@ use Rattle.pres_ids.specs.Ids.{ClientId, client_cmp, stamp_of}
 use Rattle.pres_wire.specs.declared.down.Down.{Down}
 use Rattle.pres_log.specs.Logs.{Log}
 use Rattle.pres_server.specs.declared.input.Input.TheVariants as input
-use Rattle.pres_server.specs.Turns.{Decision, refused, quiet, makes, turn}
+use Rattle.pres_server.specs.Turns.{Decision, refused, quiet, makes}
+use Rattle.pres_history.specs.Turns.{turn}
 use Rattle.pres_server.specs.InternalParts.{is_live}
 use Rattle.pres_server.specs.Sums.{Sum, OpenSession, live_of, is_open_in, has_open_in, sum_after_all}
 use Rattle.pres_server.specs.SumStates.{SumState}

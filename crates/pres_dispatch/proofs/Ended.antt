@@ -9,7 +9,7 @@ use Rattle.pres_log.specs.Logs.{Log, entries}
 use Rattle.pres_server.specs.declared.input.Input.{Input}
 use Rattle.pres_server.specs.declared.input.Input.TheVariants as input
 use Rattle.pres_server.specs.ServerStates.{first_client}
-use Rattle.pres_server.specs.Sessions.{is_open}
+use Rattle.pres_history.specs.Sessions.{is_open}
 use Rattle.pres_server.specs.Turns.{Decision, refused, quiet, makes}
 use Rattle.pres_server.specs.Sums.{is_open_in}
 use Rattle.pres_server.specs.SumStates.{SumState}

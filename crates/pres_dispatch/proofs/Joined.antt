@@ -12,14 +12,14 @@ use Rattle.pres_log.specs.declared.entry.Entry.{Entry}
 use Rattle.pres_log.specs.Logs.{Log, entries}
 use Rattle.pres_log.proofs.Entries.{entries-push}
 use Rattle.pres_server.specs.declared.input.Input.TheVariants as input
-use Rattle.pres_server.specs.LegalLog.{IsLegal}
-use Rattle.pres_server.specs.Sessions.{opens, is_open}
-use Rattle.pres_server.specs.Streams.{answers}
+use Rattle.pres_history.specs.LegalLog.{IsLegal}
+use Rattle.pres_history.specs.Sessions.{opens, is_open}
+use Rattle.pres_history.specs.Streams.{answers}
 use Rattle.pres_server.specs.Turns.{Decision, refused, quiet, makes}
 use Rattle.pres_server.specs.SumStates.{SumState}
 use Rattle.pres_server.specs.SumAnswers.{answers_by}
 use Rattle.pres_server.specs.SumTurns.{turn_by, moment_by, batch_by, after_commit}
-use Rattle.pres_server.proofs.Since.{session_itself, session_same}
+use Rattle.pres_server.proofs.Clients.{session_itself, session_same}
 use Rattle.pres_ring.specs.Transcripts.{transcript, names, those_for, is_gone, is_gone_for, BeginsTranscript, IsWelcome}
 use Rattle.pres_ring.specs.RingEnds.{FeedState, OutboxState}
 use Rattle.pres_ring.specs.Laws.{IsWelcomed}

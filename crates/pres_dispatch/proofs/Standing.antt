@@ -9,7 +9,7 @@ use Rattle.pres_wire.specs.declared.down.Down.{Down}
 use Rattle.pres_log.specs.declared.entry.Entry.{Entry}
 use Rattle.pres_log.specs.Logs.{Log, entries}
 use Rattle.pres_server.specs.declared.input.Input.{Input}
-use Rattle.pres_server.specs.Sessions.{is_open}
+use Rattle.pres_history.specs.Sessions.{is_open}
 use Rattle.pres_server.specs.Sums.{is_open_in}
 use Rattle.pres_server.specs.SumStates.{SumState}
 use Rattle.pres_ring.specs.Lines.{SessionLine, Lines, line_at, marked, struck, ChangesAt}

@@ -10,8 +10,8 @@ use Rattle.pres_log.specs.Logs.{Log, entries, number}
 use Rattle.pres_server.specs.declared.input.Input.{Input}
 use Rattle.pres_server.specs.declared.input.Input.TheVariants as input
 use Rattle.pres_server.specs.ServerStates.{first_client}
-use Rattle.pres_server.specs.Sessions.{is_open}
-use Rattle.pres_server.specs.LegalLog.{IsLegal}
+use Rattle.pres_history.specs.Sessions.{is_open}
+use Rattle.pres_history.specs.LegalLog.{IsLegal}
 use Rattle.pres_server.specs.Replays.{resumed}
 use Rattle.pres_server.specs.Turns.{makes}
 use Rattle.pres_server.specs.Sums.{is_open_in, sum_of}

@@ -2,8 +2,8 @@
 use Rattle.std.proofs.Common.{refl, sym, ◌∙◌, ap, subst, ◌≡◌, [], ◌∷◌, ◌++◌, append-nil, append_assoc}
 use Rattle.pres_log.specs.declared.entry.Batch.{Batch}
 use Rattle.pres_log.specs.Logs.{Log}
-use Rattle.pres_server.specs.LegalLog.{IsLegal, IsLegalAfter}
-use Rattle.pres_server.proofs.Whole.{legal_after}
+use Rattle.pres_history.specs.LegalLog.{IsLegal, IsLegalAfter}
+use Rattle.pres_history.proofs.LegalLogs.{legal_after}
 use Rattle.pres_server.specs.Sums.{Sum, nothing, sum_with, sum_from, sum_of}
 use Rattle.pres_server.specs.SumAnswers.{answers_by}
 use Rattle.pres_server.specs.SumTurns.{FollowsSum, FollowAll}

@@ -20,24 +20,27 @@ use Rattle.pres_log.specs.declared.entry.Entry.{Entry}
 use Rattle.pres_log.specs.declared.entry.Entry.TheVariants as entry
 use Rattle.pres_log.specs.Logs.{writes_of}
 use Rattle.pres_server.specs.declared.index.Index.{Index}
-use Rattle.pres_server.specs.Sessions.{session_of, count}
-use Rattle.pres_server.specs.SessionPlans.{plan}
-use Rattle.pres_server.specs.Streams.{shown, answers_to, answers}
-use Rattle.pres_server.specs.InternalParts.{Part, LivePart, Sound, plan_after, live_in, message_next, answer_by}
+use Rattle.pres_server.specs.Sessions.{session_of}
+use Rattle.pres_history.specs.Sessions.{count}
+use Rattle.pres_history.specs.SessionPlans.{plan}
+use Rattle.pres_server.specs.Answering.{shown}
+use Rattle.pres_history.specs.Streams.{answers_to, answers}
+use Rattle.pres_server.specs.InternalParts.{Part, LivePart, plan_after, message_next, answer_by}
+use Rattle.pres_history.specs.InternalParts.{Sound, live_in}
 use Rattle.pres_server.specs.InternalSessions.{Session, live_after, last_stamp, live_part, sent_to}
 use Rattle.pres_server.specs.InternalSessions as places
 use Rattle.pres_server.specs.InternalPushes.{TouchedSession, Standing, after_push, after_pushes, pushes}
-use Rattle.pres_server.specs.InternalIndex.{session_at, gone_at, part_at, sent_at, Carries, Steps, Indexed, GoneSteps, retry_after, listeners_after, answer_on}
-use Rattle.pres_server.specs.InternalInvariants.{MayComeUncounted, MayTakeAll}
+use Rattle.pres_server.specs.InternalIndex.{session_at, gone_at, part_at, sent_at, Carries, Steps, GoneSteps, retry_after, listeners_after, answer_on}
+use Rattle.pres_history.specs.InternalInvariants.{Indexed, MayComeUncounted, MayTakeAll}
 use Rattle.pres_server.proofs.Heard.{find_behind}
-use Rattle.pres_server.proofs.Parts.{only_open}
-use Rattle.pres_server.proofs.Carried.{Between, between}
-use Rattle.pres_server.proofs.Taken.{rest_taken, first_added}
+use Rattle.pres_history.proofs.Parts.{only_open}
+use Rattle.pres_history.proofs.Carried.{Between, between}
+use Rattle.pres_history.proofs.Taken.{rest_taken, first_added}
 use Rattle.pres_server.specs.InternalSums.{open_of}
 use Rattle.pres_server.specs.Sums.{Sum, OpenSession, part_by, part_in, sent_by, changed, sent_more, pushed, carried, answered, sessions_after, gone_after, entered, sum_after, sum_after_all}
 use Rattle.pres_server.specs.SumAnswers.{pushes_by, answers_to_by, answers_by}
-use Rattle.pres_server.proofs.Keyed.{at_client, found, others, each, sorted_with, sorted_others, sorted_changed, changed_found, each_put, each_others, each_changed}
-use Rattle.pres_history.proofs.Keyed.{updates_put, updates_others, updates_changed}
+use Rattle.pres_server.proofs.Keyed.{at_client, found, others, sorted_with, sorted_others, sorted_changed, changed_found}
+use Rattle.pres_history.proofs.Keyed.{each, each_put, each_others, each_changed, updates_put, updates_others, updates_changed}
 
 -- the sum says what the index says
 pub record IsSumOf (index : Index) (sum : Sum) : Type 0 where
@@ -301,7 +304,7 @@ taken (e ∷ more) es z m old sum f same n o =
       stepped = steps z m es e mid (between es e old mid f.indexed f.sound (carries e old)) f.sound f.in_turn.0
 
       added : answered_on z m e old ≡ answers_to es e
-      added = first_added es (e ∷ more) e more old new (record { number = z; moment = m }) [] (answered_on z m e old) refl f (record { between = mid; carried = carries e old; steps = stepped; answers = refl })
+      added = first_added es (e ∷ more) e more old new z m [] (answered_on z m e old) refl f (record { between = mid; carried = carries e old; steps = stepped; answers = refl })
 
       ordered : IsOrdered client_cmp new.places.live
       ordered = sorted_stands m e mid.places.live.entries (sorted_pushed (touched (writes_of e) old.listeners) old.places.live.entries o)

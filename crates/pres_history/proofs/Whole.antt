@@ -19,28 +19,31 @@ use Rattle.pres_log.specs.Logs.{Log, entries, last_moment}
 use Rattle.pres_log.proofs.Entries.{entries-push}
 use Rattle.pres_server.specs.declared.index.Index.{Index}
 use Rattle.pres_server.specs.declared.input.Input.{Input}
-use Rattle.pres_server.specs.Sessions.{is_open, sessions_of, open_sessions, open_sessions_of}
-use Rattle.pres_server.specs.LegalLog.{MayFollow, IsLegal, IsLegalAfter}
-use Rattle.pres_server.specs.ServerStates.{Heard, ServerState}
-use Rattle.pres_server.specs.Turns.{Decision, makes, quiet, refused, moment_of, wanted, turn, batch_of, log_after}
-use Rattle.pres_server.specs.InternalParts.{Part, Sound, is_live, count_in, listed, session_with, wanted_by, limited_by}
+use Rattle.pres_history.specs.Sessions.{is_open, sessions_of, open_sessions, open_sessions_of}
+use Rattle.pres_history.specs.LegalLog.{MayFollow, IsLegal, IsLegalAfter}
+use Rattle.pres_server.specs.ServerStates.{Heard}
+use Rattle.pres_history.specs.ServerStates.{ServerState}
+use Rattle.pres_server.specs.Turns.{Decision, makes, quiet, refused}
+use Rattle.pres_history.specs.Turns.{moment_of, wanted, turn, batch_of, log_after}
+use Rattle.pres_server.specs.InternalParts.{Part, is_live, count_in, listed, session_with, wanted_by, limited_by}
+use Rattle.pres_history.specs.InternalParts.{Sound}
 use Rattle.pres_server.specs.InternalSessions.{Session, open_count}
 use Rattle.pres_server.specs.InternalIndex.{part_at, paths_at}
-use Rattle.pres_server.specs.InternalInvariants.{ServerInvariant}
+use Rattle.pres_history.specs.InternalInvariants.{ServerInvariant}
 use Rattle.pres_server.specs.InternalFollows.{MayComeTogetherBy, LeavesRoomBy}
-use Rattle.pres_server.proofs.Readers.{count_by, some_live}
-use Rattle.pres_server.proofs.Decide.{live_is, wanted_is, wanted_allowed, limited_is}
-use Rattle.pres_server.proofs.Follows.{joins_in, joins_out}
+use Rattle.pres_history.proofs.Readers.{count_by, some_live}
+use Rattle.pres_history.proofs.Decide.{live_is, wanted_is, wanted_allowed, limited_is}
+use Rattle.pres_history.proofs.Follows.{joins_in, joins_out}
 use Rattle.pres_server.proofs.Heard.{behind}
-use Rattle.pres_server.proofs.OpenList.{id_of, open_list}
-use Rattle.pres_server.proofs.Turned.{count_is, fitting, kept_after}
+use Rattle.pres_history.proofs.OpenList.{id_of, open_list}
+use Rattle.pres_history.proofs.Turned.{count_is, fitting, kept_after}
 use Rattle.pres_server.proofs.Replayed.{sum_push}
-use Rattle.pres_server.proofs.Whole.{of_legal, legal_after, legal_is_sound}
+use Rattle.pres_history.proofs.LegalLogs.{of_legal, legal_after, legal_is_sound}
 use Rattle.pres_server.specs.Sums.{Sum, OpenSession, live_of, nothing, part_in, paths_in, sum_with, sum_from, sum_of}
 use Rattle.pres_server.specs.SumAnswers.{answers_by}
 use Rattle.pres_server.specs.SumTurns.{FollowsSum, FollowAll, moment_by, turn_by, sum_after_turn}
 use Rattle.pres_history.specs.SumLaws.{Says, LegalReadersSay, SameHeard, SumSays, LegalSumSays, LegalByTheSum, SumsDecide, WholeIsLegal, ReachedStays}
-use Rattle.pres_server.proofs.Keyed.{each}
+use Rattle.pres_history.proofs.Keyed.{each}
 use Rattle.pres_server.specs.InternalSums.{open_of}
 use Rattle.pres_history.proofs.Summed.{IsSumOf, part_is, sent_is, TakenAll, taken}
 

@@ -5,8 +5,8 @@ use Rattle.pres_log.specs.declared.entry.Batch.{Batch}
 use Rattle.pres_log.specs.declared.entry.Entry.{Entry}
 use Rattle.pres_log.specs.Logs.{Log, entries}
 use Rattle.pres_server.specs.declared.input.Input.{Input}
-use Rattle.pres_server.specs.Streams.{answers}
-use Rattle.pres_server.specs.LegalLog.{IsLegal}
+use Rattle.pres_history.specs.Streams.{answers}
+use Rattle.pres_history.specs.LegalLog.{IsLegal}
 use Rattle.pres_server.specs.Turns.{makes}
 use Rattle.pres_server.specs.Sums.{Sum, nothing, sum_with, sum_of}
 use Rattle.pres_server.specs.SumAnswers.{answers_by}

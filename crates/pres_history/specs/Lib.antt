@@ -1,2 +1,14 @@
+pub mod Outcomes
+pub mod Sessions
+pub mod SessionPlans
+pub mod Listening
+pub mod Streams
+pub mod InternalParts
+pub mod LegalLog
+pub mod ServerStates
+pub mod Replays
+pub mod Turns
 pub mod SumLaws
 pub mod HistoryLaws
+pub mod InternalInvariants
+pub mod Laws

@@ -7,15 +7,18 @@ use Rattle.pres_log.specs.declared.entry.Entry.{Entry}
 use Rattle.pres_log.specs.Logs.{Log, entries, last_moment, tree}
 use Rattle.pres_server.specs.declared.input.Input.{Input}
 use Rattle.pres_retry.specs.Tables.{rows_of}
-use Rattle.pres_server.specs.Sessions.{is_open, count, has_open, open_sessions, open_sessions_of}
-use Rattle.pres_server.specs.Outcomes.{rows_for}
-use Rattle.pres_server.specs.Replays.{heard_by, heard_anew}
-use Rattle.pres_server.specs.Listening.{listened}
-use Rattle.pres_server.specs.Streams.{answers}
-use Rattle.pres_server.specs.LegalLog.{MayFollow, IsLegal}
+use Rattle.pres_history.specs.Sessions.{is_open, count, has_open, open_sessions, open_sessions_of}
+use Rattle.pres_history.specs.Outcomes.{rows_for}
+use Rattle.pres_server.specs.Replays.{heard_by}
+use Rattle.pres_history.specs.Replays.{heard_anew}
+use Rattle.pres_history.specs.Listening.{listened}
+use Rattle.pres_history.specs.Streams.{answers}
+use Rattle.pres_history.specs.LegalLog.{MayFollow, IsLegal}
 use Rattle.pres_server.specs.ServerStates.{Heard}
-use Rattle.pres_server.specs.Turns.{Decision, turn, log_after}
-use Rattle.pres_server.specs.InternalParts.{part_of, sent_of, session_with}
+use Rattle.pres_server.specs.Turns.{Decision}
+use Rattle.pres_history.specs.Turns.{turn, log_after}
+use Rattle.pres_history.specs.InternalParts.{part_of, sent_of}
+use Rattle.pres_server.specs.InternalParts.{session_with}
 use Rattle.pres_server.specs.Sums.{Sum, nothing, part_in, paths_in, is_open_in, accepted_in, has_open_in, open_stamp_in, sent_by, sum_from, sum_of}
 use Rattle.pres_server.specs.SumAnswers.{answers_by}
 use Rattle.pres_server.specs.SumTurns.{FollowsSum, FollowAll, turn_by, sum_after_turn}

@@ -1,5 +1,6 @@
-//! The sum of a server's log: what a server knows of it, without the log. Of a legal log its sum
-//! says what the log says, and decides as it does what comes next.
+//! The log of a server as a whole: its sessions, streams and turns, read off its entries, and which
+//! logs are legal. A server holds the sum of its log in its place. Of a legal log its sum says what
+//! the log says, and decides as it does what comes next.
 #![tactic(auto)]
 
 pub mod laws;

@@ -11,8 +11,8 @@ use Rattle.pres_log.specs.Logs.{Log, entries, number}
 use Rattle.pres_log.proofs.Entries.{entries-push, number-push}
 use Rattle.pres_server.specs.declared.input.Input.{Input}
 use Rattle.pres_server.specs.declared.input.Input.TheVariants as input
-use Rattle.pres_server.specs.LegalLog.{IsLegal}
-use Rattle.pres_server.proofs.Whole.{legal_leaves_room}
+use Rattle.pres_history.specs.LegalLog.{IsLegal}
+use Rattle.pres_history.proofs.LegalLogs.{legal_leaves_room}
 use Rattle.pres_server.specs.Turns.{Decision, refused, quiet, makes}
 use Rattle.pres_server.specs.SumStates.{SumState}
 use Rattle.pres_server.specs.SumAnswers.{answers_by}

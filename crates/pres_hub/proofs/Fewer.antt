@@ -9,9 +9,10 @@ use Rattle.pres_log.specs.declared.entry.Entry.{Entry}
 use Rattle.pres_log.specs.Logs.{entries}
 use Rattle.pres_server.specs.declared.input.Input.{Input}
 use Rattle.pres_server.specs.declared.input.Input.TheVariants as input
-use Rattle.pres_server.specs.ServerStates.{ServerState}
-use Rattle.pres_server.specs.Sessions.{is_open}
-use Rattle.pres_server.specs.Turns.{Decision, refused, quiet, makes, turn}
+use Rattle.pres_history.specs.ServerStates.{ServerState}
+use Rattle.pres_history.specs.Sessions.{is_open}
+use Rattle.pres_server.specs.Turns.{Decision, refused, quiet, makes}
+use Rattle.pres_history.specs.Turns.{turn}
 use Rattle.pres_server.specs.Sums.{is_open_in}
 use Rattle.pres_server.specs.SumStates.{SumState}
 use Rattle.pres_server.specs.SumTurns.{turn_by, moment_by, after_commit}

@@ -6,7 +6,7 @@ use Rattle.pres_wire.specs.Messages.{session_in, q_in}
 use Rattle.pres_log.specs.declared.entry.Entry.{Entry}
 use Rattle.pres_log.specs.Logs.{entries}
 use Rattle.pres_server.specs.declared.input.Input.TheVariants as input
-use Rattle.pres_server.specs.Sessions.{count}
+use Rattle.pres_history.specs.Sessions.{count}
 use Rattle.pres_server.specs.InternalFollows.{MayComeTogetherBy}
 use Rattle.pres_server.specs.Turns.{Decision, refused, quiet, makes}
 use Rattle.pres_server.specs.Sums.{Sum, accepted_in, part_in, paths_in}

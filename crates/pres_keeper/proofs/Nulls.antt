@@ -17,7 +17,7 @@ use Rattle.pres_log.specs.declared.entry.Entry.{Entry}
 use Rattle.pres_log.specs.declared.entry.Entry.TheVariants as entry
 use Rattle.pres_log.specs.Logs.{Log, entries, number}
 use Rattle.pres_batch_json.specs.Reads.{one_null, with_one_null}
-use Rattle.pres_server.specs.LegalLog.{Supersedes}
+use Rattle.pres_server.specs.Batches.{Supersedes}
 use Rattle.pres_server.specs.InternalParts.{Part}
 use Rattle.pres_server.specs.InternalFollows.{MayComeBy, MayComeTogetherBy}
 use Rattle.pres_server.specs.Sums.{Sum, nothing, part_in, paths_in, sum_after, sum_after_all, sum_with, sum_from}

@@ -10,19 +10,22 @@ use Rattle.pres_log.specs.declared.entry.Entry.{Entry}
 use Rattle.pres_log.specs.declared.entry.Entry.TheVariants as entry
 use Rattle.pres_log.specs.Logs.{Log, entries}
 use Rattle.pres_log.proofs.Entries.{entries-push}
-use Rattle.pres_server.specs.Sessions.{session_of, opens, ends, since_open, is_open, is_newest, open_sessions}
-use Rattle.pres_server.specs.Listening.{touched}
-use Rattle.pres_server.specs.LegalLog.{IsLegal, IsLegalAfter, MayFollow}
-use Rattle.pres_server.specs.Streams.{Unnumbered, push_of, own_answer, sent_for, sent_from, numbered_from, stream, welcome, added, is_push, own_added, answers_to, answers}
-use Rattle.pres_server.specs.InternalParts.{Sound}
-use Rattle.pres_server.specs.InternalInvariants.{MayComeUncounted, MayComeInTurn}
-use Rattle.pres_server.proofs.Since.{any-append, after-append, before-append, before-cons, session_same, session_itself}
-use Rattle.pres_server.proofs.StreamSteps.{numbered_from-append, stream_step}
-use Rattle.pres_server.proofs.Parts.{not_opened, fresh_count}
-use Rattle.pres_server.proofs.AfterEntry.{sound_start, sound_after}
-use Rattle.pres_server.proofs.Whole.{follows_in_turn, of_legal}
-use Rattle.pres_server.proofs.Sent.{push_count}
-use Rattle.pres_server.proofs.Answers.{pushes_added}
+use Rattle.pres_server.specs.Sessions.{session_of}
+use Rattle.pres_history.specs.Sessions.{opens, ends, since_open, is_open, is_newest, open_sessions}
+use Rattle.pres_history.specs.Listening.{touched}
+use Rattle.pres_history.specs.LegalLog.{IsLegal, IsLegalAfter, MayFollow}
+use Rattle.pres_server.specs.Answering.{Unnumbered}
+use Rattle.pres_history.specs.Streams.{push_of, own_answer, sent_for, sent_from, numbered_from, stream, welcome, added, is_push, own_added, answers_to, answers}
+use Rattle.pres_history.specs.InternalParts.{Sound}
+use Rattle.pres_history.specs.InternalInvariants.{MayComeUncounted, MayComeInTurn}
+use Rattle.pres_history.proofs.Since.{any-append, after-append, before-append, before-cons}
+use Rattle.pres_server.proofs.Clients.{session_same, session_itself}
+use Rattle.pres_history.proofs.StreamSteps.{numbered_from-append, stream_step}
+use Rattle.pres_history.proofs.Parts.{not_opened, fresh_count}
+use Rattle.pres_history.proofs.AfterEntry.{sound_start, sound_after}
+use Rattle.pres_history.proofs.LegalLogs.{follows_in_turn, of_legal}
+use Rattle.pres_history.proofs.Sent.{push_count}
+use Rattle.pres_history.proofs.Answers.{pushes_added}
 use Rattle.pres_ring.specs.Transcripts.{transcript, those_for}
 use Rattle.pres_ring.specs.Laws.{AnswersExtendTranscripts, OthersAreSilent}
 use Rattle.pres_ring.proofs.Begins.{told_opened, told_unopened}

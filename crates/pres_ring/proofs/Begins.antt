@@ -7,9 +7,9 @@ use Rattle.pres_wire.specs.declared.down.Down.{Down}
 use Rattle.pres_wire.specs.declared.down.Down.TheVariants.{Welcome}
 use Rattle.pres_log.specs.declared.entry.Entry.{Entry}
 use Rattle.pres_log.specs.Logs.{entries}
-use Rattle.pres_server.specs.Sessions.{opens}
-use Rattle.pres_server.specs.Outcomes.{ops}
-use Rattle.pres_server.specs.Streams.{stream, welcome}
+use Rattle.pres_history.specs.Sessions.{opens}
+use Rattle.pres_history.specs.Outcomes.{ops}
+use Rattle.pres_history.specs.Streams.{stream, welcome}
 use Rattle.pres_ring.specs.Transcripts.{transcript, up_to_open, BeginsTranscript, MayPut, IsWelcome, StartsWithWelcome, MayStartWithWelcome}
 
 pub told_opened : (s : SessionId) (es : List Entry) → list_any (opens s) es ≡ true → transcript s es ≡ welcome s (up_to_open s es) ∷ stream s es

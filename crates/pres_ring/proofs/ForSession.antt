@@ -12,18 +12,19 @@ use Rattle.pres_wire.specs.Messages.{session_for}
 use Rattle.pres_retry.specs.declared.table.Row.{Row}
 use Rattle.pres_log.specs.declared.entry.Entry.{Entry}
 use Rattle.pres_log.specs.declared.entry.Entry.TheVariants as entry
-use Rattle.pres_server.specs.Sessions.{session_of, opened, is_open, open_entries, open_sessions, open_sessions_of}
-use Rattle.pres_server.specs.Outcomes.{rows_for}
-use Rattle.pres_server.specs.Listening.{touched}
-use Rattle.pres_server.specs.Streams.{push_of, repeated_reply, own_answer, sent_for, numbered_from, stream, added, is_push, own_added}
-use Rattle.pres_server.specs.InternalParts.{Sound}
-use Rattle.pres_server.proofs.Since.{client_same, session_same, session_itself}
-use Rattle.pres_server.proofs.Steps.{In, in_open}
-use Rattle.pres_server.proofs.Parts.{only_open}
-use Rattle.pres_server.proofs.AfterEntry.{clients_apart, same_by_cmp, first_of_list, by_client, find_open, open_is_sorted}
-use Rattle.pres_server.proofs.Sent.{push_count}
-use Rattle.pres_server.proofs.StreamSteps.{stream_step}
-use Rattle.pres_server.proofs.Answers.{pushes_added}
+use Rattle.pres_server.specs.Sessions.{session_of}
+use Rattle.pres_history.specs.Sessions.{opened, is_open, open_entries, open_sessions, open_sessions_of}
+use Rattle.pres_history.specs.Outcomes.{rows_for}
+use Rattle.pres_history.specs.Listening.{touched}
+use Rattle.pres_history.specs.Streams.{push_of, repeated_reply, own_answer, sent_for, numbered_from, stream, added, is_push, own_added}
+use Rattle.pres_history.specs.InternalParts.{Sound}
+use Rattle.pres_server.proofs.Clients.{client_same, session_same, session_itself, clients_apart, same_by_cmp, by_client}
+use Rattle.pres_history.proofs.Steps.{In, in_open}
+use Rattle.pres_history.proofs.Parts.{only_open}
+use Rattle.pres_history.proofs.AfterEntry.{first_of_list, find_open, open_is_sorted}
+use Rattle.pres_history.proofs.Sent.{push_count}
+use Rattle.pres_history.proofs.StreamSteps.{stream_step}
+use Rattle.pres_history.proofs.Answers.{pushes_added}
 use Rattle.pres_ring.specs.Transcripts.{names, those_for}
 
 pub those-append : (s : SessionId) (xs ys : List Down) → those_for s (xs ++ ys) ≡ those_for s xs ++ those_for s ys

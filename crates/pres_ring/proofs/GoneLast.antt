@@ -9,12 +9,14 @@ use Rattle.pres_wire.specs.declared.down.Down.TheVariants as down
 use Rattle.pres_retry.specs.declared.table.Row.{Row}
 use Rattle.pres_log.specs.declared.entry.Entry.{Entry}
 use Rattle.pres_log.specs.declared.entry.Entry.TheVariants as entry
-use Rattle.pres_server.specs.Sessions.{session_of, opens, ends, since_open}
-use Rattle.pres_server.specs.Outcomes.{rows_for}
-use Rattle.pres_server.specs.Listening.{touched}
-use Rattle.pres_server.specs.Streams.{Unnumbered, push_of, repeated_reply, own_answer, sent_for, sent_from, numbered_from, stream, welcome}
-use Rattle.pres_server.proofs.Since.{any-append, before-append}
-use Rattle.pres_server.proofs.StreamSteps.{numbered_from-append, stream_ended}
+use Rattle.pres_server.specs.Sessions.{session_of}
+use Rattle.pres_history.specs.Sessions.{opens, ends, since_open}
+use Rattle.pres_history.specs.Outcomes.{rows_for}
+use Rattle.pres_history.specs.Listening.{touched}
+use Rattle.pres_server.specs.Answering.{Unnumbered}
+use Rattle.pres_history.specs.Streams.{push_of, repeated_reply, own_answer, sent_for, sent_from, numbered_from, stream, welcome}
+use Rattle.pres_history.proofs.Since.{any-append, before-append}
+use Rattle.pres_history.proofs.StreamSteps.{numbered_from-append, stream_ended}
 use Rattle.pres_ring.specs.Transcripts.{transcript, up_to_open, is_gone}
 use Rattle.pres_ring.specs.Laws.{GoneIsLast}
 use Rattle.pres_ring.proofs.Begins.{told_opened, told_unopened}

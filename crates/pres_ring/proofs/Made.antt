@@ -25,14 +25,15 @@ use Rattle.pres_log.specs.declared.entry.Entry.TheVariants as entry
 use Rattle.pres_log.specs.declared.fault.Fault.TheVariants as fault
 use Rattle.pres_log.specs.Logs.{tree}
 use Rattle.pres_server.specs.declared.input.Input.TheVariants as input
-use Rattle.pres_server.specs.Sessions.{opens, is_open, is_newest, count, last_of, open_sessions, open_sessions_of}
-use Rattle.pres_server.specs.Outcomes.{rows_for}
-use Rattle.pres_server.specs.SessionPlans.{plan}
-use Rattle.pres_server.specs.Listening.{listened}
-use Rattle.pres_server.specs.Turns.{Decision, refused, quiet, makes, end_of, ends_if_open, ends_first, ends_late, within_rows, within_paths, op_by, in_order, if_open, hello, leaves, listens, message, limited}
-use Rattle.pres_server.proofs.Since.{any-append}
-use Rattle.pres_server.proofs.Steps.{or_false}
-use Rattle.pres_server.proofs.Whole.{filter_small}
+use Rattle.pres_history.specs.Sessions.{opens, is_open, is_newest, count, last_of, open_sessions, open_sessions_of}
+use Rattle.pres_history.specs.Outcomes.{rows_for}
+use Rattle.pres_history.specs.SessionPlans.{plan}
+use Rattle.pres_history.specs.Listening.{listened}
+use Rattle.pres_server.specs.Turns.{Decision, refused, quiet, makes, within_rows, within_paths, op_by}
+use Rattle.pres_history.specs.Turns.{end_of, ends_if_open, ends_first, ends_late, in_order, if_open, hello, leaves, listens, message, limited}
+use Rattle.pres_history.proofs.Since.{any-append}
+use Rattle.pres_history.proofs.Steps.{or_false}
+use Rattle.pres_history.proofs.LegalLogs.{filter_small}
 use Rattle.pres_ring.specs.AcceptedMessages.{accepts, accepted, is_hello, is_hello_of, HasNextNumber, IsNextMessage}
 use Rattle.pres_ring.specs.Laws.{AcceptedAdds, AcceptedIsFew}
 

@@ -11,18 +11,21 @@ use Rattle.pres_log.specs.declared.entry.Entry.{Entry}
 use Rattle.pres_log.specs.declared.entry.Entry.TheVariants as entry
 use Rattle.pres_log.specs.Logs.{Log, entries}
 use Rattle.pres_log.proofs.Entries.{entries-push}
-use Rattle.pres_server.specs.Sessions.{session_of, opens, ends, is_open, open_sessions}
-use Rattle.pres_server.specs.Outcomes.{rows_for}
-use Rattle.pres_server.specs.LegalLog.{MayComeTogether, Supersedes}
-use Rattle.pres_server.specs.Streams.{repeated_reply, own_answer, numbered_from, stream, added, is_push, own_added, answers_to, answers}
-use Rattle.pres_server.specs.InternalParts.{Sound}
-use Rattle.pres_server.specs.InternalInvariants.{MayComeUncounted, MayComeInTurn}
-use Rattle.pres_server.proofs.Since.{any-append, session_same}
-use Rattle.pres_server.proofs.Steps.{or_false}
-use Rattle.pres_server.proofs.Parts.{uncounted, not_ended}
-use Rattle.pres_server.proofs.AfterEntry.{sound_after}
-use Rattle.pres_server.proofs.Sent.{push_count}
-use Rattle.pres_server.proofs.Whole.{follows_in_turn, legal_is_sound}
+use Rattle.pres_server.specs.Sessions.{session_of}
+use Rattle.pres_history.specs.Sessions.{opens, ends, is_open, open_sessions}
+use Rattle.pres_history.specs.Outcomes.{rows_for}
+use Rattle.pres_history.specs.LegalLog.{MayComeTogether}
+use Rattle.pres_server.specs.Batches.{Supersedes}
+use Rattle.pres_history.specs.Streams.{repeated_reply, own_answer, numbered_from, stream, added, is_push, own_added, answers_to, answers}
+use Rattle.pres_history.specs.InternalParts.{Sound}
+use Rattle.pres_history.specs.InternalInvariants.{MayComeUncounted, MayComeInTurn}
+use Rattle.pres_history.proofs.Since.{any-append}
+use Rattle.pres_server.proofs.Clients.{session_same}
+use Rattle.pres_history.proofs.Steps.{or_false}
+use Rattle.pres_history.proofs.Parts.{uncounted, not_ended}
+use Rattle.pres_history.proofs.AfterEntry.{sound_after}
+use Rattle.pres_history.proofs.Sent.{push_count}
+use Rattle.pres_history.proofs.LegalLogs.{follows_in_turn, legal_is_sound}
 use Rattle.pres_ring.specs.Transcripts.{is_gone_for}
 use Rattle.pres_ring.specs.Laws.{GoneTells, OpenAfter}
 use Rattle.pres_ring.proofs.ForSession.{own_number}

@@ -10,11 +10,13 @@ use Rattle.pres_log.specs.declared.entry.Entry.{Entry}
 use Rattle.pres_log.specs.Logs.{entries}
 use Rattle.pres_server.specs.declared.input.Input.{Input}
 use Rattle.pres_server.specs.declared.input.Input.TheVariants as input
-use Rattle.pres_server.specs.ServerStates.{ServerState, late_client}
-use Rattle.pres_server.specs.Sessions.{ends, is_open, sessions_of, open_sessions_of}
-use Rattle.pres_server.specs.Turns.{Decision, quiet, makes, moment_of, end_of, ends_if_open, ends_first, hello, message, limited}
-use Rattle.pres_server.proofs.Since.{client_same, session_itself}
-use Rattle.pres_server.proofs.Steps.{or_false, in_open}
+use Rattle.pres_history.specs.ServerStates.{ServerState}
+use Rattle.pres_server.specs.ServerStates.{late_client}
+use Rattle.pres_history.specs.Sessions.{ends, is_open, sessions_of, open_sessions_of}
+use Rattle.pres_server.specs.Turns.{Decision, quiet, makes}
+use Rattle.pres_history.specs.Turns.{moment_of, end_of, ends_if_open, ends_first, hello, message, limited}
+use Rattle.pres_server.proofs.Clients.{client_same, session_itself}
+use Rattle.pres_history.proofs.Steps.{or_false, in_open}
 use Rattle.pres_ring.specs.Laws.{HelloIsNotQuiet, OnlyHelloOpens, AcceptsOne, NextIsNotQuiet, MadeIsNext, IsEnding, LostEnds, SlowEnds, EndsAtRestart, RestartEnds}
 use Rattle.pres_ring.proofs.Made.{same_made, made_within, IsLoud, not_quiet, said, unasked_lost, unasked_first, unasked_late, hello_loud, next_loud}
 

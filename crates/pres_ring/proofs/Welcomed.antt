@@ -10,15 +10,17 @@ use Rattle.pres_log.specs.declared.entry.Entry.TheVariants as entry
 use Rattle.pres_log.specs.Logs.{Log, entries}
 use Rattle.pres_log.proofs.Entries.{entries-push}
 use Rattle.pres_server.specs.declared.input.Input.TheVariants as input
-use Rattle.pres_server.specs.ServerStates.{ServerState}
-use Rattle.pres_server.specs.Sessions.{opens, ends, is_newest, open_sessions, open_sessions_of}
-use Rattle.pres_server.specs.Outcomes.{ops}
-use Rattle.pres_server.specs.LegalLog.{IsLegal}
-use Rattle.pres_server.specs.Streams.{welcome, added, is_push, answers_to, answers}
-use Rattle.pres_server.specs.Turns.{makes, moment_of, hello, batch_of}
-use Rattle.pres_server.proofs.Since.{any-append, session_itself}
-use Rattle.pres_server.proofs.Parts.{not_opened}
-use Rattle.pres_server.proofs.Whole.{legal_after, may_follow}
+use Rattle.pres_history.specs.ServerStates.{ServerState}
+use Rattle.pres_history.specs.Sessions.{opens, ends, is_newest, open_sessions, open_sessions_of}
+use Rattle.pres_history.specs.Outcomes.{ops}
+use Rattle.pres_history.specs.LegalLog.{IsLegal}
+use Rattle.pres_history.specs.Streams.{welcome, added, is_push, answers_to, answers}
+use Rattle.pres_server.specs.Turns.{makes}
+use Rattle.pres_history.specs.Turns.{moment_of, hello, batch_of}
+use Rattle.pres_history.proofs.Since.{any-append}
+use Rattle.pres_server.proofs.Clients.{session_itself}
+use Rattle.pres_history.proofs.Parts.{not_opened}
+use Rattle.pres_history.proofs.LegalLogs.{legal_after, may_follow}
 use Rattle.pres_ring.specs.Transcripts.{transcript, those_for}
 use Rattle.pres_ring.specs.Laws.{IsWelcomed, HelloIsWelcomed}
 use Rattle.pres_ring.proofs.Begins.{told_unopened}

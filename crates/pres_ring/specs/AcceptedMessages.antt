@@ -9,7 +9,7 @@ use Rattle.pres_log.specs.declared.entry.Entry.{Entry}
 use Rattle.pres_log.specs.declared.entry.Entry.TheVariants as entry
 use Rattle.pres_server.specs.declared.input.Input.{Input}
 use Rattle.pres_server.specs.declared.input.Input.TheVariants as input
-use Rattle.pres_server.specs.Sessions.{is_open, count}
+use Rattle.pres_history.specs.Sessions.{is_open, count}
 
 -- a message made the entry: every one but an end that its client didn't ask for
 abbrev pub accepts : Entry → Bool

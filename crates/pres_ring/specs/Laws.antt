@@ -13,11 +13,12 @@ use Rattle.pres_log.specs.declared.entry.Entry.{Entry}
 use Rattle.pres_log.specs.Logs.{Log, entries}
 use Rattle.pres_server.specs.declared.input.Input.{Input}
 use Rattle.pres_server.specs.declared.input.Input.TheVariants as input
-use Rattle.pres_server.specs.ServerStates.{ServerState}
-use Rattle.pres_server.specs.LegalLog.{IsLegal}
-use Rattle.pres_server.specs.Sessions.{opens, ends, is_open, has_open}
-use Rattle.pres_server.specs.Streams.{answers}
-use Rattle.pres_server.specs.Turns.{Decision, quiet, makes, moment_of, end_of, turn}
+use Rattle.pres_history.specs.ServerStates.{ServerState}
+use Rattle.pres_history.specs.LegalLog.{IsLegal}
+use Rattle.pres_history.specs.Sessions.{opens, ends, is_open, has_open}
+use Rattle.pres_history.specs.Streams.{answers}
+use Rattle.pres_server.specs.Turns.{Decision, quiet, makes}
+use Rattle.pres_history.specs.Turns.{moment_of, end_of, turn}
 use Rattle.pres_ring.specs.Transcripts.{transcript, those_for, is_gone, is_gone_for, IsWelcome}
 use Rattle.pres_ring.specs.AcceptedMessages.{accepted, messages_in, is_hello, is_hello_of, HasNextNumber, IsNextMessage}
 

@@ -10,9 +10,9 @@ use Rattle.pres_wire.specs.Messages.{session_for}
 use Rattle.pres_log.specs.declared.entry.Entry.{Entry}
 use Rattle.pres_log.specs.declared.entry.Entry.TheVariants as entry
 use Rattle.pres_log.specs.Logs.{Log, entries}
-use Rattle.pres_server.specs.LegalLog.{IsLegal}
-use Rattle.pres_server.specs.Sessions.{opens}
-use Rattle.pres_server.specs.Streams.{stream, welcome}
+use Rattle.pres_history.specs.LegalLog.{IsLegal}
+use Rattle.pres_history.specs.Sessions.{opens}
+use Rattle.pres_history.specs.Streams.{stream, welcome}
 
 -- the entries up to the one that opens s
 abbrev pub up_to_open : SessionId → List Entry → List Entry

@@ -10,7 +10,7 @@ ghost use Rattle.pres_log.specs.declared.entry.Batch.{Batch};
 ghost use Rattle.pres_log.specs.declared.entry.Entry.{Entry};
 ghost use Rattle.pres_log.specs.Logs.{Log};
 ghost use Rattle.pres_server.specs.declared.input.Input.{Input};
-ghost use Rattle.pres_server.specs.ServerStates.{ServerState};
+ghost use Rattle.pres_history.specs.ServerStates.{ServerState};
 ghost use Rattle.pres_ring.specs.Laws.{AnswersExtendTranscripts, OthersAreSilent, GoneIsLast, GoneTells, OpenAfter, HelloIsWelcomed, HelloIsNotQuiet, OnlyHelloOpens, AcceptsOne, AcceptedAdds, AcceptedIsFew, NextIsNotQuiet, MadeIsNext, LostEnds, SlowEnds, RestartEnds};
 
 /// A batch tells a session those of its answers that are for it, behind what the session was told

@@ -1,8 +1,7 @@
 -- An index that takes in entries, all of them or none.
 use Rattle.std.proofs.Common.{refl, sym, ◌∙◌, ap, subst, ◌≡◌, ℕ, ◌+◌, List, [], ◌∷◌, length, Bool, true, false, cond, true≢false, Option, Some, None, IsSome, is_some, Result, Ok, Err, OnErr}
 use Rattle.std.specs.Option.{option_map}
-use Rattle.std.specs.BTreeMap.{get, is_at, Updates, IsUnchanged}
-use Rattle.std.specs.Map.{lookup}
+use Rattle.std.specs.BTreeMap.{get, Updates}
 use Rattle.pres_tree.specs.Rows.{IsValue}
 use Rattle.pres_write.proofs.Applied.{applied_nothing}
 use Rattle.pres_ids.specs.declared.id.Stamp.{Stamp}
@@ -17,18 +16,14 @@ use Rattle.pres_server.specs.InternalSessions.{Session, last_stamp, live_part}
 use Rattle.pres_server.specs.InternalPushes.{after_pushes}
 use Rattle.pres_server.specs.InternalIndex.{session_at, gone_at, retry_after, Carries, Steps, MayTake}
 use Rattle.pres_server.specs.InternalGrowth.{IsAlike, MayKeep, FindsOpen, HasPlace, IsSilent}
-use Rattle.pres_server.proofs.Since.{client_same}
+use Rattle.pres_server.proofs.Clients.{client_same, same_by_cmp}
 use Rattle.pres_server.proofs.Pushed.{nobody_touched}
-use Rattle.pres_server.proofs.AfterEntry.{same_by_cmp}
 use Rattle.pres_server.specs.InternalSums.{open_of, sum_in, Agrees, MayEnter, MayTakeFrom}
 use Rattle.pres_server.specs.Sums.{Sum, sum_after}
 use Rattle.pres_server.specs.InternalParts.{Part, is_live}
 use Rattle.pres_server.proofs.SumSteps.{part_agrees, agrees_in, first_carries, rest_from}
 
 -- ---- as it was
-
-pub alike_itself : (index : Index) → IsAlike index index
-alike_itself index = record { says = λ sum a. a }
 
 pub alike_then : (a b c : Index) → IsAlike a b → IsAlike b c → IsAlike a c
 alike_then a b c k l = record { says = λ sum h. l.says sum (k.says sum h) }
@@ -72,9 +67,6 @@ room_alike old places k some live others = places_alike old places (λ c. ap (λ
   by : (c : ClientId) (b : Bool) → same_client k c ≡ b → last_stamp (session_at old c) (get client_cmp places.gone c) ≡ last_stamp (session_at old c) (gone_at old c)
   by c true e = told_by_live (session_at old c) (get client_cmp places.gone c) (gone_at old c) (subst (λ d. IsSome (session_at old d)) (client_same k c e) some)
   by c false e = ap (last_stamp (session_at old c)) (others c e)
-
-pub unchanged_alike : (old : Index) (places : ClientSessions) → IsUnchanged old.places.live places.live → places.gone ≡ old.places.gone → IsAlike old (placed places old)
-unchanged_alike old places live gone = places_alike old places (λ c. ap (lookup (is_at (client_cmp c))) live) (λ c. ap (λ m. last_stamp (session_at old c) (get client_cmp m c)) gone)
 
 pub same_alike : (old : Index) (places : ClientSessions) (k : ClientId) → Updates client_cmp old.places.live places.live k (session_at old k) → places.gone ≡ old.places.gone → IsAlike old (placed places old)
 same_alike old places k live gone = places_alike old places (λ c. live.0 c ∙ ap (λ b. cond b (session_at old k) (session_at old c)) (same_by_cmp k c) ∙ by c (same_client k c) refl) (λ c. ap (λ m. last_stamp (session_at old c) (get client_cmp m c)) gone) where

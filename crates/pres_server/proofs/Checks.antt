@@ -14,15 +14,12 @@ use Rattle.pres_log.specs.declared.fault.Fault.{Fault}
 use Rattle.pres_server.specs.declared.turn.TurnEffect.{TurnEffect}
 use Rattle.pres_server.specs.Turns.{Decision, IsRefusal, Decides, quiet, makes}
 use Rattle.pres_server.specs.InternalParts.{LivePart, limited_by, said_by, said, listens_by}
-use Rattle.pres_server.proofs.Since.{session_itself}
+use Rattle.pres_server.proofs.Clients.{session_itself}
 
 -- a result that gives the refusal of a call on
 pub refused_by : (from : Option SessionId) (d : Decision) (r : Result TurnEffect Fault) (f : Fault) → IsErr r × IsErrAnd r (λ x. x ≡ f) → IsRefusal d f → Decides from d r
 refused_by from d (Ok s) f h q = absurd (false≢true h.0)
 refused_by from d (Err x) f h q = subst (IsRefusal d) (sym h.1) q
-
-pub refused_as : (n o : ℕ) (d e : Decision) (f : Fault) → d ≡ e → IsRefusal (limited_by n o e) f → IsRefusal (limited_by n o d) f
-refused_as n o d e f same h = subst (λ x. IsRefusal (limited_by n o x) f) (sym same) h
 
 -- what is decided of a decision is so of the same one
 pub decided_as : (from : Option SessionId) (n o : ℕ) (d e : Decision) (r : Result TurnEffect Fault) → d ≡ e → Decides from (limited_by n o e) r → Decides from (limited_by n o d) r

@@ -1,34 +1,28 @@
 -- When clients were heard of last: the list that is defined is the one that the places of the clients give.
-use Rattle.std.proofs.Common.{refl, sym, ◌∙◌, ap, subst, ◌≡◌, ℕ, max, List, [], ◌∷◌, map, Bool, true, false, not, cond, ◌&&◌, Option, Some, None, T, IsSome, is_some, unwrap_or, IfSome, IfNone}
+use Rattle.std.proofs.Common.{refl, sym, ◌∙◌, ap, subst, ◌≡◌, ℕ, max, List, [], ◌∷◌, map, Bool, true, false, not, cond, ◌&&◌, Option, Some, None, T, IsSome, is_some, unwrap_or}
 use Rattle.std.specs.List.{AllByRecursion}
-use Rattle.std.specs.Borrow.{Bor}
-use Rattle.std.specs.Option.{option_map, option_copied}
+use Rattle.std.specs.Option.{option_map}
 use Rattle.std.specs.Map.{lookup, keys_of}
-use Rattle.std.specs.BTreeMap.{get, is_at, IsOrdered, Updates}
+use Rattle.std.specs.BTreeMap.{is_at, IsOrdered, Updates}
 use Rattle.std.specs.List.Sorted.{IsStrictlySortedBy}
 use Rattle.std.specs.Ordering.{is_lt, is_eq}
 use Rattle.std.specs.declared.cmp.Ordering.TheVariants.{Less}
 use Rattle.std.specs.FinMap.Entries.{find, put, where_key, is_sorted, below_all, find-put, find-where_key, is_sorted-put, is_sorted-where_key, same_entries}
 use Rattle.std.proofs.lemmas.Map.Keys.{sorted_head, sorted_tail}
-use Rattle.pres_ids.specs.declared.id.Stamp.{Stamp}
 use Rattle.pres_ids.specs.Ids.{ClientId, client_cmp, same_client}
-use Rattle.pres_retry.specs.declared.table.Row.{Row}
-use Rattle.pres_retry.specs.Tables.{rows_of}
 use Rattle.pres_log.specs.declared.entry.Entry.{Entry}
 use Rattle.pres_log.specs.declared.entry.Entry.TheVariants as entry
+use Rattle.pres_write.specs.Basics.{BasicWrite}
+use Rattle.pres_fan.specs.Listeners.{touched}
 use Rattle.pres_server.specs.declared.index.Index.{Index}
-use Rattle.pres_server.specs.Sessions.{session_of, has_open}
+use Rattle.pres_server.specs.Sessions.{session_of}
 use Rattle.pres_server.specs.ServerStates.{Heard, heard_last, heard_since, heard_again, heard_after, heard_after_all, first_client}
 use Rattle.pres_server.specs.InternalParts.{plan_after}
-use Rattle.pres_write.specs.Basics.{BasicWrite}
-use Rattle.pres_fan.specs.Listeners.{IsListeners, paths_of, touched}
-use Rattle.pres_server.specs.InternalSessions.{Session, moment_at, live_after, answered, heard_at, sent_to, sent_one}
+use Rattle.pres_server.specs.InternalSessions.{Session, moment_at, live_after, answered, heard_at, sent_one}
 use Rattle.pres_server.specs.InternalPushes.{TouchedSession, Standing, after_push, after_pushes}
-use Rattle.pres_server.specs.InternalIndex.{session_at, gone_at, part_at, sent_at, heard_in, Carries, Steps, Tells, Hears, Indexed}
-use Rattle.pres_server.proofs.Readers.{has_open_is}
-use Rattle.pres_server.proofs.Since.{client_same, client_itself, client_sym}
-use Rattle.pres_server.proofs.AfterEntry.{clients_total, clients_apart, same_by_cmp}
-use Rattle.pres_server.proofs.Taken.{live_new, part_in}
+use Rattle.pres_server.specs.InternalIndex.{session_at, heard_in, Carries, Steps, Tells, Hears}
+use Rattle.pres_server.proofs.Clients.{client_same, client_itself, client_sym, clients_total, clients_apart, same_by_cmp}
+use Rattle.pres_server.proofs.Taken.{live_new}
 
 -- ---- the list, client by client
 
@@ -179,10 +173,6 @@ heard_is heard index s o t =
 
 -- ---- a client that was heard of
 
-part_heard : (m : ℕ) (live : Option Session) (last : Option Stamp) (rows : List Row) → part_in (heard_at m live) last rows ≡ part_in live last rows
-part_heard m None last rows = refl
-part_heard m (Some session) last rows = refl
-
 some_of : (o : Option Session) (x : Session) → o ≡ Some x → IsSome o
 some_of o x h = ap is_some h
 
@@ -195,24 +185,6 @@ hears k m old new known stranger g r l t = record { live = λ c. by (session_at 
   by None h c false s = ap (λ es. lookup (is_at (client_cmp c)) es) (stranger h)
   by (Some x) h c b s = (known (some_of (session_at old k) x h)).0 c ∙ ap (λ t. cond t (heard_at m (session_at old k)) (session_at old c)) (same_by_cmp k c ∙ s)
 
-pub hear_parts : (k : ClientId) (m : ℕ) (old new : Index) → Hears k m old new → (c : ClientId) → part_at new c ≡ part_at old c
-hear_parts k m old new h c = by (same_client k c) refl where
-  by : (b : Bool) → same_client k c ≡ b → part_at new c ≡ part_at old c
-  by true s = subst (λ x. part_at new x ≡ part_at old x) (client_same k c s)
-      ((λ i. part_in ((h.live k ∙ ap (λ b. cond b (heard_at m (session_at old k)) (session_at old k)) (client_itself k)) i) (get client_cmp (h.gone i) k) (rows_of k (h.retry i)))
-      ∙ part_heard m (session_at old k) (gone_at old k) (rows_of k old.retry))
-  by false s = λ i. part_in ((h.live c ∙ ap (λ b. cond b (heard_at m (session_at old k)) (session_at old c)) s) i) (get client_cmp (h.gone i) c) (rows_of c (h.retry i))
-
-sent_heard : (m : ℕ) (live : Option Session) → sent_to (heard_at m live) ≡ sent_to live
-sent_heard m None = refl
-sent_heard m (Some session) = refl
-
-hear_sent : (k : ClientId) (m : ℕ) (old new : Index) → Hears k m old new → (c : ClientId) → sent_at new c ≡ sent_at old c
-hear_sent k m old new h c = ap sent_to (h.live c) ∙ by (same_client k c) refl where
-  by : (b : Bool) → same_client k c ≡ b → sent_to (cond b (heard_at m (session_at old k)) (session_at old c)) ≡ sent_at old c
-  by true s = sent_heard m (session_at old k) ∙ ap (sent_at old) (client_same k c s)
-  by false s = refl
-
 pub hear_tells : (k : ClientId) (m : ℕ) (old new : Index) (heard : Heard) → Hears k m old new → Tells heard old → Tells (heard_again k m heard) new
 hear_tells k m old new heard h t = λ c. by c (same_client k c) refl where
   by : (c : ClientId) (b : Bool) → same_client k c ≡ b → heard_last (heard_again k m heard) c ≡ moment_at (session_at new c)
@@ -223,15 +195,6 @@ hear_tells k m old new heard h t = λ c. by c (same_client k c) refl where
 
 pub hear_is : (k : ClientId) (m : ℕ) (old new : Index) → Hears k m old new → IsOrdered client_cmp old.places.live → IsOrdered client_cmp new.places.live → heard_in new ≡ heard_again k m (heard_in old)
 hear_is k m old new h o p = heard_is (heard_again k m (heard_in old)) new (again_sorted k m (heard_in old) (heard_sorted old o)) p (hear_tells k m old new (heard_in old) h (heard_tells old))
-
-pub indexed_still : (es : List Entry) (k : ClientId) (m : ℕ) (old new : Index) → Hears k m old new → Indexed es old → Indexed es new
-indexed_still es k m old new h ix = record {
-  parts = λ c. hear_parts k m old new h c ∙ ix.parts c;
-  sent = λ c. hear_sent k m old new h c ∙ ix.sent c;
-  listens = λ s. ap (paths_of s) h.listeners ∙ ix.listens s;
-  held = subst IsListeners (sym h.listeners) ix.held;
-  tree = h.tree ∙ ix.tree;
-}
 
 -- ---- the first client that has a session open
 
@@ -245,13 +208,7 @@ pub none_heard : (heard : Heard) (c : ClientId) → first_client heard ≡ None 
 none_heard [] c h = refl
 none_heard (e ∷ heard) c h = absurd (cc h)
 
-has_heard : (es : List Entry) (index : Index) (c : ClientId) → Indexed es index → is_some (heard_last (heard_in index) c) ≡ has_open c es
-has_heard es index c ix = ap is_some (heard_tells index c) ∙ has_open_is es index c ix
+-- ---- the commit
 
-pub first_tells : (es : List Entry) (index : Index) (r : Option (Bor ClientId)) → Indexed es index → option_copied r ≡ first_client (heard_in index) → IfSome r (λ c. has_open c.now es ≡ true)
-first_tells es index None ix h = tt
-first_tells es index (Some c) ix h = sym (has_heard es index c.now ix) ∙ first_heard (heard_in index) c.now (sym h)
-
-pub first_none : (es : List Entry) (index : Index) (r : Option (Bor ClientId)) → Indexed es index → option_copied r ≡ first_client (heard_in index) → IfNone r ((c : ClientId) → has_open c es ≡ false)
-first_none es index None ix h = λ c. sym (has_heard es index c ix) ∙ none_heard (heard_in index) c (sym h)
-first_none es index (Some c) ix h = tt
+pub heard_done : (m : ℕ) (es : List Entry) (old new : Index) → IsOrdered client_cmp old.places.live → IsOrdered client_cmp new.places.live → Tells (heard_after_all m es (heard_in old)) new → heard_in new ≡ heard_after_all m es (heard_in old)
+heard_done m es old new o p t = heard_is (heard_after_all m es (heard_in old)) new (sorted_after_all m es (heard_in old) (heard_sorted old o)) p t

@@ -21,12 +21,12 @@ use Rattle.pres_log.specs.declared.entry.Entry.{Entry}
 use Rattle.pres_log.specs.declared.entry.Entry.TheVariants as entry
 use Rattle.pres_log.specs.Logs.{writes_of}
 use Rattle.pres_server.specs.Sessions.{session_of}
-use Rattle.pres_server.specs.LegalLog.{Supersedes}
+use Rattle.pres_server.specs.Batches.{Supersedes}
 use Rattle.pres_server.specs.InternalParts.{LivePart, Part, comes_after, same_stamp, is_live, open_step, open_steps}
 use Rattle.pres_server.specs.InternalIndex.{listeners_after}
 use Rattle.pres_server.specs.InternalPushes.{TouchedSession}
 use Rattle.pres_server.specs.InternalFollows.{IsNextIn, IsNextBy, IsNewerBy, MayComeBy, MayComeTogetherBy}
-use Rattle.pres_server.proofs.Since.{client_same, client_itself, session_same}
+use Rattle.pres_server.proofs.Clients.{client_same, client_itself, session_same}
 use Rattle.pres_server.proofs.Sorted.{sorted_put}
 use Rattle.pres_server.proofs.PlanSteps.{number_in, asked_by}
 use Rattle.pres_server.specs.InternalSums.{MayEnter, MayEnterAll}

@@ -12,11 +12,8 @@ use Rattle.std.proofs.lemmas.List.{length-map}
 use Rattle.std.proofs.lemmas.List.Kept.{IsStrictlySortedBy-filter}
 use Rattle.std.proofs.lemmas.Map.Keys.{sorted_head, sorted_tail}
 use Rattle.pres_ids.specs.Ids.{ClientId, client_cmp, same_client}
-use Rattle.pres_server.specs.InternalSessions.{Session}
-use Rattle.pres_server.proofs.Since.{client_same, client_sym}
-use Rattle.pres_server.proofs.AfterEntry.{clients_total, clients_apart, same_by_cmp}
+use Rattle.pres_server.proofs.Clients.{client_same, client_sym, clients_total, clients_apart, same_by_cmp}
 use Rattle.pres_server.proofs.Sorted.{sorted_put}
-use Rattle.pres_server.proofs.Heard.{behind}
 use Rattle.pres_server.specs.Sums.{changed}
 
 -- the value of the client
@@ -84,36 +81,6 @@ keys_changed k f (e ∷ es) = ap (λ l. e.0 ∷ l) (keys_changed k f es)
 
 pub sorted_changed : {X : Type 0} (k : ClientId) (f : X → X) (es : List (ClientId × X)) → IsStrictlySortedBy client_cmp (keys_of es) → IsStrictlySortedBy client_cmp (keys_of (changed k f es))
 sorted_changed k f es h = subst (IsStrictlySortedBy client_cmp) (sym (keys_changed k f es)) h
-
--- ---- the same of each session, as something else
-
-abbrev pub each : {X : Type 0} → (Session → X) → List (ClientId × Session) → List (ClientId × X)
-each g es = behind (λ _ session. g session) es
-
-pub each_put : {X : Type 0} (g : Session → X) (k : ClientId) (v : Session) (es : List (ClientId × Session)) → each g (put client_cmp k v es) ≡ put client_cmp k (g v) (each g es)
-each_put g k v [] = refl
-each_put g k v (e ∷ es) = by (client_cmp k e.0) (each_put g k v es) where
-  by : (o : Ordering) → each g (put client_cmp k v es) ≡ put client_cmp k (g v) (each g es)
-      → each g (by_order o ((k, v) ∷ e ∷ es) ((e.0, v) ∷ es) (e ∷ put client_cmp k v es))
-      ≡ by_order o ((k, g v) ∷ (e.0, g e.1) ∷ each g es) ((e.0, g v) ∷ each g es) ((e.0, g e.1) ∷ put client_cmp k (g v) (each g es))
-  by Less r = refl
-  by Equal r = refl
-  by Greater r = ap (λ l. (e.0, g e.1) ∷ l) r
-
-pub each_others : {X : Type 0} (g : Session → X) (k : ClientId) (es : List (ClientId × Session)) → each g (others k es) ≡ others k (each g es)
-each_others g k [] = refl
-each_others g k (e ∷ es) = by (not (same_client k e.0)) (each_others g k es) where
-  by : (b : Bool) → each g (others k es) ≡ others k (each g es) → each g (cond b (e ∷ others k es) (others k es)) ≡ cond b ((e.0, g e.1) ∷ others k (each g es)) (others k (each g es))
-  by true r = ap (λ l. (e.0, g e.1) ∷ l) r
-  by false r = r
-
-pub each_changed : {X : Type 0} (g : Session → X) (k : ClientId) (f : Session → Session) (h : X → X) → ((session : Session) → g (f session) ≡ h (g session)) → (es : List (ClientId × Session))
-    → each g (changed k f es) ≡ changed k h (each g es)
-each_changed g k f h same [] = refl
-each_changed g k f h same (e ∷ es) = λ i. (e.0, by (same_client k e.0) i) ∷ each_changed g k f h same es i where
-  by : (b : Bool) → g (cond b (f e.1) e.1) ≡ cond b (h (g e.1)) (g e.1)
-  by true = same e.1
-  by false = refl
 
 -- ---- what is found, and how many there are
 

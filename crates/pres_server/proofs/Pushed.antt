@@ -15,11 +15,11 @@ use Rattle.pres_wire.specs.Values.{Rising}
 use Rattle.pres_fan.specs.declared.listeners.Listener.{Listener}
 use Rattle.pres_fan.specs.Listeners.{is_touched, by_session, touched}
 use Rattle.pres_server.specs.declared.client_sessions.ClientSessions.{ClientSessions}
-use Rattle.pres_server.specs.Streams.{shown}
+use Rattle.pres_server.specs.Answering.{shown}
 use Rattle.pres_server.specs.InternalSessions.{sent_one}
 use Rattle.pres_server.specs.InternalPushes.{TouchedSession, Standing, standing, after_push, push_to, pushes}
-use Rattle.pres_server.proofs.Since.{client_same}
-use Rattle.pres_server.proofs.AfterEntry.{same_by_cmp}
+use Rattle.pres_server.proofs.Clients.{client_same}
+use Rattle.pres_server.proofs.Clients.{same_by_cmp}
 
 -- what stands at paths that rise
 pub shown_rises : (tree : Rows Scalar) (paths : List Path) → IsStrictlySortedBy path_cmp paths → Rising (map (shown tree) paths)

@@ -1,21 +1,17 @@
 -- The sessions that an entry reaches, among the open ones in byte order of their clients.
-use Rattle.std.proofs.Common.{refl, sym, ◌∙◌, ap, subst, ◌≡◌, ℕ, List, [], ◌∷◌, ◌++◌, map, Bool, true, false, cond, ◌||◌, ◌&&◌, ◌==◌, Option, Some, None, T, Ordering, Less, Equal, Greater}
-use Rattle.std.specs.List.{list_any, flat_map, AllByRecursion}
+use Rattle.std.proofs.Common.{refl, sym, ◌∙◌, ap, subst, ◌≡◌, List, [], ◌∷◌, map, Bool, true, false, cond, ◌||◌, ◌&&◌, ◌==◌, Option, Some, None, T, Ordering, Less, Equal, Greater}
+use Rattle.std.specs.List.{list_any, AllByRecursion}
 use Rattle.std.specs.Ordering.{is_lt, is_eq, ordering_then, nat_cmp}
 use Rattle.std.specs.FinMap.Entries.{find, is_sorted, below_all}
-use Rattle.pres_tree.specs.declared.scalar.Scalar.{Scalar}
 use Rattle.pres_tree.specs.Paths.{Path}
-use Rattle.pres_tree.specs.Rows.{Rows}
 use Rattle.pres_ids.specs.declared.id.SessionId.{SessionId}
-use Rattle.pres_wire.specs.declared.down.Down.{Down}
 use Rattle.pres_ids.specs.Ids.{ClientId, client_cmp, same_client, same_session}
 use Rattle.pres_fan.specs.Listeners.{session_cmp}
 use Rattle.pres_fan.specs.Laws.{some_paths}
 use Rattle.pres_fan.proofs.Orders.{same_by_cmp as same_by_session}
 use Rattle.pres_server.specs.InternalSessions.{Session, sent_one, MaySend}
-use Rattle.pres_server.specs.InternalPushes.{TouchedSession, Standing, after_push, after_pushes, push_to, pushes, MayPush, MayPushAll}
-use Rattle.pres_server.proofs.Since.{client_same, client_sym, session_same}
-use Rattle.pres_server.proofs.AfterEntry.{same_by_cmp, by_client}
+use Rattle.pres_server.specs.InternalPushes.{TouchedSession, Standing, after_push, after_pushes, MayPush, MayPushAll}
+use Rattle.pres_server.proofs.Clients.{client_same, client_sym, session_same, same_by_cmp, by_client}
 
 -- in byte order of clients, each client once
 abbrev pub InOrder : List SessionId → Type 0
@@ -25,11 +21,11 @@ InOrder ss = T (is_sorted client_cmp (map by_client ss))
 abbrev pub Below : ClientId → List SessionId → Type 0
 Below c ss = T (below_all client_cmp c (map by_client ss))
 
-first : (a b : Bool) → T (a && b) → T a
+pub first : (a b : Bool) → T (a && b) → T a
 first true b h = tt
 first false b h = h
 
-second : (a b : Bool) → T (a && b) → T b
+pub second : (a b : Bool) → T (a && b) → T b
 second true b h = h
 second false b h = absurd h
 
@@ -37,7 +33,7 @@ both : (a b : Bool) → T a → T b → T (a && b)
 both true b h k = k
 both false b h k = h
 
-apart : (c k : ClientId) → T (is_lt (client_cmp c k)) → same_client c k ≡ false
+pub apart : (c k : ClientId) → T (is_lt (client_cmp c k)) → same_client c k ≡ false
 apart c k h = sym (same_by_cmp c k) ∙ by (client_cmp c k) h where
   by : (o : Ordering) → T (is_lt o) → is_eq o ≡ false
   by Less t = refl
@@ -97,33 +93,9 @@ after_reached g (s ∷ ss) live h c = by (g s) refl (same_client c s.client) ref
 
 -- ---- what they are sent
 
-abbrev pub push_here : ℕ → Rows Scalar → Standing → SessionId → List Path → List Down
-push_here z tree live s [] = []
-push_here z tree live s (p ∷ paths) = push_to z tree live (s, p ∷ paths)
-
-here_alike : (z : ℕ) (tree : Rows Scalar) (live new : Standing) (s : SessionId) (ps : List Path) → new s.client ≡ live s.client → push_here z tree new s ps ≡ push_here z tree live s ps
-here_alike z tree live new s [] e = refl
-here_alike z tree live new s (p ∷ ps) e = λ i. push_to z tree (λ c. e i) (s, p ∷ ps)
-
 -- who stands after a Push to another client's session stands as before
-after_other : (live : Standing) (s : SessionId) (ps : List Path) (c : ClientId) → same_client s.client c ≡ false → after_push live (s, ps) c ≡ live c
+pub after_other : (live : Standing) (s : SessionId) (ps : List Path) (c : ClientId) → same_client s.client c ≡ false → after_push live (s, ps) c ≡ live c
 after_other live s ps c n = ap (λ b. cond b (sent_one (live c)) (live c)) n
-
-rest_alike : (z : ℕ) (tree : Rows Scalar) (g : SessionId → List Path) (live new : Standing) (k : ClientId) → ((c : ClientId) → same_client k c ≡ false → new c ≡ live c)
-    → (ss : List SessionId) → Below k ss → flat_map (λ s. push_here z tree new s (g s)) ss ≡ flat_map (λ s. push_here z tree live s (g s)) ss
-rest_alike z tree g live new k e [] h = refl
-rest_alike z tree g live new k e (s ∷ ss) h =
-    λ i. here_alike z tree live new s (g s) (e s.client (apart k s.client (first _ _ h))) i ++ rest_alike z tree g live new k e ss (second _ _ h) i
-
-pub pushes_reached : (z : ℕ) (tree : Rows Scalar) (g : SessionId → List Path) (ss : List SessionId) (live : Standing) → InOrder ss → pushes z tree live (reached g ss) ≡ flat_map (λ s. push_here z tree live s (g s)) ss
-pushes_reached z tree g [] live h = refl
-pushes_reached z tree g (s ∷ ss) live h = by (g s) (λ l. pushes_reached z tree g ss l (second _ _ h)) where
-  by : (ps : List Path) → ((l : Standing) → pushes z tree l (reached g ss) ≡ flat_map (λ s. push_here z tree l s (g s)) ss)
-      → pushes z tree live (reach ps s (reached g ss)) ≡ push_here z tree live s ps ++ flat_map (λ s. push_here z tree live s (g s)) ss
-  by [] r = r live
-  by (p ∷ ps) r =
-      ap (λ l. push_to z tree live (s, p ∷ ps) ++ l) (r (after_push live (s, p ∷ ps))
-      ∙ rest_alike z tree g live (after_push live (s, p ∷ ps)) s.client (λ c n. after_other live s (p ∷ ps) c n) ss (first _ _ h))
 
 -- ---- that they may be sent it
 
@@ -223,7 +195,3 @@ all_members P (s ∷ ss) h itself = (h s (ap (λ b. b || list_any (same_session 
   later : (a b : Bool) → b ≡ true → (a || b) ≡ true
   later true b k = refl
   later false b k = k
-
-pub flat_alike : {A : Type 0} (P : SessionId → Type 0) (f g : SessionId → List A) (ss : List SessionId) → AllByRecursion P ss → ((s : SessionId) → P s → f s ≡ g s) → flat_map f ss ≡ flat_map g ss
-flat_alike P f g [] a e = refl
-flat_alike P f g (s ∷ ss) a e = λ i. e s a.0 i ++ flat_alike P f g ss a.1 e i

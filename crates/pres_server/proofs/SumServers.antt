@@ -29,8 +29,8 @@ use Rattle.pres_server.specs.SumTurns.{FollowsSum, moment_by, turn_by, batch_by}
 use Rattle.pres_server.specs.Histories.{IsSum}
 use Rattle.pres_server.specs.Replays.{heard_by}
 use Rattle.pres_server.specs.InternalSums.{open_of, sessions_in, gone_in, sum_in, Agrees, MayTakeFrom}
-use Rattle.pres_server.proofs.Since.{client_same}
-use Rattle.pres_server.proofs.AfterEntry.{clients_total, clients_apart}
+use Rattle.pres_server.proofs.Clients.{client_same}
+use Rattle.pres_server.proofs.Clients.{clients_total, clients_apart}
 use Rattle.pres_server.proofs.Heard.{find_behind, keys_behind, behind_sorted, heard_tells, first_heard, none_heard}
 use Rattle.pres_server.proofs.KeptSums.{After, after_all, enters, pair_of}
 use Rattle.pres_server.proofs.Keyed.{in_order}

@@ -28,7 +28,7 @@ use Rattle.pres_log.specs.Logs.{writes_of}
 use Rattle.pres_server.specs.declared.index.Index.{Index}
 use Rattle.pres_server.specs.declared.index.LogPosition.{LogPosition}
 use Rattle.pres_server.specs.Sessions.{session_of}
-use Rattle.pres_server.specs.Streams.{shown}
+use Rattle.pres_server.specs.Answering.{shown}
 use Rattle.pres_server.specs.InternalParts.{LivePart, Part, IsAsked, plan_in, plan_after, comes_after, is_live, message_next, answer_by}
 use Rattle.pres_server.specs.InternalSessions.{Session, live_after, last_stamp, live_part, sent_to, sent_one, HasRoom, MaySend, MayOpen, MayLeaveAt, AreDueAt}
 use Rattle.pres_server.specs.InternalSessions as places
@@ -39,8 +39,8 @@ use Rattle.pres_server.specs.Sums.{Sum, OpenSession, OpenSessions, live_of, part
 use Rattle.pres_server.specs.SumAnswers.{pushes_by, answers_to_by}
 use Rattle.pres_server.specs.Histories.{IsOpenSession, Keeps}
 use Rattle.pres_server.specs.InternalSums.{open_of, is_gone, sessions_in, gone_in, sum_in, Agrees, MayEnter, MayEnterAll, MayTakeFrom}
-use Rattle.pres_server.proofs.Since.{client_same, session_itself}
-use Rattle.pres_server.proofs.AfterEntry.{clients_total, clients_apart, same_by_cmp}
+use Rattle.pres_server.proofs.Clients.{client_same, session_itself}
+use Rattle.pres_server.proofs.Clients.{clients_total, clients_apart, same_by_cmp}
 use Rattle.pres_server.proofs.Reached.{may_reach, all_members}
 use Rattle.pres_server.proofs.Heard.{find_behind, behind_sorted}
 use Rattle.pres_server.proofs.Taken.{may_open, is_again, leaves_by, due_by, live_new, gone_changed}

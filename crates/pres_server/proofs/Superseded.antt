@@ -23,7 +23,7 @@ use Rattle.pres_server.specs.InternalSessions.{began}
 use Rattle.pres_server.specs.InternalIndex.{session_at, gone_at, Carries}
 use Rattle.pres_server.specs.Sums.{Sum, OpenSessions, began as starts, pushed, carried, sum_after}
 use Rattle.pres_server.specs.InternalSums.{open_of, Agrees}
-use Rattle.pres_server.proofs.AfterEntry.{same_by_cmp}
+use Rattle.pres_server.proofs.Clients.{same_by_cmp}
 use Rattle.pres_server.proofs.Pushed.{nobody_touched}
 use Rattle.pres_server.proofs.Keyed.{others, find_put, find_others}
 use Rattle.pres_server.proofs.SumSteps.{agrees_carried}

@@ -21,8 +21,8 @@ use Rattle.pres_log.specs.Logs.{writes_of}
 use Rattle.pres_server.specs.InternalParts.{IsAsked, is_live, session_with}
 use Rattle.pres_server.specs.InternalSessions.{Session, sent_one}
 use Rattle.pres_server.specs.InternalPushes.{TouchedSession, Standing, after_push, after_pushes}
-use Rattle.pres_server.proofs.Since.{client_same, client_itself}
-use Rattle.pres_server.proofs.AfterEntry.{same_by_cmp, by_client}
+use Rattle.pres_server.proofs.Clients.{client_same, client_itself}
+use Rattle.pres_server.proofs.Clients.{same_by_cmp, by_client}
 use Rattle.pres_server.proofs.Reached.{InOrder, reached, stepped, step_by, after_reached, find_reached, reached_sorted, is_found, any_found}
 use Rattle.pres_server.specs.Sums.{Sum, OpenSession, OpenSessions, live_of, part_by, part_in, paths_in, is_open_in, sent_more, pushed, carried}
 use Rattle.pres_server.specs.Histories.{IsOpenSession, Keeps}

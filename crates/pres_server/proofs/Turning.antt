@@ -1,6 +1,6 @@
 -- What a turn makes, by the sum, may follow.
 use Rattle.std.proofs.Common.{refl, sym, ◌∙◌, ap, subst, ◌≡◌, ◌≢◌, ℕ, ◌+◌, ◌-◌, ◌^◌, ◌≤◌, List, [], ◌∷◌, ◌++◌, map, length, Bool, true, false, cond, ◌==◌, nat_lt, nat_le, arith, IsTrue, Option, Some, None, slice_get, unwrap_or}
-use Rattle.std.proofs.lemmas.Bool.{eqb-true}
+use Rattle.std.proofs.lemmas.Bool.{eqb-true, and_from, eq-eqb}
 use Rattle.std.proofs.lemmas.Bool.Decides.{nat_tests}
 use Rattle.std.proofs.lemmas.Option.{slice_get_past}
 use Rattle.pres_tree.specs.Paths.{Path}
@@ -21,21 +21,28 @@ use Rattle.pres_fan.specs.Listeners.{most_paths}
 use Rattle.pres_log.specs.declared.entry.Entry.{Entry}
 use Rattle.pres_log.specs.declared.entry.Entry.TheVariants as entry
 use Rattle.pres_log.specs.declared.fault.Fault.TheVariants as fault
+use Rattle.pres_ids.specs.declared.id.Stamp.{Stamp}
 use Rattle.pres_server.specs.declared.input.Input.{Input}
 use Rattle.pres_server.specs.declared.input.Input.TheVariants as input
 use Rattle.pres_server.specs.Sessions.{session_of}
-use Rattle.pres_server.specs.LegalLog.{IsPlain, Supersedes}
+use Rattle.pres_server.specs.Batches.{IsPlain, Supersedes}
 use Rattle.pres_server.specs.ServerStates.{Heard, late_client}
 use Rattle.pres_server.specs.Turns.{Decision, refused, quiet, makes, op_by, within_rows, within_paths}
 use Rattle.pres_server.specs.InternalParts.{LivePart, comes_after, same_stamp, is_live, session_with, listed, said_by, plan_in, end_by, hello_by, message_by, ends_live, ends_of, ends_late_by, wanted_by, open_step, open_steps, limited_by}
 use Rattle.pres_server.specs.InternalFollows.{IsNextIn, IsNextBy, IsEndNumberBy, MayComeBy, IsNewerBy, MayComeTogetherBy}
-use Rattle.pres_server.proofs.Decide.{from_one, stamp_itself}
 use Rattle.pres_server.specs.Sums.{Sum, part_in, paths_in}
 use Rattle.pres_server.specs.SumStates.{SumState}
 use Rattle.pres_server.specs.SumTurns.{FollowsSum, moment_by, turn_by, batch_by}
 use Rattle.pres_server.specs.Histories.{IsSum}
 use Rattle.pres_server.specs.InternalSums.{MayEnter}
 use Rattle.pres_server.proofs.KeptSums.{pair_of, next_open}
+
+-- a number that isn't 0
+pub from_one : (n : ℕ) → (n == 0) ≡ false → 1 ≤ n
+from_one n h = grind (arith, nat_tests)
+
+pub stamp_itself : (s : Stamp) → same_stamp s s ≡ true
+stamp_itself s = and_from _ _ (eq-eqb s.incarnation s.incarnation refl) (eq-eqb s.attempt s.attempt refl)
 
 -- ---- what is asked for may come, but for the limits
 

@@ -16,7 +16,7 @@ use Rattle.pres_log.specs.declared.entry.Entry.TheVariants as entry
 use Rattle.pres_server.specs.declared.index.Index.{Index}
 use Rattle.pres_server.specs.declared.turn.TurnTime.{TurnTime}
 use Rattle.pres_server.specs.Sessions.{session_of}
-use Rattle.pres_server.specs.LegalLog.{IsPlain, Supersedes}
+use Rattle.pres_server.specs.Batches.{IsPlain, Supersedes}
 use Rattle.pres_server.specs.InternalParts.{LivePart, Part, plan_in, plan_after, comes_after, is_live, count_in, open_steps}
 use Rattle.pres_server.specs.InternalSessions.{open_count}
 use Rattle.pres_server.specs.InternalIndex.{part_at, paths_at}

@@ -1,5 +1,5 @@
 -- What the index of a log says, as plain data, and how an entry changes it.
-use Rattle.std.specs.Prelude.{◌≡◌, ◌<◌, ◌≤◌, ℕ, ◌+◌, ◌-◌, ◌^◌, Option, Some, None, List, [], ◌++◌, length, slice_get, if◌then◌else◌, IsSome, Result}
+use Rattle.std.specs.Prelude.{◌≡◌, ◌<◌, ◌≤◌, ℕ, ◌+◌, ◌-◌, ◌^◌, Option, Some, None, List, ◌++◌, length, slice_get, if◌then◌else◌, IsSome, Result}
 use Rattle.std.specs.Option.{option_map}
 use Rattle.std.specs.BTreeMap.{get, Updates}
 use Rattle.pres_tree.specs.Paths.{Path}
@@ -18,17 +18,16 @@ use Rattle.pres_log.specs.declared.entry.Entry.TheVariants as entry
 use Rattle.pres_log.specs.declared.fault.Fault.{Fault}
 use Rattle.pres_log.specs.Logs.{tree, writes_of}
 use Rattle.pres_fan.specs.declared.listeners.Listener.{Listener}
-use Rattle.pres_fan.specs.Listeners.{IsListeners, most_paths, paths_of, with_listener, without, without_session, touched}
+use Rattle.pres_fan.specs.Listeners.{most_paths, paths_of, with_listener, without, without_session, touched}
 use Rattle.pres_server.specs.declared.index.Index.{Index}
 use Rattle.pres_server.specs.declared.index.LogPosition.{LogPosition}
 use Rattle.pres_server.specs.declared.input.Input.{Input}
 use Rattle.pres_server.specs.declared.turn.TurnTime.{TurnTime}
 use Rattle.pres_server.specs.declared.turn.TurnEffect.{TurnEffect}
-use Rattle.pres_server.specs.Sessions.{session_of, is_open}
-use Rattle.pres_server.specs.Listening.{listened}
+use Rattle.pres_server.specs.Sessions.{session_of}
 use Rattle.pres_server.specs.ServerStates.{Heard, heard_last, heard_from}
 use Rattle.pres_server.specs.Turns.{Decision, Decides, op_by}
-use Rattle.pres_server.specs.InternalParts.{LivePart, Part, part_of, sent_of, limited_by, wanted_by, answer_by}
+use Rattle.pres_server.specs.InternalParts.{LivePart, Part, limited_by, wanted_by, answer_by}
 use Rattle.pres_server.specs.InternalPushes.{after_pushes, pushes, MayPushAll}
 use Rattle.pres_server.specs.InternalSessions.{Session, last_stamp, moment_at, sent_to, live_part, live_after, heard_at, heard_of_all, HasRoom, MayLeaveAt, AreDueAt, open_count, MayOpen}
 
@@ -159,11 +158,3 @@ pub record TakesEntry (made : LogPosition) (e : Entry) (old new : Index) (before
   pub carried : Carries (writes_of e) old between
   pub steps : StepsAt made between new e
   pub answers : after ≡ before ++ (pushes made.number between.tree (session_at old) (touched (writes_of e) old.listeners) ++ answer_on between made e)
-
--- the index says what the entries say
-pub record Indexed (es : List Entry) (index : Index) : Type 0 where
-  pub parts : (c : ClientId) → part_at index c ≡ part_of c es
-  pub sent : (c : ClientId) → sent_at index c ≡ sent_of c es
-  pub listens : (s : SessionId) → paths_at index s ≡ (if is_open s es then listened s es else [])
-  pub held : IsListeners index.listeners
-  pub tree : index.tree ≡ tree es

@@ -1,7 +1,5 @@
--- What the log says of each client: plain data, changed by one entry, and what an input asks for by it.
-use Rattle.std.specs.Prelude.{ℕ, ◌+◌, ◌-◌, ◌≡◌, Bool, true, List, [], ◌∷◌, ◌++◌, ◌<◌, All, map, length, Option, Some, None, slice_get, ◌^◌, false, ◌&&◌, if◌then◌else◌, nat_lt, nat_le, ◌==◌, unwrap_or, Result, Ok, Err}
-use Rattle.std.specs.List.{list_any}
-use Rattle.std.specs.Option.{option_map}
+-- What is known of each client: plain data, changed by one entry, and what an input asks for by it.
+use Rattle.std.specs.Prelude.{ℕ, ◌+◌, ◌-◌, Bool, true, List, [], ◌∷◌, ◌++◌, ◌<◌, All, map, length, Option, Some, None, slice_get, ◌^◌, false, ◌&&◌, if◌then◌else◌, nat_lt, nat_le, ◌==◌, unwrap_or, Result, Ok, Err}
 use Rattle.pres_write.specs.Outcomes.{kept_of}
 use Rattle.pres_ids.specs.declared.id.Stamp.{Stamp}
 use Rattle.pres_ids.specs.declared.id.SessionId.{SessionId}
@@ -11,11 +9,7 @@ use Rattle.pres_ids.specs.Ids.{ClientId, stamp_of, is_earlier}
 use Rattle.pres_retry.specs.declared.table.Row.{Row}
 use Rattle.pres_log.specs.declared.entry.Entry.{Entry}
 use Rattle.pres_log.specs.declared.entry.Entry.TheVariants as entry
-use Rattle.pres_server.specs.Sessions.{opens, ends, count, open_sessions_of, is_newest, last_of}
-use Rattle.pres_server.specs.Outcomes.{rows_for}
-use Rattle.pres_server.specs.SessionPlans.{plan}
 use Rattle.pres_fan.specs.Listeners.{add_path}
-use Rattle.pres_server.specs.Streams.{Unnumbered, stream}
 use Rattle.pres_tree.specs.declared.scalar.Scalar.{Scalar}
 use Rattle.pres_tree.specs.Paths.{Path}
 use Rattle.pres_tree.specs.Rows.{Rows, value_at}
@@ -30,6 +24,7 @@ use Rattle.pres_plan.specs.Plans.{puts, cancels, plan_of, due}
 use Rattle.pres_write.specs.Unconditionals.{puts_of}
 use Rattle.pres_log.specs.declared.fault.Fault.{Fault}
 use Rattle.pres_log.specs.declared.fault.Fault.TheVariants as fault
+use Rattle.pres_server.specs.Answering.{Unnumbered}
 use Rattle.pres_server.specs.declared.input.Input.{Input}
 use Rattle.pres_server.specs.declared.input.Input.TheVariants as input
 use Rattle.pres_server.specs.ServerStates.{Heard, late_client}
@@ -47,48 +42,11 @@ pub record Part : Type 0 where
   pub rows : List Row
   pub live : Option LivePart
 
-abbrev pub live_in : List SessionId → List Entry → Option LivePart
-live_in [] es = None
-live_in (s ∷ more) es = Some (record { stamp = stamp_of s; count = count s es; plan = plan s es })
-
--- what the log says
-abbrev pub part_of : ClientId → List Entry → Part
-part_of c es = record { last = last_of c es; rows = rows_for c es; live = live_in (open_sessions_of c es) es }
-
--- how many messages were sent to the open session of a client
-abbrev pub sent_in : List SessionId → List Entry → Option ℕ
-sent_in [] es = None
-sent_in (s ∷ more) es = Some (length (stream s es))
-
-abbrev pub sent_of : ClientId → List Entry → Option ℕ
-sent_of c es = sent_in (open_sessions_of c es) es
-
 -- what it leaves after an entry of its own
 abbrev pub plan_after : Entry → List PlanRow → List PlanRow
 plan_after (entry.Left s q places) rows = plan_of (rows ++ puts q places)
 plan_after (entry.Cancelled s q path) rows = plan_of (rows ++ cancels q path)
 plan_after _ rows = rows
-
--- an open session after an entry of its own that answers it
-abbrev pub one_more : Entry → LivePart → LivePart
-one_more e l = record { stamp = l.stamp; count = l.count + 1; plan = plan_after e l.plan }
-
-abbrev pub live_step : Entry → Option LivePart → Option LivePart
-live_step (entry.Open s) live = Some (record { stamp = stamp_of s; count = 0; plan = [] })
-live_step (entry.Ended s q why rows) live = None
-live_step e live = option_map (one_more e) live
-
-abbrev pub last_step : Entry → Option Stamp → Option Stamp
-last_step (entry.Open s) last = Some (stamp_of s)
-last_step _ last = last
-
-abbrev pub rows_step : ℕ → Entry → List Row → List Row
-rows_step z (entry.Op s q n op outcome) rows = rows ++ record { done = z; kept = kept_of outcome } ∷ []
-rows_step z _ rows = rows
-
--- what entry number z of the client makes of its part
-abbrev pub part_step : ℕ → Entry → Part → Part
-part_step z e p = record { last = last_step e p.last; rows = rows_step z e p.rows; live = live_step e p.live }
 
 -- how many sessions are open after an entry
 abbrev pub open_step : Entry → ℕ → ℕ
@@ -134,17 +92,6 @@ listed c (Some l) = session_with c l.stamp ∷ []
 abbrev pub IsAsked : Option LivePart → Type 0
 IsAsked None = Unit {0}
 IsAsked (Some l) = All (λ row. row.q < l.count + 1) l.plan
-
--- what is so after every legal log
-pub record Sound (es : List Entry) : Type 0 where
-  -- at most one session of a client is open
-  pub one_open : (c : ClientId) → open_sessions_of c es ≡ listed c (live_in (open_sessions_of c es) es)
-  -- the last session of a client is its newest
-  pub newest : (s : SessionId) → is_newest s es ≡ comes_after (last_of s.client es) (stamp_of s)
-  -- what has ended was opened
-  pub ended : (s : SessionId) → list_any (ends s) es ≡ true → list_any (opens s) es ≡ true
-  -- what an open session leaves was asked for by its messages so far
-  pub asked : (c : ClientId) → IsAsked (part_of c es).live
 
 -- ---- what an input asks for
 

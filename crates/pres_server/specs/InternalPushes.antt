@@ -10,7 +10,7 @@ use Rattle.pres_wire.specs.declared.down.Down.{Down}
 use Rattle.pres_wire.specs.declared.down.Down.TheVariants.{Push}
 use Rattle.pres_ids.specs.Ids.{ClientId, client_cmp, same_client}
 use Rattle.pres_server.specs.declared.client_sessions.ClientSessions.{ClientSessions}
-use Rattle.pres_server.specs.Streams.{shown}
+use Rattle.pres_server.specs.Answering.{shown}
 use Rattle.pres_server.specs.InternalParts.{message_next}
 use Rattle.pres_server.specs.InternalSessions.{Session, sent_to, sent_one, MaySend}
 

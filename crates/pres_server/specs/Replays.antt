@@ -1,16 +1,13 @@
 -- Servers that are made anew from their batches.
 use Rattle.std.specs.Prelude.{ℕ, ◌+◌, ◌≡◌, List, ◌∷◌, ◌++◌, map, length}
 use Rattle.pres_log.specs.declared.entry.Batch.{Batch}
-use Rattle.pres_log.specs.Logs.{Log, entries, last_moment}
+use Rattle.pres_log.specs.Logs.{Log}
 use Rattle.pres_server.specs.declared.replay.ReplayFault.{ReplayFault}
 use Rattle.pres_server.specs.declared.replay.ReplayFault.TheVariants.{Memory, NotLegal}
-use Rattle.pres_server.specs.Sessions.{open_entries}
-use Rattle.pres_server.specs.ServerStates.{Heard, ServerState}
+use Rattle.pres_server.specs.ServerStates.{Heard}
 use Rattle.pres_server.specs.Sums.{Sum, nothing, sum_from}
 use Rattle.pres_server.specs.SumStates.{SumState}
 use Rattle.pres_server.specs.SumTurns.{FollowsSum, FollowAll}
-
--- ---- by the sum
 
 -- the client of each open session counts as heard of at the greatest moment
 abbrev pub heard_by : Sum → Heard
@@ -39,13 +36,3 @@ pub record IsFirstIllegal (batches : List Batch) (k : ℕ) : Type 0 where
 abbrev pub IsNoLog : List Batch → ReplayFault → Type 0
 IsNoLog batches Memory = Unit {0}
 IsNoLog batches (NotLegal k) = IsFirstIllegal batches k
-
--- ---- by the log
-
--- the client of each open session counts as heard of at the log's greatest moment
-abbrev pub heard_anew : Log → Heard
-heard_anew log = map (λ e. (e.0, last_moment log)) (open_entries (entries log))
-
--- the server that is made from a log
-abbrev pub made_from : Log → ServerState
-made_from log = record { log = log; heard = heard_anew log }

@@ -9,7 +9,6 @@ use Rattle.pres_log.specs.declared.entry.Entry.{Entry}
 use Rattle.pres_log.specs.declared.entry.Entry.TheVariants as entry
 use Rattle.pres_server.specs.declared.input.Input.{Input}
 use Rattle.pres_server.specs.declared.input.Input.TheVariants as input
-use Rattle.pres_log.specs.Logs.{Log}
 
 -- the moments behind the clients, in byte order of clients
 abbrev pub Heard : Type 0
@@ -67,14 +66,3 @@ first_client (h ∷ more) = Some h.0
 abbrev pub late_client : ℕ → Heard → Option ClientId
 late_client moment [] = None
 late_client moment (h ∷ more) = if nat_lt (h.1 + lease) moment then Some h.0 else late_client moment more
-
--- ---- what a server is
-
--- what a server is: its log, and when each client was heard of last
-pub record ServerState : Type 0 where
-  pub log : Log
-  pub heard : Heard
-
--- a server without a history
-abbrev pub blank : ServerState
-blank = record { log = []; heard = [] }

@@ -8,7 +8,7 @@ use Rattle.pres_fan.specs.Listeners.{touched}
 use Rattle.pres_log.specs.declared.entry.Entry.{Entry}
 use Rattle.pres_log.specs.Logs.{writes_of}
 use Rattle.pres_server.specs.Sessions.{session_of}
-use Rattle.pres_server.specs.Streams.{shown}
+use Rattle.pres_server.specs.Answering.{shown}
 use Rattle.pres_server.specs.InternalParts.{message_next, answer_by}
 use Rattle.pres_server.specs.InternalPushes.{TouchedSession}
 use Rattle.pres_server.specs.Sums.{Sum, OpenSessions, part_in, sent_by, pushed, carried, sum_after}

@@ -6,7 +6,7 @@ ghost use Rattle.pres_write.specs.Outcomes.{resolved};
 ghost use Rattle.pres_ids.specs.Ids.{stamp_of};
 ghost use Rattle.pres_retry.specs.Tables.{rows_of};
 ghost use Rattle.pres_log.specs.declared.entry.Entry.TheVariants as entry;
-ghost use Rattle.pres_server.specs.LegalLog.{IsPlain, Supersedes};
+ghost use Rattle.pres_server.specs.Batches.{IsPlain, Supersedes};
 ghost use Rattle.pres_server.specs.InternalParts.{plan_in, comes_after, open_step};
 ghost use Rattle.pres_server.specs.InternalSessions.{open_count};
 ghost use Rattle.pres_server.specs.InternalIndex.{live_at, part_at, Ready};

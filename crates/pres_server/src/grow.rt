@@ -7,7 +7,7 @@ ghost use Rattle.pres_fan.specs.Listeners.{touched, most_paths, paths_of, with_l
 ghost use Rattle.pres_retry.specs.Tables.{Table};
 ghost use Rattle.pres_log.specs.Logs.{writes_of};
 ghost use Rattle.pres_log.specs.declared.entry.Entry.TheVariants as entry;
-ghost use Rattle.pres_server.specs.LegalLog.{Supersedes};
+ghost use Rattle.pres_server.specs.Batches.{Supersedes};
 ghost use Rattle.pres_server.specs.InternalPushes.{MayPushAll};
 ghost use Rattle.pres_server.specs.InternalIndex.{Carries, StepsAt, MayTake, retry_after, session_at};
 ghost use Rattle.pres_server.specs.InternalFollows.{MayComeTogetherBy};

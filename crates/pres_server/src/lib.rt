@@ -7,7 +7,6 @@ mod follow;
 mod grow;
 mod index;
 mod input;
-pub mod laws;
 mod push;
 mod reopen;
 mod replay;

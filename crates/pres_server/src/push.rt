@@ -6,7 +6,7 @@ ghost use Rattle.std.specs.List.Sorted.{IsStrictlySortedBy};
 ghost use Rattle.pres_tree.specs.Paths.{path_cmp};
 ghost use Rattle.pres_tree.specs.Rows.{value_at};
 ghost use Rattle.pres_ids.specs.Ids.{ClientId, client_cmp};
-ghost use Rattle.pres_server.specs.Streams.{shown};
+ghost use Rattle.pres_server.specs.Answering.{shown};
 ghost use Rattle.pres_server.specs.InternalSessions.{sent_one};
 ghost use Rattle.pres_server.specs.InternalPushes.{standing, MayPush, MayPushAll, after_pushes, push_to, pushes};
 

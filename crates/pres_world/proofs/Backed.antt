@@ -16,15 +16,18 @@ use Rattle.pres_write.specs.declared.draft.DraftLeaf.{DraftLeaf}
 use Rattle.pres_log.specs.declared.entry.Entry.{Entry}
 use Rattle.pres_log.specs.declared.entry.Entry.TheVariants as entry
 use Rattle.pres_log.specs.Logs.{Log, entries, item_at}
-use Rattle.pres_server.specs.LegalLog.{MayCome, MayComeTogether, IsLegal}
-use Rattle.pres_server.specs.Listening.{touched}
-use Rattle.pres_server.specs.Outcomes.{row_in, rows_for, ops}
-use Rattle.pres_server.specs.Sessions.{session_of, opens, ends, since_open, open_sessions}
-use Rattle.pres_server.specs.Streams.{Unnumbered, push_of, repeated_reply, own_answer, sent_for, sent_from, numbered_from, stream, added, is_push, own_added, answers_to, answers}
-use Rattle.pres_server.proofs.Since.{client_same, split_at_open}
-use Rattle.pres_server.proofs.Steps.{rows_for-append}
-use Rattle.pres_server.proofs.StreamSteps.{stream_unopened}
-use Rattle.pres_server.proofs.Parts.{row_given, no_row}
+use Rattle.pres_history.specs.LegalLog.{MayCome, MayComeTogether, IsLegal}
+use Rattle.pres_history.specs.Listening.{touched}
+use Rattle.pres_history.specs.Outcomes.{row_in, rows_for, ops}
+use Rattle.pres_server.specs.Sessions.{session_of}
+use Rattle.pres_history.specs.Sessions.{opens, ends, since_open, open_sessions}
+use Rattle.pres_server.specs.Answering.{Unnumbered}
+use Rattle.pres_history.specs.Streams.{push_of, repeated_reply, own_answer, sent_for, sent_from, numbered_from, stream, added, is_push, own_added, answers_to, answers}
+use Rattle.pres_server.proofs.Clients.{client_same}
+use Rattle.pres_history.proofs.Since.{split_at_open}
+use Rattle.pres_history.proofs.Steps.{rows_for-append}
+use Rattle.pres_history.proofs.StreamSteps.{stream_unopened}
+use Rattle.pres_history.proofs.Parts.{row_given, no_row}
 use Rattle.pres_world.proofs.Stands.{none_or_some, get_push, StandsMay, stands_more, entries_rule}
 
 -- ---- items of lists

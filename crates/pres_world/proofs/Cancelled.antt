@@ -15,13 +15,15 @@ use Rattle.pres_plan.proofs.Left.{lasting-append, left_by_cancel}
 use Rattle.pres_log.specs.declared.entry.Entry.{Entry}
 use Rattle.pres_log.specs.declared.entry.Entry.TheVariants as entry
 use Rattle.pres_log.specs.Logs.{Log, entries}
-use Rattle.pres_server.specs.LegalLog.{MayCome, IsLegal}
+use Rattle.pres_history.specs.LegalLog.{MayCome, IsLegal}
 use Rattle.pres_server.specs.InternalParts.{plan_after}
-use Rattle.pres_server.specs.Sessions.{opens, ends, count, session_of}
-use Rattle.pres_server.specs.SessionPlans.{plan}
-use Rattle.pres_server.proofs.Since.{any-append, session_itself, session_same}
-use Rattle.pres_server.proofs.Steps.{count_own, count_other}
-use Rattle.pres_server.proofs.PlanSteps.{plan_own, plan_other}
+use Rattle.pres_history.specs.Sessions.{opens, ends, count}
+use Rattle.pres_server.specs.Sessions.{session_of}
+use Rattle.pres_history.specs.SessionPlans.{plan}
+use Rattle.pres_history.proofs.Since.{any-append}
+use Rattle.pres_server.proofs.Clients.{session_itself, session_same}
+use Rattle.pres_history.proofs.Steps.{count_own, count_other}
+use Rattle.pres_history.proofs.PlanSteps.{plan_own, plan_other}
 use Rattle.pres_world.specs.Orderly.{IsPutBefore}
 use Rattle.pres_world.proofs.Stands.{none_or_some, get_push, got_small, get_taken, prefix_rule, stands_may, found_before}
 use Rattle.pres_world.proofs.Backed.{all_front}

@@ -16,9 +16,11 @@ use Rattle.pres_log.specs.Logs.{Log}
 use Rattle.pres_server.specs.declared.input.Input.TheVariants as input
 use Rattle.pres_server.specs.InternalFollows.{MayComeTogetherBy}
 use Rattle.pres_server.specs.InternalParts.{Part, ends_of, limited_by}
-use Rattle.pres_server.specs.LegalLog.{IsLegal}
-use Rattle.pres_server.specs.ServerStates.{ServerState, first_client, heard_after_all}
-use Rattle.pres_server.specs.Turns.{Decision, makes, quiet, refused, moment_of, batch_of, state_after}
+use Rattle.pres_history.specs.LegalLog.{IsLegal}
+use Rattle.pres_history.specs.ServerStates.{ServerState}
+use Rattle.pres_server.specs.ServerStates.{first_client, heard_after_all}
+use Rattle.pres_server.specs.Turns.{Decision, makes, quiet, refused}
+use Rattle.pres_history.specs.Turns.{moment_of, batch_of, state_after}
 use Rattle.pres_server.specs.Sums.{Sum, OpenSession, live_of, part_in, paths_in, has_open_in, sum_after, sum_after_all, sum_of}
 use Rattle.pres_server.specs.SumStates.{SumState}
 use Rattle.pres_server.specs.SumTurns.{FollowsSum, turn_by, moment_by, batch_by, after_commit}

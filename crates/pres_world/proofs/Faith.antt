@@ -18,14 +18,16 @@ use Rattle.pres_wire.specs.Views.{value_told, seen, seen_in}
 use Rattle.pres_log.specs.declared.entry.Entry.{Entry}
 use Rattle.pres_log.specs.declared.entry.Entry.TheVariants as entry
 use Rattle.pres_log.specs.Logs.{Log, entries, tree}
-use Rattle.pres_server.specs.Laws.{unlistens, snap_of, ViewIsTrue}
-use Rattle.pres_server.specs.LegalLog.{IsLegal, MayCome}
-use Rattle.pres_server.specs.Sessions.{session_of, opens, is_open, count}
-use Rattle.pres_server.specs.Streams.{stream}
-use Rattle.pres_server.proofs.Since.{session_same, session_itself, any-append}
-use Rattle.pres_server.proofs.Steps.{count_own, count_other}
-use Rattle.pres_server.proofs.StreamSteps.{stream_grows}
-use Rattle.pres_server.proofs.Views.{views_are_true}
+use Rattle.pres_history.specs.Laws.{unlistens, snap_of, ViewIsTrue}
+use Rattle.pres_history.specs.LegalLog.{IsLegal, MayCome}
+use Rattle.pres_server.specs.Sessions.{session_of}
+use Rattle.pres_history.specs.Sessions.{opens, is_open, count}
+use Rattle.pres_history.specs.Streams.{stream}
+use Rattle.pres_server.proofs.Clients.{session_same, session_itself}
+use Rattle.pres_history.proofs.Since.{any-append}
+use Rattle.pres_history.proofs.Steps.{count_own, count_other}
+use Rattle.pres_history.proofs.StreamSteps.{stream_grows}
+use Rattle.pres_history.proofs.Views.{views_are_true}
 use Rattle.pres_world.proofs.Stands.{none_or_some, StandsMay, stands_may}
 use Rattle.pres_world.proofs.Backed.{all_dropped}
 use Rattle.pres_world.proofs.Asked.{Last}

@@ -23,12 +23,12 @@ use Rattle.pres_client.specs.Sends.{SendList}
 use Rattle.pres_client.specs.Steps.{ClientStep, after, run}
 use Rattle.pres_log.specs.Logs.{tree}
 use Rattle.pres_tree.specs.Rows.{value_at}
-use Rattle.pres_server.proofs.StreamSteps.{stream_grows}
+use Rattle.pres_history.proofs.StreamSteps.{stream_grows}
 use Rattle.pres_world.proofs.Backed.{get_front}
 use Rattle.pres_client.specs.Views.{Trail, trail, trail_step, nothing, more, takes, listens_to, is_asked, with_snap, with_taken, kept_for}
-use Rattle.pres_server.specs.LegalLog.{IsLegal}
-use Rattle.pres_server.specs.Streams.{stream}
-use Rattle.pres_server.proofs.Since.{session_same}
+use Rattle.pres_history.specs.LegalLog.{IsLegal}
+use Rattle.pres_history.specs.Streams.{stream}
+use Rattle.pres_server.proofs.Clients.{session_same}
 use Rattle.pres_world.specs.Safe.{IsInTranscript}
 use Rattle.pres_world.proofs.Stands.{none_or_some, take_within}
 use Rattle.pres_world.proofs.Hears.{Hears}

@@ -17,17 +17,20 @@ use Rattle.pres_log.specs.Logs.{Log, entries}
 use Rattle.pres_server.specs.declared.input.Input.{Input}
 use Rattle.pres_server.specs.declared.server.Turn.TheVariants as turn_of
 use Rattle.pres_server.specs.InternalParts.{session_with}
-use Rattle.pres_server.specs.LegalLog.{MayFollow, IsLegal}
-use Rattle.pres_server.specs.Replays.{resumed, made_from}
-use Rattle.pres_server.specs.ServerStates.{ServerState, heard_from}
-use Rattle.pres_server.specs.Sessions.{has_open}
-use Rattle.pres_server.specs.Streams.{answers}
-use Rattle.pres_server.specs.Turns.{Decision, makes, quiet, refused, turn, moment_of, batch_of}
+use Rattle.pres_history.specs.LegalLog.{MayFollow, IsLegal}
+use Rattle.pres_server.specs.Replays.{resumed}
+use Rattle.pres_history.specs.Replays.{made_from}
+use Rattle.pres_history.specs.ServerStates.{ServerState}
+use Rattle.pres_server.specs.ServerStates.{heard_from}
+use Rattle.pres_history.specs.Sessions.{has_open}
+use Rattle.pres_history.specs.Streams.{answers}
+use Rattle.pres_server.specs.Turns.{Decision, makes, quiet, refused}
+use Rattle.pres_history.specs.Turns.{turn, moment_of, batch_of}
 use Rattle.pres_server.specs.Sums.{Sum, has_open_in, open_stamp_in, sum_of, sum_with}
 use Rattle.pres_server.specs.SumAnswers.{answers_by}
 use Rattle.pres_server.specs.SumStates.{SumState, PendingTurn}
 use Rattle.pres_server.specs.SumTurns.{FollowsSum, IsTurn, turn_by, moment_by, batch_by, after_commit}
-use Rattle.pres_server.proofs.Whole.{legal_after}
+use Rattle.pres_history.proofs.LegalLogs.{legal_after}
 use Rattle.pres_history.specs.SumLaws.{SumSays}
 use Rattle.pres_history.proofs.Whole.{sum_says, readers_say, heard_same}
 use Rattle.pres_world.specs.declared.event.Ending.{Ending}

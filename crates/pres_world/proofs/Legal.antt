@@ -2,7 +2,7 @@
 use Rattle.std.proofs.Common.{subst, List, [], ◌∷◌, ◌++◌, ℕ}
 use Rattle.pres_log.specs.declared.entry.Batch.{Batch}
 use Rattle.pres_log.specs.Logs.{Log}
-use Rattle.pres_server.specs.LegalLog.{IsLegal}
+use Rattle.pres_history.specs.LegalLog.{IsLegal}
 use Rattle.pres_server.specs.Replays.{IsFirstIllegal}
 use Rattle.pres_server.specs.Sums.{Sum, nothing, sum_with, sum_from}
 use Rattle.pres_server.specs.SumTurns.{FollowsSum, FollowAll}

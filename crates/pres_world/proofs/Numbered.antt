@@ -24,10 +24,10 @@ use Rattle.pres_client.proofs.Trails.{views_hold}
 use Rattle.pres_log.specs.declared.entry.Entry.{Entry}
 use Rattle.pres_log.specs.declared.entry.Entry.TheVariants as entry
 use Rattle.pres_log.specs.Logs.{Log, entries, item_at, tree}
-use Rattle.pres_server.specs.LegalLog.{IsLegal}
+use Rattle.pres_history.specs.LegalLog.{IsLegal}
 use Rattle.pres_server.specs.Sessions.{session_of}
-use Rattle.pres_server.specs.Streams.{stream}
-use Rattle.pres_server.proofs.Since.{session_same}
+use Rattle.pres_history.specs.Streams.{stream}
+use Rattle.pres_server.proofs.Clients.{session_same, clients_total, clients_apart}
 use Rattle.pres_tree.specs.declared.scalar.Scalar.{Scalar}
 use Rattle.pres_tree.specs.Paths.{Path}
 use Rattle.pres_tree.specs.Rows.{Rows, value_at}
@@ -39,7 +39,6 @@ use Rattle.pres_world.proofs.Follow.{Faith, faith_front}
 use Rattle.pres_world.proofs.Writes.{nth_once}
 use Rattle.pres_world.proofs.Written.{SomeWritten, Written, none_written, not_older, written_front}
 use Rattle.pres_client.specs.Sends.{opening}
-use Rattle.pres_server.proofs.AfterEntry.{clients_total, clients_apart}
 use Rattle.pres_world.specs.WorldClients.{acknowledged, handed_out, is_fault, started_again}
 use Rattle.pres_world.proofs.Backed.{Backed, IsWrite, all_into, item_front}
 use Rattle.pres_world.specs.Worlds.{World, Clients, joined, new_world, becomes, IsClient}

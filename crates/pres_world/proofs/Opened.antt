@@ -20,7 +20,7 @@ use Rattle.pres_client.specs.declared.call.Call.TheVariants as call
 use Rattle.pres_client.specs.declared.client.Phase.TheVariants as phase
 use Rattle.pres_client_state.specs.declared.notice.Notice.TheVariants as notice
 use Rattle.pres_wire.specs.declared.down.Code.TheVariants as code
-use Rattle.pres_server.proofs.Since.{session_same}
+use Rattle.pres_server.proofs.Clients.{session_same}
 use Rattle.pres_client.specs.Clients.{ClientState, is_online, is_opening, session_of, outstanding}
 use Rattle.pres_client.specs.Calls.{refusal, enqueue, after_answer, after_listen, after_unlisten, after_call, note}
 use Rattle.pres_client.specs.ReceivedMessages.{is_next, is_fit, opened, own_fault, after_fault, after_welcome, after_receive}

@@ -2,10 +2,10 @@
 use Rattle.std.proofs.Common.{refl, sym, ◌∙◌, ap, subst, ◌≡◌, ℕ, zero, suc, List, Some, arith, slice_get, take}
 use Rattle.pres_log.specs.declared.entry.Entry.TheVariants as entry
 use Rattle.pres_log.specs.Logs.{Log, entries, entries_before, item_at}
-use Rattle.pres_server.specs.LegalLog.{IsLegal}
-use Rattle.pres_server.proofs.Whole.{ends_are_due}
+use Rattle.pres_history.specs.LegalLog.{IsLegal}
+use Rattle.pres_history.proofs.LegalLogs.{ends_are_due}
 use Rattle.std.specs.List.{AllByRecursion}
-use Rattle.pres_server.specs.SessionPlans.{plan}
+use Rattle.pres_history.specs.SessionPlans.{plan}
 use Rattle.pres_world.specs.Orderly.{WritesStand, SessionsStand, EndsStand, CancelsStand}
 use Rattle.pres_world.proofs.Cancelled.{IsOther, cancels_stand}
 use Rattle.pres_world.proofs.Backed.{contained}

@@ -13,12 +13,14 @@ use Rattle.pres_log.specs.Logs.{Log, entries, item_at}
 use Rattle.pres_log.proofs.Entries.{entries-push}
 use Rattle.pres_server.specs.declared.input.Input.{Input}
 use Rattle.pres_server.specs.declared.input.Input.TheVariants as input
-use Rattle.pres_server.specs.ServerStates.{ServerState, heard_from}
-use Rattle.pres_server.specs.LegalLog.{MayFollow, IsLegal}
-use Rattle.pres_server.specs.Replays.{made_from}
-use Rattle.pres_server.specs.Streams.{answers}
-use Rattle.pres_server.specs.Turns.{Decision, refused, quiet, makes, turn, moment_of, batch_of, state_after}
-use Rattle.pres_server.proofs.Whole.{may_follow, legal_after}
+use Rattle.pres_history.specs.ServerStates.{ServerState}
+use Rattle.pres_server.specs.ServerStates.{heard_from}
+use Rattle.pres_history.specs.LegalLog.{MayFollow, IsLegal}
+use Rattle.pres_history.specs.Replays.{made_from}
+use Rattle.pres_history.specs.Streams.{answers}
+use Rattle.pres_server.specs.Turns.{Decision, refused, quiet, makes}
+use Rattle.pres_history.specs.Turns.{turn, moment_of, batch_of, state_after}
+use Rattle.pres_history.proofs.LegalLogs.{may_follow, legal_after}
 use Rattle.pres_client.specs.Clients.{ClientState as Client}
 use Rattle.pres_client.specs.Calls.{after_call}
 use Rattle.pres_client.specs.ReceivedMessages.{accepts, after_receive}

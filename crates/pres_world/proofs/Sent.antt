@@ -21,12 +21,14 @@ use Rattle.pres_log.specs.declared.fault.Fault.TheVariants as fault
 use Rattle.pres_log.specs.Logs.{tree, entries}
 use Rattle.pres_server.specs.declared.input.Input.{Input}
 use Rattle.pres_server.specs.declared.input.Input.TheVariants as input
-use Rattle.pres_server.specs.ServerStates.{ServerState, late_client}
-use Rattle.pres_server.specs.Listening.{listened}
-use Rattle.pres_server.specs.Outcomes.{rows_for}
-use Rattle.pres_server.specs.Sessions.{is_open, is_newest, count, last_of, open_sessions, open_sessions_of}
-use Rattle.pres_server.specs.SessionPlans.{plan}
-use Rattle.pres_server.specs.Turns.{Decision, refused, quiet, makes, moment_of, end_of, opening, ends_if_open, ends_first, ends_late, within_rows, op_by, in_order, if_open, leaves, listens, message, limited, turn}
+use Rattle.pres_history.specs.ServerStates.{ServerState}
+use Rattle.pres_server.specs.ServerStates.{late_client}
+use Rattle.pres_history.specs.Listening.{listened}
+use Rattle.pres_history.specs.Outcomes.{rows_for}
+use Rattle.pres_history.specs.Sessions.{is_open, is_newest, count, last_of, open_sessions, open_sessions_of}
+use Rattle.pres_history.specs.SessionPlans.{plan}
+use Rattle.pres_server.specs.Turns.{Decision, refused, quiet, makes, within_rows, op_by}
+use Rattle.pres_history.specs.Turns.{moment_of, end_of, opening, ends_if_open, ends_first, ends_late, in_order, if_open, leaves, listens, message, limited, turn}
 use Rattle.pres_world.specs.Safe.{WasSent, CameFromMessage}
 use Rattle.pres_world.proofs.Backed.{all_front, item_front}
 

@@ -8,11 +8,13 @@ use Rattle.pres_ids.specs.Ids.{ClientId, is_earlier, same_client, same_session, 
 use Rattle.pres_log.specs.declared.entry.Entry.{Entry}
 use Rattle.pres_log.specs.declared.entry.Entry.TheVariants as entry
 use Rattle.pres_log.specs.Logs.{Log, entries}
-use Rattle.pres_server.specs.LegalLog.{MayCome, IsLegal}
-use Rattle.pres_server.specs.Sessions.{opens, ends, is_open, opened, sessions_of, open_sessions_of, session_of}
-use Rattle.pres_server.proofs.Since.{any-append, client_itself, session_same, session_itself}
-use Rattle.pres_server.proofs.Steps.{In, is_open-append, any-filter, any-opened, open_listed}
-use Rattle.pres_server.proofs.Parts.{all_in, not_earlier, earlier_still}
+use Rattle.pres_history.specs.LegalLog.{MayCome, IsLegal}
+use Rattle.pres_history.specs.Sessions.{opens, ends, is_open, opened, sessions_of, open_sessions_of}
+use Rattle.pres_server.specs.Sessions.{session_of}
+use Rattle.pres_history.proofs.Since.{any-append}
+use Rattle.pres_server.proofs.Clients.{client_itself, session_same, session_itself}
+use Rattle.pres_history.proofs.Steps.{In, is_open-append, any-filter, any-opened, open_listed}
+use Rattle.pres_history.proofs.Parts.{all_in, not_earlier, earlier_still}
 use Rattle.pres_world.proofs.Stands.{StandsMay, stands_may, prefix_rule, got_small, found_before, found_still}
 
 -- no later session than an open one was opened by its client

@@ -13,15 +13,18 @@ use Rattle.pres_log.specs.declared.entry.Entry.{Entry}
 use Rattle.pres_log.specs.declared.entry.Entry.TheVariants as entry
 use Rattle.pres_log.specs.Logs.{Log, entries, tree}
 use Rattle.pres_client.specs.Steps.{IsMessage}
-use Rattle.pres_server.specs.LegalLog.{MayCome, IsLegal}
-use Rattle.pres_server.specs.Listening.{touched, listened}
-use Rattle.pres_server.specs.Sessions.{session_of, opens, ends, since_open, is_open, count}
-use Rattle.pres_server.specs.Streams.{Unnumbered, push_of, repeated_reply, own_answer, sent_for, sent_from, numbered_from, stream}
-use Rattle.pres_server.proofs.Since.{session_same, any-append}
-use Rattle.pres_server.proofs.Parts.{fresh_count}
-use Rattle.pres_server.proofs.ListenSteps.{touched_sorted}
+use Rattle.pres_history.specs.LegalLog.{MayCome, IsLegal}
+use Rattle.pres_history.specs.Listening.{touched, listened}
+use Rattle.pres_server.specs.Sessions.{session_of}
+use Rattle.pres_history.specs.Sessions.{opens, ends, since_open, is_open, count}
+use Rattle.pres_server.specs.Answering.{Unnumbered}
+use Rattle.pres_history.specs.Streams.{push_of, repeated_reply, own_answer, sent_for, sent_from, numbered_from, stream}
+use Rattle.pres_server.proofs.Clients.{session_same}
+use Rattle.pres_history.proofs.Since.{any-append}
+use Rattle.pres_history.proofs.Parts.{fresh_count}
+use Rattle.pres_history.proofs.ListenSteps.{touched_sorted}
 use Rattle.pres_server.proofs.Pushed.{shown_rises}
-use Rattle.pres_server.proofs.StreamSteps.{stream-append, stream_ended, stream_unopened, sent_from-one}
+use Rattle.pres_history.proofs.StreamSteps.{stream-append, stream_ended, stream_unopened, sent_from-one}
 use Rattle.pres_world.proofs.Stands.{none_or_some, entries_rule}
 use Rattle.pres_world.proofs.Backed.{all_front}
 

@@ -14,13 +14,14 @@ use Rattle.pres_log.specs.declared.entry.Entry.{Entry}
 use Rattle.pres_log.specs.declared.entry.Entry.TheVariants as entry
 use Rattle.pres_log.specs.Logs.{Log, entries}
 use Rattle.pres_log.proofs.Entries.{entries-push}
-use Rattle.pres_server.specs.LegalLog.{MayCome, MayComeTogether, IsLegal}
-use Rattle.pres_server.specs.Outcomes.{row_in, rows_for, ops}
-use Rattle.pres_server.specs.Sessions.{ends}
-use Rattle.pres_server.proofs.Since.{any-append, session_itself, client_itself}
-use Rattle.pres_server.proofs.Steps.{rows_for-append}
-use Rattle.pres_server.proofs.Parts.{row_given}
-use Rattle.pres_server.proofs.Whole.{of_legal}
+use Rattle.pres_history.specs.LegalLog.{MayCome, MayComeTogether, IsLegal}
+use Rattle.pres_history.specs.Outcomes.{row_in, rows_for, ops}
+use Rattle.pres_history.specs.Sessions.{ends}
+use Rattle.pres_history.proofs.Since.{any-append}
+use Rattle.pres_server.proofs.Clients.{session_itself, client_itself}
+use Rattle.pres_history.proofs.Steps.{rows_for-append}
+use Rattle.pres_history.proofs.Parts.{row_given}
+use Rattle.pres_history.proofs.LegalLogs.{of_legal}
 
 -- ---- what holds of entries one after another
 

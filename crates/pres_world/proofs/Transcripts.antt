@@ -10,12 +10,14 @@ use Rattle.pres_wire.specs.declared.down.Down.TheVariants as down
 use Rattle.pres_log.specs.declared.entry.Entry.{Entry}
 use Rattle.pres_log.specs.declared.entry.Entry.TheVariants as entry
 use Rattle.pres_log.specs.Logs.{item_at}
-use Rattle.pres_server.specs.LegalLog.{MayComeTogether}
-use Rattle.pres_server.specs.Listening.{touched}
-use Rattle.pres_server.specs.Sessions.{session_of, opens, ends, since_open, open_sessions}
-use Rattle.pres_server.specs.Streams.{Unnumbered, push_of, repeated_reply, own_answer, sent_for, sent_from, numbered_from, stream, added, is_push, own_added, answers_to, answers}
-use Rattle.pres_server.proofs.Since.{session_same}
-use Rattle.pres_server.proofs.StreamSteps.{stream_grows}
+use Rattle.pres_history.specs.LegalLog.{MayComeTogether}
+use Rattle.pres_history.specs.Listening.{touched}
+use Rattle.pres_server.specs.Sessions.{session_of}
+use Rattle.pres_history.specs.Sessions.{opens, ends, since_open, open_sessions}
+use Rattle.pres_server.specs.Answering.{Unnumbered}
+use Rattle.pres_history.specs.Streams.{push_of, repeated_reply, own_answer, sent_for, sent_from, numbered_from, stream, added, is_push, own_added, answers_to, answers}
+use Rattle.pres_server.proofs.Clients.{session_same}
+use Rattle.pres_history.proofs.StreamSteps.{stream_grows}
 use Rattle.pres_world.specs.Safe.{IsInTranscript}
 use Rattle.pres_world.proofs.Stands.{none_or_some}
 use Rattle.pres_world.proofs.Backed.{Sure, Backed, backed_front, answers_backed, item_front, all_front, all_into, all_dropped, all_filtered, all_flat}

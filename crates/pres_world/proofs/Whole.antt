@@ -13,7 +13,7 @@ use Rattle.pres_log.specs.declared.entry.Entry.{Entry}
 use Rattle.pres_log.specs.declared.entry.Entry.TheVariants as entry
 use Rattle.pres_log.specs.Logs.{Stands, Log, entries, item_at}
 use Rattle.pres_server.specs.declared.input.Input.TheVariants as input
-use Rattle.pres_server.specs.LegalLog.{IsLegal}
+use Rattle.pres_history.specs.LegalLog.{IsLegal}
 use Rattle.pres_client.specs.Calls.{after_call}
 use Rattle.pres_world.specs.declared.event.Ending.TheVariants as ending
 use Rattle.pres_world.specs.declared.event.Event.{Event}
@@ -33,7 +33,7 @@ use Rattle.pres_world.proofs.Safety.{served_grows, lost_grows, restarted_grows, 
 use Rattle.pres_world.proofs.Stays.{Moves, call_stays, receive_stays}
 use Rattle.pres_world.proofs.Snaps.{streamed}
 use Rattle.pres_wire.specs.declared.down.Down.TheVariants as down
-use Rattle.pres_server.specs.Streams.{stream}
+use Rattle.pres_history.specs.Streams.{stream}
 use Rattle.pres_world.proofs.Stands.{none_or_some}
 use Rattle.pres_world.proofs.Numbered.{Early, Numbered, becomes_numbered, again_numbered, early_acks, quiet_numbered, grown_numbered, shown_true, packets_numbered, packets_repeat, same_start, new_numbered}
 

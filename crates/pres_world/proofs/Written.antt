@@ -13,10 +13,10 @@ use Rattle.pres_wire.specs.declared.down.Down.TheVariants as down
 use Rattle.pres_log.specs.declared.entry.Entry.{Entry}
 use Rattle.pres_log.specs.declared.entry.Entry.TheVariants as entry
 use Rattle.pres_log.specs.Logs.{Log, entries}
-use Rattle.pres_server.specs.LegalLog.{IsLegal}
-use Rattle.pres_server.specs.Outcomes.{ops}
-use Rattle.pres_server.specs.Sessions.{opens}
-use Rattle.pres_server.proofs.Since.{session_itself}
+use Rattle.pres_history.specs.LegalLog.{IsLegal}
+use Rattle.pres_history.specs.Outcomes.{ops}
+use Rattle.pres_history.specs.Sessions.{opens}
+use Rattle.pres_server.proofs.Clients.{session_itself}
 use Rattle.pres_world.specs.Safe.{IsInTranscript}
 use Rattle.pres_world.proofs.Stands.{none_or_some, stands_may, got_small, take_within, take_whole, among, ops-append, op_counts, found_before}
 use Rattle.pres_world.proofs.SessionOrder.{open_is_newest}

@@ -15,7 +15,7 @@ use Rattle.pres_log.specs.declared.entry.Entry.{Entry}
 use Rattle.pres_log.specs.declared.entry.Entry.TheVariants as entry
 use Rattle.pres_log.specs.Logs.{Log, Stands, entries, entries_before}
 use Rattle.pres_server.specs.Sessions.{session_of}
-use Rattle.pres_server.specs.SessionPlans.{due_at, plan}
+use Rattle.pres_history.specs.SessionPlans.{due_at, plan}
 
 -- each write of a client stands once, in the order of the writes' numbers
 pub record WritesStand (log : Log) : Type 0 where

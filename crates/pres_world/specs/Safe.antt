@@ -16,7 +16,7 @@ use Rattle.pres_wire.specs.declared.up.Up.TheVariants as up
 use Rattle.pres_wire.specs.Messages.{session_in, q_in}
 use Rattle.pres_wire.specs.declared.down.Down.TheVariants.{Welcome, Reply, Gone, Armed, Denied, Snap, Push, OffDone, Fault}
 use Rattle.pres_wire.specs.declared.down.Down.{Down}
-use Rattle.pres_server.specs.Streams.{stream, welcome}
+use Rattle.pres_history.specs.Streams.{stream, welcome}
 use Rattle.pres_log.specs.declared.entry.Entry.{Entry}
 use Rattle.pres_log.specs.declared.entry.Entry.TheVariants as entry
 use Rattle.pres_log.specs.Logs.{Stands, entries, item_at, tree}

@@ -11,12 +11,14 @@ use Rattle.pres_log.specs.Faults.{code_of}
 use Rattle.pres_log.specs.Logs.{Log, entries}
 use Rattle.pres_server.specs.declared.input.Input.{Input}
 use Rattle.pres_server.specs.declared.input.Input.TheVariants as input
-use Rattle.pres_server.specs.ServerStates.{ServerState, heard_from, first_client}
-use Rattle.pres_server.specs.Sessions.{has_open, open_sessions_of}
-use Rattle.pres_server.specs.Streams.{answers}
-use Rattle.pres_server.specs.Turns.{Decision, refused, quiet, makes, turn, moment_of, state_after, state_heard, batch_of}
-use Rattle.pres_server.specs.Replays.{made_from}
-use Rattle.pres_server.specs.LegalLog.{IsLegal}
+use Rattle.pres_history.specs.ServerStates.{ServerState}
+use Rattle.pres_server.specs.ServerStates.{heard_from, first_client}
+use Rattle.pres_history.specs.Sessions.{has_open, open_sessions_of}
+use Rattle.pres_history.specs.Streams.{answers}
+use Rattle.pres_server.specs.Turns.{Decision, refused, quiet, makes}
+use Rattle.pres_history.specs.Turns.{turn, moment_of, state_after, state_heard, batch_of}
+use Rattle.pres_history.specs.Replays.{made_from}
+use Rattle.pres_history.specs.LegalLog.{IsLegal}
 use Rattle.pres_server.specs.Sums.{sum_of}
 use Rattle.pres_server.specs.SumStates.{SumState, PendingTurn}
 use Rattle.pres_world.specs.declared.event.Ending.{Ending}

@@ -9,7 +9,7 @@ use Rattle.pres_wire.specs.declared.down.Down.{Down}
 use Rattle.pres_wire.specs.Messages.{session_for}
 use Rattle.pres_log.specs.Logs.{item_at}
 use Rattle.pres_server.specs.declared.input.Input.TheVariants as input
-use Rattle.pres_server.specs.ServerStates.{blank}
+use Rattle.pres_history.specs.ServerStates.{blank}
 use Rattle.pres_client.specs.declared.call.Call.{Call}
 use Rattle.pres_client.specs.declared.fault.ClientFault.{ClientFault}
 use Rattle.pres_client.specs.Calls.{refusal, after_call}

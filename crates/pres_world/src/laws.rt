@@ -3,7 +3,7 @@
 ghost use Rattle.std.specs.Prelude.{List};
 ghost use Rattle.pres_ids.specs.Ids.{ClientId};
 ghost use Rattle.pres_log.specs.Logs.{Log};
-ghost use Rattle.pres_server.specs.LegalLog.{IsLegal};
+ghost use Rattle.pres_history.specs.LegalLog.{IsLegal};
 ghost use Rattle.pres_world.specs.Orderly.{CancelsStand, EndsStand, SessionsStand, WritesStand};
 ghost use Rattle.pres_world.specs.Safe.{Occurrence, StaysSafe};
 ghost use Rattle.pres_world.specs.Worlds.{World};

@@ -2,14 +2,16 @@
 
 ghost use Rattle.std.specs.Prelude.{◌≡◌, ◌<◌, ◌⊎◌, ◌+◌, ◌++◌, ◌∷◌, [], ℕ, true, false, List, Some, None, IfOk, IfErr, OnOk, IfSome, IfNone, MatchOption, option_copied, option_map};
 ghost use Rattle.pres_ids.specs.Ids.{ClientId};
-ghost use Rattle.pres_server.specs.ServerStates.{ServerState, heard_from, first_client, blank};
-ghost use Rattle.pres_server.specs.LegalLog.{IsLegal};
+ghost use Rattle.pres_history.specs.ServerStates.{ServerState, blank};
+ghost use Rattle.pres_server.specs.ServerStates.{heard_from, first_client};
+ghost use Rattle.pres_history.specs.LegalLog.{IsLegal};
 ghost use Rattle.pres_server.specs.InternalParts.{session_with};
 ghost use Rattle.pres_server.specs.Replays.{resumed};
 ghost use Rattle.pres_server.specs.Sums.{has_open_in, sum_of};
 ghost use Rattle.pres_server.specs.SumAnswers.{answers_by};
 ghost use Rattle.pres_server.specs.SumTurns.{after_commit};
-ghost use Rattle.pres_server.specs.Turns.{makes, quiet, state_heard};
+ghost use Rattle.pres_server.specs.Turns.{makes, quiet};
+ghost use Rattle.pres_history.specs.Turns.{state_heard};
 ghost use Rattle.pres_server.specs.declared.input.Input.{Input};
 ghost use Rattle.pres_server.specs.declared.input.Input.TheVariants as input;
 ghost use Rattle.pres_world.specs.ServerSides.{ServerSideInvariant, HasLog, of_log, by_sum, fault_for, turned, served, lost, log_with, open_on, EndsAll, IsEndOf, IsRestarted};

@@ -5,7 +5,7 @@ ghost use Rattle.std.specs.FinMap.Entries.{find, put};
 ghost use Rattle.pres_ids.specs.Ids.{ClientId, client_cmp};
 ghost use Rattle.pres_client.specs.Clients.{ClientState};
 ghost use Rattle.pres_log.specs.Logs.{item_at};
-ghost use Rattle.pres_server.specs.LegalLog.{IsLegal};
+ghost use Rattle.pres_history.specs.LegalLog.{IsLegal};
 ghost use Rattle.pres_world.specs.Distinct.{AreDistinct};
 ghost use Rattle.pres_world.specs.Orderly.{CancelsStand, EndsStand, SessionsStand, WritesStand};
 ghost use Rattle.pres_world.specs.Safe.{IsSafe, Occurrence, Reaches};

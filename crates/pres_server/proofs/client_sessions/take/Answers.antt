@@ -1,6 +1,6 @@
 use Rattle.std.proofs.Common.{◌≡◌, sym, IfSome, Option, Some, None, Equal}
 use Rattle.pres_ids.specs.Ids.{ClientId, client_cmp}
-use Rattle.pres_server.proofs.AfterEntry.{clients_apart}
+use Rattle.pres_server.proofs.Clients.{clients_apart}
 use Rattle.pres_server.proofs.client_sessions.take.Goals as goal
 
 -- a key that compares equal is the client

@@ -1,5 +1,5 @@
 use Rattle.std.proofs.Common.{◌≡◌, map}
-use Rattle.pres_server.specs.Streams.{shown}
+use Rattle.pres_server.specs.Answering.{shown}
 use Rattle.pres_server.proofs.push.shown.Given as goal
 
 abbrev pub invariant-loop-path : goal.invariant-loop-path

@@ -1,6 +1,6 @@
 use Rattle.std.proofs.Common.{◌≡◌, ◌-◌, ◌^◌, ◌++◌, List}
 use Rattle.pres_ids.specs.Ids.{ClientId}
-use Rattle.pres_server.specs.ServerStates.{ServerState}
+use Rattle.pres_history.specs.ServerStates.{ServerState}
 use Rattle.pres_world.specs.ServerSides.{HasLog, EndsAll}
 use Rattle.pres_world.proofs.server_side.end_all.Given as goal
 

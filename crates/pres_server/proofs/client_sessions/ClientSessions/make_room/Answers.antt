@@ -3,7 +3,7 @@ use Rattle.std.specs.Ordering.{eq_by_cmp}
 use Rattle.pres_plan.specs.Plans.{due}
 use Rattle.pres_ids.specs.Ids.{ClientId, client_cmp}
 use Rattle.pres_server.specs.InternalSessions.{Session}
-use Rattle.pres_server.proofs.AfterEntry.{same_by_cmp}
+use Rattle.pres_server.proofs.Clients.{same_by_cmp}
 use Rattle.pres_server.proofs.client_sessions.ClientSessions.make_room.Goals as goal
 
 pub spend-gone-requires : goal.spend-gone-requires

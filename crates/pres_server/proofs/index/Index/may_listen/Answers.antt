@@ -5,7 +5,7 @@ use Rattle.pres_ids.specs.declared.id.SessionId.{SessionId}
 use Rattle.pres_fan.specs.declared.listeners.Listener.{Listener}
 use Rattle.pres_fan.specs.Listeners.{IsListeners, most_paths, paths_of, add_path, with_listener}
 use Rattle.pres_fan.proofs.Places.{with_step}
-use Rattle.pres_server.proofs.Since.{session_itself}
+use Rattle.pres_server.proofs.Clients.{session_itself}
 use Rattle.pres_server.proofs.index.Index.may_listen.Goals as goal
 
 -- what the session listens to with one path more

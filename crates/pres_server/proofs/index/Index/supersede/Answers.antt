@@ -2,7 +2,7 @@ use Rattle.std.proofs.Common.{refl, sym, subst, [], ◌∷◌, IsSome, Option, S
 use Rattle.pres_log.specs.declared.entry.Entry.TheVariants as entry
 use Rattle.pres_log.specs.Logs.{writes_of}
 use Rattle.pres_server.specs.declared.index.Index.{Index}
-use Rattle.pres_server.specs.LegalLog.{Supersedes}
+use Rattle.pres_server.specs.Batches.{Supersedes}
 use Rattle.pres_server.specs.InternalSessions.{Session, HasRoom}
 use Rattle.pres_server.specs.InternalIndex.{session_at, retry_after, MayTake, Carries}
 use Rattle.pres_server.specs.Sums.{sum_after}

@@ -11,7 +11,7 @@ use Rattle.pres_server.specs.Histories.{IsSum}
 use Rattle.pres_server.specs.InternalIndex.{Tells, heard_in}
 use Rattle.pres_server.specs.InternalSums.{sum_in, Agrees, MayTakeFrom}
 use Rattle.pres_server.proofs.Heard.{heard_tells}
-use Rattle.pres_server.proofs.Turned.{heard_done}
+use Rattle.pres_server.proofs.Heard.{heard_done}
 use Rattle.pres_server.proofs.KeptSums.{sum_holds}
 use Rattle.pres_server.proofs.SumServers.{fits, joined, batch_is, number_after, batches_small, open_in_order}
 use Rattle.pres_server.proofs.server.Server.join.Goals as goal

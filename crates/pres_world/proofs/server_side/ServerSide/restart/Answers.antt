@@ -2,9 +2,9 @@ use Rattle.std.proofs.Common.{◌≡◌, ◌∙◌, ◌++◌, List, sym, ap, sub
 use Rattle.std.proofs.lemmas.Grind.{common_steps}
 use Rattle.pres_ids.specs.Ids.{ClientId}
 use Rattle.pres_log.specs.Logs.{Log}
-use Rattle.pres_server.specs.LegalLog.{IsLegal}
-use Rattle.pres_server.specs.Replays.{made_from}
-use Rattle.pres_server.specs.ServerStates.{ServerState}
+use Rattle.pres_history.specs.LegalLog.{IsLegal}
+use Rattle.pres_history.specs.Replays.{made_from}
+use Rattle.pres_history.specs.ServerStates.{ServerState}
 use Rattle.pres_world.specs.ServerSides.{ServerSideState, HasLog, HoldsSum, EndsAll}
 use Rattle.pres_world.proofs.Held.{viewed, runs_view, resumed_is, restarted_is, restarted_holds}
 use Rattle.pres_world.proofs.server_side.ServerSide.restart.Goals as goal

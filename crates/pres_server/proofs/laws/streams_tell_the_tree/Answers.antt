@@ -1,5 +1,0 @@
-use Rattle.pres_server.proofs.Views.{stream_tells}
-use Rattle.pres_server.proofs.laws.streams_tell_the_tree.Goals as goal
-
-pub returns : goal.returns
-returns c = stream_tells

@@ -1,5 +1,0 @@
-use Rattle.pres_server.proofs.Views.{views_are_true}
-use Rattle.pres_server.proofs.laws.views_are_true.Goals as goal
-
-pub returns : goal.returns
-returns c = views_are_true
