@@ -24,3 +24,4 @@ pub mod Samples
 pub mod LastingOns
 pub mod LogSamples
 pub mod Views
+pub mod Bases

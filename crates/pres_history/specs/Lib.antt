@@ -12,3 +12,4 @@ pub mod SumLaws
 pub mod HistoryLaws
 pub mod InternalInvariants
 pub mod Laws
+pub mod BaseLaws

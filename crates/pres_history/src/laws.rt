@@ -13,6 +13,8 @@ ghost use Rattle.pres_server.specs.Histories.{History};
 ghost use Rattle.pres_history.specs.ServerStates.{ServerState};
 ghost use Rattle.pres_history.specs.Laws.{TurnIsLegal, LegalIsSound, StreamSteps, StreamGrows, EndsAreDue, StreamTells, ViewsAreTrue, ListensByOns};
 ghost use Rattle.pres_history.specs.SumLaws.{LegalSumSays, LegalReadersSay, SameHeard, LegalByTheSum, SumsDecide, WholeIsLegal, ReachedStays};
+ghost use Rattle.pres_base.specs.declared.parts.BaseParts.{BaseParts};
+ghost use Rattle.pres_history.specs.BaseLaws.{BaseGoesOn, BaseDecides};
 ghost use Rattle.pres_history.specs.HistoryLaws.{TurnFollows, HistoryHolds, HistoryGrows, LegalIsHistory, HistoryIsLegal, ReachedHasLog};
 
 // ---- of logs
@@ -137,4 +139,15 @@ pub fn histories_are_legal_logs()
 /// It ends in the batches since.
 pub fn reached_histories_have_logs()
     ensures { (history : History) (sum : Sum) → ReachedHasLog history sum }
+{}
+
+/// A server that is made from a legal log's base, and from batches that may follow it, is the one
+/// that is made from the whole log.
+pub fn bases_go_on()
+    ensures { (base : BaseParts) (before later : Log) → BaseGoesOn base before later }
+{}
+
+/// After two legal logs with one base the same comes next.
+pub fn bases_decide()
+    ensures { (base : BaseParts) (a b : Log) → BaseDecides base a b }
 {}

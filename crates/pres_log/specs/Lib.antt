@@ -2,3 +2,4 @@ pub mod Batches
 pub mod Faults
 pub mod Logs
 pub mod Plains
+pub mod LogsAbove

@@ -62,3 +62,17 @@ numbered_further client n row table number next numbered c =
       by : (same : Bool) → IfSome (cond same (Some (rows_of client table ++ row ∷ [])) (find client_cmp c table)) (λ rows. IsNumber (length rows))
       by true = subst IsNumber (next ∙ sym (length-append (rows_of client table) (row ∷ []))) number
       by false = numbered c
+
+-- ---- all rows of a client at once
+
+pub put_rows : (client : ClientId) (rows : List Row) (table : Table) → rows_of client (put client_cmp client rows table) ≡ rows
+put_rows client rows table =
+    ap (λ found. unwrap_or found []) (found_put client client rows table)
+    ∙ ap (λ same. unwrap_or (cond same (Some rows) (find client_cmp client table)) []) ((bytes_decides client client).1 refl)
+
+pub numbered_put : (client : ClientId) (rows : List Row) (table : Table) → IsNumber (length rows) → AreNumbered table → AreNumbered (put client_cmp client rows table)
+numbered_put client rows table number numbered c =
+    subst (λ found. IfSome found (λ rows. IsNumber (length rows))) (sym (found_put c client rows table)) (by (same_client client c)) where
+      by : (same : Bool) → IfSome (cond same (Some rows) (find client_cmp c table)) (λ rows. IsNumber (length rows))
+      by true = number
+      by false = numbered c

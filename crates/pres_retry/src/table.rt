@@ -1,7 +1,8 @@
 //! The table of kept answers.
 
-ghost use Rattle.std.specs.Prelude.{◌≡◌, ◌≢◌, ◌+◌, ◌++◌, ◌∷◌, [], length, IfErr, IfOk, MatchOption, OnOk};
-ghost use Rattle.pres_ids.specs.Ids.{ClientId};
+ghost use Rattle.std.specs.Prelude.{◌≡◌, ◌≢◌, ◌+◌, ◌++◌, ◌∷◌, ◌<◌, [], length, IfErr, IfOk, MatchOption, OnOk};
+ghost use Rattle.std.specs.FinMap.Entries.{put};
+ghost use Rattle.pres_ids.specs.Ids.{ClientId, client_cmp};
 ghost use Rattle.pres_retry.specs.Tables.{row, recorded, rows_of, with_row};
 ghost use Rattle.pres_retry.specs.Verdicts.{verdict, status_of};
 ghost use Rattle.pres_retry.specs.declared.fault.RetryFault.TheVariants.{Memory};
@@ -104,6 +105,20 @@ impl RetryTable {
             Some(answers) => answers.count(),
             None => Count::zero(),
         }
+    }
+
+    /// Keeps all answers of a client that has none so far. Memory is the one refusal.
+    pub fn insert(&mut self, client: ClientId, answers: Answers) -> Result<(), RetryFault>
+        requires stranger { rows_of client self.old ≡ [] }
+        requires some { 0 < length answers }
+        ensures inserted { OnOk result (self.new ≡ put client_cmp client answers self.old) }
+        ensures own { OnOk result (rows_of client self.new ≡ answers) }
+        ensures err { IfErr result (λ e. (e ≡ Memory) × (self.new ≡ self.old)) }
+    {
+        // it ensures that they are few
+        let _ = answers.count().get();
+        drop(self.clients.insert(client, answers)?);
+        Ok(())
     }
 
     /// What is kept of the client's writes, in their order, copied.

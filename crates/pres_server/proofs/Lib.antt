@@ -17,3 +17,4 @@ pub mod Alike
 pub mod Superseded
 pub mod Turning
 pub mod SumServers
+pub mod BaseSums

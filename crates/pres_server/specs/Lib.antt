@@ -17,3 +17,4 @@ pub mod InternalSums
 pub mod InternalGrowth
 pub mod Replays
 pub mod Faults
+pub mod BaseSums

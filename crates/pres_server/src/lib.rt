@@ -7,6 +7,7 @@ mod follow;
 mod grow;
 mod index;
 mod input;
+pub mod laws;
 mod push;
 mod reopen;
 mod replay;
@@ -14,7 +15,7 @@ mod server;
 mod turn;
 
 pub use input::Input;
-pub use pres_log::{Batch, Entry, Fault, Log};
+pub use pres_log::{Batch, Entry, Fault, Log, LogAbove};
 pub use pres_plan::{Action, Plan, PlanRow};
 pub use pres_retry::Row;
 pub use pres_tree::{Path, Tree};

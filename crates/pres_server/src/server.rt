@@ -18,7 +18,7 @@ use crate::index::{Index, LogPosition, take_all};
 use crate::input::Input;
 use crate::reopen::Reopen;
 use crate::turn::{TurnEffect, TurnTime};
-use pres_log::{Batch, Entry, Fault};
+use pres_log::{Batch, Entry, Fault, Log, LogAbove};
 use pres_retry::Row;
 use pres_tree::{Path, Tree};
 use pres_wire::{ClientId, Count, Down, Number, SessionId, Stamp};
@@ -123,6 +123,14 @@ impl Server {
         ensures sum { IsSum self.now.sum }
     {
         self.batches
+    }
+
+    /// The log, which stands above its number: it counts entries and batches, and lends none of them.
+    /// Whoever wants an entry asks where batches were saved. It takes no memory.
+    pub fn log(&self) -> LogAbove
+        ensures counts { result ≡ record { number = self.now.sum.number; batches = self.now.sum.batches } }
+    {
+        Log::above(self.number, self.batches)
     }
 
     /// The value at the path, where something stands there.

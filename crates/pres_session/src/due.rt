@@ -63,6 +63,6 @@ impl<P: Pays + Drop> Due<P> {
         ensures { result ≡ self.session.stamp }
     {
         let live = self.put_back();
-        Gone::of(live.stamp())
+        Gone::known(live.stamp())
     }
 }

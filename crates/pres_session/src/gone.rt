@@ -26,7 +26,8 @@ impl Model for Gone {
 }
 
 impl Gone {
-    pub(crate) fn of(last: Stamp) -> Gone
+    /// A client whose last session had this stamp, as a base keeps it. It takes no memory.
+    pub fn known(last: Stamp) -> Gone
         ensures { result ≡ last }
     {
         Gone { last }

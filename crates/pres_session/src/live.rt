@@ -52,6 +52,26 @@ pub fn first<P>(stamp: Stamp, heard: Moment, plan: P) -> Live<P>
 }
 
 impl<P> Live<P> {
+    /// A session that was open before, as a base keeps it: how many messages of its client were
+    /// accepted, how many messages to it were numbered, and the plan of its end. It takes no memory.
+    pub fn resumed(stamp: Stamp, heard: Moment, count: Count, sent: Count, plan: P) -> Live<P>
+        ensures { result ≡ record {
+          stamp = stamp;
+          count = count;
+          sent = sent;
+          heard = heard;
+          plan = plan;
+        } }
+    {
+        Live {
+            stamp,
+            count,
+            sent,
+            heard,
+            plan,
+        }
+    }
+
     /// Which session of its client it is.
     pub fn stamp(&self) -> Stamp
         ensures { result ≡ self.now.stamp }

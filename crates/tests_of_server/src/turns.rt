@@ -2,7 +2,7 @@
 //! `=>`, what it must say. A step is a moment and an input, whose answers it says (`1000 {..}`, or in
 //! place of a message `lost`, `slow` and a session, `restart` and a client, or `tick`); the same behind `see`,
 //! which says what is seen of the server afterwards, or behind `abandon`, whose commit is refused;
-//! or a question about the server: `seen`, `log`, `moments`, `value` and a path, `history` and a client;
+//! or a question about the server: `seen`, `log`, `moments`, `counts`, `value` and a path, `history` and a client;
 //! or `replay`, from which on the server is one that is made anew from all batches, or that and numbers
 //! of batches, which says what becomes of these in a server of their own.
 
@@ -199,6 +199,18 @@ fn seen(rt: &impl Abort, alloc: Global, server: &Server) -> String {
     text.expect(rt, "memory")
 }
 
+// What the server's own log counts, and which of its last entry and last batch it lends.
+fn counts(rt: &impl Abort, alloc: Global, server: &Server) -> String {
+    let log = server.log();
+    let (entries, above, batches) = (log.len(), log.base_number(), log.batches());
+    let entry = log.entry(entries).is_some();
+    let batch = log.batch(batches).is_some();
+    let text = format!(in alloc;
+        "{entries} entries, {batches} batches, above {above}, {entry} {batch}"
+    );
+    text.expect(rt, "memory")
+}
+
 // The answer to a question about the server, whose log these batches are.
 fn answer(
     rt: &impl Abort,
@@ -213,6 +225,7 @@ fn answer(
         _ => match question {
             "log" => log_text(rt, alloc, log),
             "moments" => moments(rt, alloc, log),
+            "counts" => counts(rt, alloc, server),
             _ => seen(rt, alloc, server),
         },
     }
@@ -304,7 +317,10 @@ const SUPERSEDED: &str = r#"1000 {"m":"hello","s":["alice",1,1]}
 log
 => 1 1000 [{"e":"open","s":["alice",1,1]}]
 2 1000 [{"e":"ended","q":null,"rows":[],"s":["alice",1,1],"why":"superseded"},{"e":"open","s":["alice",1,2]}]
-4 1000 [{"e":"op","n":1,"op":{"op":"set","path":"/a","value":1},"out":{"wrote":[["/a",1]]},"q":1,"s":["alice",1,2]}]"#;
+4 1000 [{"e":"op","n":1,"op":{"op":"set","path":"/a","value":1},"out":{"wrote":[["/a",1]]},"q":1,"s":["alice",1,2]}]
+
+counts
+=> 4 entries, 3 batches, above 4, false false"#;
 
 const SENT_AGAIN: &str = r#"1000 {"m":"hello","s":["alice",1,1]}
 => {"m":"welcome","ops":0,"s":["alice",1,1],"z":1}

@@ -1,0 +1,4 @@
+pub mod Answered
+pub mod Searched
+pub mod Planned
+pub mod Fronts

@@ -1,0 +1,117 @@
+//! Copies of parts.
+
+ghost use Rattle.std.specs.Prelude.{◌≡◌, IfOk};
+
+use crate::parts::{BaseParts, ClientPart, SessionPart};
+use pres_plan::{Action, PlanRow};
+use pres_retry::Answers;
+use pres_tree::Path;
+use pres_write::Items;
+use std::alloc::{AllocError, Global};
+
+// Equal answers.
+fn copy_answers(alloc: Global, answers: &Answers) -> Result<Answers, AllocError>
+    ensures { IfOk result (λ made. made ≡ answers.now) }
+{
+    // it ensures that they are few
+    let _ = answers.count().get();
+    let mut made = Answers::new(alloc);
+    for answer in answers.iter() {
+        let Some(n) = made.count().next() else {
+            unreachable!()
+        };
+        let Ok(()) = made.push(alloc, n, answer.done, answer.kept.copy(alloc)?) else {
+            return Err(AllocError);
+        };
+    }
+    Ok(made)
+}
+
+// An equal client.
+fn copy_client(alloc: Global, client: &ClientPart) -> Result<ClientPart, AllocError>
+    ensures { IfOk result (λ made. made ≡ client.now) }
+{
+    Ok(ClientPart {
+        id: client.id.copy(alloc)?,
+        last: client.last,
+        rows: copy_answers(alloc, &client.rows)?,
+    })
+}
+
+fn copy_clients(alloc: Global, clients: &[ClientPart]) -> Result<Items<ClientPart>, AllocError>
+    ensures { IfOk result (λ made. made ≡ clients.now) }
+{
+    let mut made = Vec::with_capacity(alloc, clients.len())?;
+    for client in clients {
+        made.push(copy_client(alloc, client)?)?;
+    }
+    Ok(Items::of(made))
+}
+
+// An equal row.
+pub(crate) fn copy_row(alloc: Global, row: &PlanRow) -> Result<PlanRow, AllocError>
+    ensures { IfOk result (λ made. made ≡ row.now) }
+{
+    let action = match &row.action {
+        Action::Put(placement) => Action::Put(placement.copy(alloc)?),
+        Action::Keep(path) => Action::Keep(path.copy(alloc)?),
+    };
+    Ok(PlanRow { q: row.q, action })
+}
+
+fn copy_rows(alloc: Global, rows: &[PlanRow]) -> Result<Items<PlanRow>, AllocError>
+    ensures { IfOk result (λ made. made ≡ rows.now) }
+{
+    let mut made = Vec::with_capacity(alloc, rows.len())?;
+    for row in rows {
+        made.push(copy_row(alloc, row)?)?;
+    }
+    Ok(Items::of(made))
+}
+
+fn copy_paths(alloc: Global, paths: &[Path]) -> Result<Items<Path>, AllocError>
+    ensures { IfOk result (λ made. made ≡ paths.now) }
+{
+    let mut made = Vec::with_capacity(alloc, paths.len())?;
+    for path in paths {
+        made.push(path.copy(alloc)?)?;
+    }
+    Ok(Items::of(made))
+}
+
+// An equal session.
+fn copy_session(alloc: Global, session: &SessionPart) -> Result<SessionPart, AllocError>
+    ensures { IfOk result (λ made. made ≡ session.now) }
+{
+    Ok(SessionPart {
+        session: session.session.copy(alloc)?,
+        q: session.q,
+        r: session.r,
+        listens: copy_paths(alloc, session.listens.as_slice())?,
+        plan: copy_rows(alloc, session.plan.as_slice())?,
+    })
+}
+
+fn copy_sessions(alloc: Global, sessions: &[SessionPart]) -> Result<Items<SessionPart>, AllocError>
+    ensures { IfOk result (λ made. made ≡ sessions.now) }
+{
+    let mut made = Vec::with_capacity(alloc, sessions.len())?;
+    for session in sessions {
+        made.push(copy_session(alloc, session)?)?;
+    }
+    Ok(Items::of(made))
+}
+
+/// Equal parts.
+pub(crate) fn copy_parts(alloc: Global, parts: &BaseParts) -> Result<BaseParts, AllocError>
+    ensures { IfOk result (λ made. made ≡ parts.now) }
+{
+    Ok(BaseParts {
+        batches: parts.batches,
+        moment: parts.moment,
+        number: parts.number,
+        tree: parts.tree.copy(alloc)?,
+        clients: copy_clients(alloc, parts.clients.as_slice())?,
+        sessions: copy_sessions(alloc, parts.sessions.as_slice())?,
+    })
+}
