@@ -1,5 +1,5 @@
 -- The log behind the ends of a tick, in its loops.
-use Rattle.std.proofs.Common.{refl, sym, subst, ◌≡◌, ℕ, suc, [], ◌∷◌, Option}
+use Rattle.std.proofs.Common.{refl, sym, subst, ◌≡◌, ℕ, suc, true, [], ◌∷◌, Option, Some, None, is_some, IfSome, inl, inr}
 use Rattle.pres_ids.specs.declared.id.SessionId.{SessionId}
 use Rattle.pres_ids.specs.declared.id.Why.{Why}
 use Rattle.pres_log.specs.Logs.{Log}
@@ -7,8 +7,10 @@ use Rattle.pres_server.specs.declared.input.Input.TheVariants as input
 use Rattle.pres_server.specs.SumStates.{SumState}
 use Rattle.pres_ring.specs.Lines.{Lines, IsFirstMarked}
 use Rattle.pres_hub.specs.Cores.{CoreState, IsCoreLog, end_by}
-use Rattle.pres_hub.specs.CoreCalls.{AreMarkedEnded, AreLateEnded}
-use Rattle.pres_hub.specs.CoreTurns.{log_carried, log_marked, log_late, CarriesOn, EndsMarkedOn, EndsLateOn}
+use Rattle.pres_faults.specs.declared.hub_fault.HubFault.{HubFault}
+use Rattle.pres_faults.specs.declared.hub_fault.HubFault.TheVariants as fault
+use Rattle.pres_hub.specs.CoreCalls.{AreMarkedEnded, AreLateEnded, IsEndRefused, IsEventRefused, StopsAtMark, NoneMarked}
+use Rattle.pres_hub.specs.CoreTurns.{log_carried, log_marked, log_late, log_at_mark, CarriesOn, StandsStill, EndsMarkedOn, EndsLateOn, StopsAtMarkOn, StopsLateOn, TickStopsOn}
 
 module _ {A : Type 0} (works : A → Type 0) (keeps : A → Log → Type 0) (now : ℕ) where
   -- ---- marked sessions
@@ -35,6 +37,20 @@ module _ {A : Type 0} (works : A → Type 0) (keeps : A → Log → Type 0) (now
       let e = k.2 here.run.server here.lines ([], (refl, refl)) in
       (e.0, subst (λ l. IsCoreLog works keeps l here) (sym e.1) k.1)
 
+  pub marked_stops : (old here new : CoreState A) (next : SessionId × Why) (e : HubFault) → MarkedSince old here → IsFirstMarked next here.lines
+      → IsEndRefused (end_by next.1 next.0) now here.run.server new.run.server e → new.lines ≡ here.lines → StandsStill works keeps here new → StopsAtMarkOn works keeps now old new e
+  marked_stops old here new next e since first refused lines still log stands =
+      let k = since log stands in
+      let m = k.2 here.run.server here.lines ([], (refl, refl)) in
+      let stop : StopsAtMark now old.run.server new.run.server old.lines here.lines e = record { middle = here.run.server; ended = m.0; next = next; first = first; refused = refused } in
+      subst (λ l. (s : StopsAtMark now old.run.server new.run.server old.lines l e) × IsCoreLog works keeps (log_at_mark log s) new) (sym lines)
+      (stop, subst (λ l. IsCoreLog works keeps l new) (sym m.1) (still k.0 k.1))
+
+  -- memory is refused for the id of the first session that is marked
+  pub marked_uncopied : (old here : CoreState A) (found : Option (SessionId × Why)) → MarkedSince old here → is_some found ≡ true → IfSome found (λ e. IsFirstMarked e here.lines) → StopsAtMarkOn works keeps now old here fault.Memory
+  marked_uncopied old here None since is first = absurd (cc is)
+  marked_uncopied old here (Some next) since is first = marked_stops old here here next fault.Memory since first refl refl (λ log stands. stands)
+
   -- ---- leases
 
   abbrev pub LateSince : CoreState A → CoreState A → Type 0
@@ -57,3 +73,26 @@ module _ {A : Type 0} (works : A → Type 0) (keeps : A → Log → Type 0) (now
       let k = since log stands in
       let e = k.2 here.run.server here.lines (0, (refl, refl)) in
       (e.0, subst (λ l. IsCoreLog works keeps l here) (sym e.1) k.1)
+
+  pub late_stops : (old here new : CoreState A) (e : HubFault) → LateSince old here → IsEventRefused input.Tick now here.run.server new.run.server e → new.lines ≡ here.lines → StandsStill works keeps here new
+      → StopsLateOn works keeps now old new e
+  late_stops old here new e since refused lines still log stands =
+      let k = since log stands in
+      let l = k.2 here.run.server here.lines (0, (refl, refl)) in
+      subst
+          (λ behind. (last : Option SumState) × (ended : AreLateEnded now old.run.server last old.lines behind)
+          × IsEventRefused input.Tick now last new.run.server e × IsCoreLog works keeps (log_late log now ended.0 old.run.server last old.lines behind ended.1) new)
+      (sym lines) (here.run.server, l.0, refused, subst (λ x. IsCoreLog works keeps x new) (sym l.1) (still k.0 k.1))
+
+  -- ---- a tick that stops
+
+  pub tick_at_mark : (old new : CoreState A) (e : HubFault) → StopsAtMarkOn works keeps now old new e → TickStopsOn works keeps now old new e
+  tick_at_mark old new e stops log stands =
+      let s = stops log stands in
+      (inl s.0, s.1)
+
+  pub tick_at_lease : (old middle new : CoreState A) (e : HubFault) → EndsMarkedOn works keeps now old middle → NoneMarked middle.lines → StopsLateOn works keeps now middle new e → TickStopsOn works keeps now old new e
+  tick_at_lease old middle new e marked none stops log stands =
+      let m = marked log stands in
+      let s = stops (log_marked log now m.0.0 old.run.server middle.run.server old.lines middle.lines m.0.1) m.1 in
+      (inr (record { middle = middle.run.server; lines = middle.lines; ended = m.0; none_marked = none; last = s.0; late = s.1; refused = s.2 }), s.3)

@@ -1,5 +1,5 @@
 -- What the calls of a hub's core make of a log that stands.
-use Rattle.std.specs.Prelude.{ℕ, zero, suc, List, [], ◌∷◌, Option}
+use Rattle.std.specs.Prelude.{ℕ, zero, suc, List, [], ◌∷◌, Option, inl, inr}
 use Rattle.pres_ids.specs.declared.id.SessionId.{SessionId}
 use Rattle.pres_ids.specs.declared.id.Why.{Why}
 use Rattle.pres_wire.specs.declared.up.Up.TheVariants as up
@@ -12,7 +12,8 @@ use Rattle.pres_ring.specs.Lines.{Lines}
 use Rattle.pres_keeper.specs.EngineTurns.{log_turned}
 use Rattle.pres_dispatch.specs.Dispatches.{log_ended}
 use Rattle.pres_hub.specs.Cores.{CoreState, IsCoreLog}
-use Rattle.pres_hub.specs.CoreCalls.{IsCarriedOut, IsJoinAnswered, EndsMarked, AreMarkedEnded, EndsLate, AreLateEnded, IsTickDone}
+use Rattle.pres_faults.specs.declared.hub_fault.HubFault.{HubFault}
+use Rattle.pres_hub.specs.CoreCalls.{IsCarriedOut, IsJoinAnswered, EndsMarked, AreMarkedEnded, EndsLate, AreLateEnded, IsEventRefused, IsTickDone, StopsAtMark, StopsAtLease, IsTickStopped}
 
 -- the log with the batch of the turn, and with the ends of slow sessions
 abbrev pub log_carried : {i : Input} {now : ℕ} {old new : Option SumState} {before after : Lines} → Log → IsCarriedOut i now old new before after → Log
@@ -67,3 +68,35 @@ EndsLateOn works keeps now old new =
 abbrev pub TicksOn : {A : Type 0} → (A → Type 0) → (A → Log → Type 0) → ℕ → CoreState A → CoreState A → Type 0
 TicksOn works keeps now old new =
     (log : Log) → IsCoreLog works keeps log old → (done : IsTickDone now old.run.server new.run.server old.lines new.lines) × IsCoreLog works keeps (log_ticked log done) new
+
+-- ---- ends that stop
+
+-- the log with the ends before the session whose end is refused
+abbrev pub log_at_mark : {now : ℕ} {old new : Option SumState} {before after : Lines} {e : HubFault} → Log → StopsAtMark now old new before after e → Log
+log_at_mark {now} {old} {new} {before} {after} {e} log stop = log_marked log now stop.ended.0 old stop.middle before after stop.ended.1
+
+-- the log with the ends of marked sessions, and with those of leases before the one whose end is refused
+abbrev pub log_at_lease : {now : ℕ} {old new : Option SumState} {before after : Lines} {e : HubFault} → Log → StopsAtLease now old new before after e → Log
+log_at_lease {now} {old} {new} {before} {after} {e} log stop =
+    log_late (log_marked log now stop.ended.0 old stop.middle before stop.lines stop.ended.1) now stop.late.0 stop.middle stop.last stop.lines after stop.late.1
+
+-- the log with the ends before a tick stops
+abbrev pub log_stopped : {now : ℕ} {old new : Option SumState} {before after : Lines} {e : HubFault} → Log → IsTickStopped now old new before after e → Log
+log_stopped log (inl stop) = log_at_mark log stop
+log_stopped log (inr stop) = log_at_lease log stop
+
+-- the end of a marked session is refused, and each log that stood stands with the ends before it
+abbrev pub StopsAtMarkOn : {A : Type 0} → (A → Type 0) → (A → Log → Type 0) → ℕ → CoreState A → CoreState A → HubFault → Type 0
+StopsAtMarkOn works keeps now old new e =
+    (log : Log) → IsCoreLog works keeps log old → (stop : StopsAtMark now old.run.server new.run.server old.lines new.lines e) × IsCoreLog works keeps (log_at_mark log stop) new
+
+-- so it is with the end of a lease
+abbrev pub StopsLateOn : {A : Type 0} → (A → Type 0) → (A → Log → Type 0) → ℕ → CoreState A → CoreState A → HubFault → Type 0
+StopsLateOn works keeps now old new e =
+    (log : Log) → IsCoreLog works keeps log old → (last : Option SumState) × (ended : AreLateEnded now old.run.server last old.lines new.lines)
+    × IsEventRefused input.Tick now last new.run.server e × IsCoreLog works keeps (log_late log now ended.0 old.run.server last old.lines new.lines ended.1) new
+
+-- the tick stops, and each log that stood stands with the ends before it stops
+abbrev pub TickStopsOn : {A : Type 0} → (A → Type 0) → (A → Log → Type 0) → ℕ → CoreState A → CoreState A → HubFault → Type 0
+TickStopsOn works keeps now old new e =
+    (log : Log) → IsCoreLog works keeps log old → (stop : IsTickStopped now old.run.server new.run.server old.lines new.lines e) × IsCoreLog works keeps (log_stopped log stop) new

@@ -16,7 +16,7 @@ ghost use Rattle.pres_ring.specs.AcceptedMessages.{is_hello, messages_in};
 ghost use Rattle.pres_dispatch.specs.Dispatches.{StayMarked, Stands, IsAnswered, AreRestarted, log_restarted, IsNotStarted};
 ghost use Rattle.pres_faults.specs.HubFaults.{of_engine};
 ghost use Rattle.pres_ring.specs.Lines.{line_at, struck, ChangesAt};
-ghost use Rattle.pres_hub.specs.CoreTurns.{CarriesOn, JoinsOn, StandsStill, EndsMarkedOn, EndsLateOn, TicksOn};
+ghost use Rattle.pres_hub.specs.CoreTurns.{CarriesOn, JoinsOn, StandsStill, EndsMarkedOn, EndsLateOn, TicksOn, StopsAtMarkOn, StopsLateOn, TickStopsOn};
 ghost use Rattle.pres_hub.specs.Cores.{CoreInvariant, IsCoreLog, GoesOn, end_by};
 ghost use Rattle.pres_hub.specs.CoreCalls.{IsCarriedOut, IsJoinAnswered, IsHeldBack, HasSameCount, accepted_of, IsOwnMessage, IsSayAnswered, IsEventRefused, IsSayRefused, IsJoinRefused, IsEndRefused, IsMarked, NoneMarked, AreMarkedEnded, AreLateEnded, IsTickDone, StopsAtMark, IsTickStopped};
 ghost use Rattle.pres_faults.specs.declared.hub_fault.HubFault.TheVariants.{Down as Gone, Memory};
@@ -305,6 +305,7 @@ impl<L: Ledger, K: Keeper + Drop, B: Bell + Clone + Drop> Core<L, K, B> {
         ensures start { self.new.start ≡ self.old.start }
         ensures goes_on { GoesOn K.works K.keeps self.old self.new }
         ensures carries { OnOk result (EndsLateOn K.works K.keeps now self.old self.new) }
+        ensures stops { IfErr result (StopsLateOn K.works K.keeps now self.old self.new) }
     {
         loop {
             let before = self.exchange.number();
@@ -331,6 +332,7 @@ impl<L: Ledger, K: Keeper + Drop, B: Bell + Clone + Drop> Core<L, K, B> {
         ensures start { self.new.start ≡ self.old.start }
         ensures goes_on { GoesOn K.works K.keeps self.old self.new }
         ensures carries { OnOk result (TicksOn K.works K.keeps now self.old self.new) }
+        ensures stops { IfErr result (TickStopsOn K.works K.keeps now self.old self.new) }
     {
         let before = self.exchange.number();
         self.end_marked(now)?;
@@ -353,6 +355,7 @@ impl<L: Ledger, K: Keeper + Drop, B: Bell + Clone + Drop> Core<L, K, B> {
         ensures start { self.new.start ≡ self.old.start }
         ensures goes_on { GoesOn K.works K.keeps self.old self.new }
         ensures carries { OnOk result (EndsMarkedOn K.works K.keeps now self.old self.new) }
+        ensures stops { IfErr result (StopsAtMarkOn K.works K.keeps now self.old self.new) }
     {
         while let Some(next) = self.exchange.first_marked(self.alloc) {
             let (session, why) = next?;

@@ -7,7 +7,9 @@ use Rattle.pres_dispatch.proofs.Marks.{stay_same, stay_twice}
 use Rattle.pres_hub.proofs.Fewer.{late_fewer, rose}
 use Rattle.pres_hub.proofs.Ends.{late_more, none_late}
 use Rattle.pres_hub.proofs.CoreLogs.{goes_none, goes_twice}
-use Rattle.pres_hub.proofs.Ticking.{late_first, late_next, late_last}
+use Rattle.pres_hub.proofs.Ticking.{late_first, late_next, late_last, late_stops}
+use Rattle.pres_dispatch.proofs.Ended.{passed_on}
+use Rattle.pres_hub.specs.CoreTurns.{StopsLateOn}
 use Rattle.pres_hub.proofs.center.Core.end_late.Goals as goal
 
 pub returns-then-after-before-clause-ended : goal.returns-then-after-before-clause-ended
@@ -65,3 +67,10 @@ pub returns-then-after-before-clause-carries : goal.returns-then-after-before-cl
 returns-then-after-before-clause-carries g c =
     late_last g.K.Keeper.works g.K.Keeper.keeps c.args.now c.args.self.now c.event.new.self
     (late_next g.K.Keeper.works g.K.Keeper.keeps c.args.now c.args.self.now c.loop-self.self c.event.new.self c.loop-self.invariant.6 c.in_ok-event.ensures.carries)
+
+pub returns-in_err-event-clause-stops : goal.returns-in_err-event-clause-stops
+returns-in_err-event-clause-stops g c =
+    let now = c.loop-self.self in
+    let new = c.event.new.self in
+    passed_on c.from_residual.result c.in_err-event.field-0.0 (StopsLateOn g.K.Keeper.works g.K.Keeper.keeps c.args.now c.args.self.now new) c.from_residual.ensures.1
+    (late_stops g.K.Keeper.works g.K.Keeper.keeps c.args.now c.args.self.now now new c.in_err-event.field-0.0 c.loop-self.invariant.6 c.in_err-event.ensures.refused c.in_err-event.ensures.lines c.in_err-event.ensures.still)

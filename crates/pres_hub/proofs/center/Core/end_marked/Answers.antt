@@ -11,9 +11,9 @@ use Rattle.pres_hub.specs.Cores.{end_by}
 use Rattle.pres_hub.specs.CoreCalls.{IsCarriedOut, IsEventRefused, StopsAtMark}
 use Rattle.pres_hub.proofs.Fewer.{marked_fewer}
 use Rattle.pres_hub.proofs.Ends.{marked_more, stops_uncopied, refused_end}
-use Rattle.pres_hub.specs.CoreTurns.{CarriesOn}
+use Rattle.pres_hub.specs.CoreTurns.{CarriesOn, StopsAtMarkOn}
 use Rattle.pres_hub.proofs.CoreLogs.{goes_none, goes_twice}
-use Rattle.pres_hub.proofs.Ticking.{marked_first, marked_next, marked_last}
+use Rattle.pres_hub.proofs.Ticking.{marked_first, marked_next, marked_last, marked_stops, marked_uncopied}
 use Rattle.pres_hub.proofs.center.Core.end_marked.Goals as goal
 
 pub loop-next-smaller : goal.loop-next-smaller
@@ -83,3 +83,26 @@ returns-in_err-event-clause-goes_on g c = goes_twice g.K.Keeper.works g.K.Keeper
 
 pub returns-clause-carries : goal.returns-clause-carries
 returns-clause-carries g c = marked_last g.K.Keeper.works g.K.Keeper.keeps c.args.now c.args.self.now c.loop-next.self c.loop-next.invariant.6
+
+pub returns-in_err-session-clause-stops : goal.returns-in_err-session-clause-stops
+returns-in_err-session-clause-stops g c =
+    let now = c.loop-next.self in
+    let first = subst (λ x. IfSome (first_marked x.lines) (λ e. IsFirstMarked e x.lines)) c.self.view_is c.in-Some.ensures.first in
+    let is : is_some (first_marked now.lines) ≡ true = sym (subst (λ x. true ≡ is_some (first_marked x.lines)) c.self.view_is c.in-Some.ensures.found) in
+    passed_on c.from_residual.result Memory (StopsAtMarkOn g.K.Keeper.works g.K.Keeper.keeps c.args.now c.args.self.now now) c.from_residual.ensures.1
+    (marked_uncopied g.K.Keeper.works g.K.Keeper.keeps c.args.now c.args.self.now now (first_marked now.lines) c.loop-next.invariant.6 is first)
+
+pub returns-in_err-event-clause-stops : goal.returns-in_err-event-clause-stops
+returns-in_err-event-clause-stops g c =
+    let old = c.self.inside.exchange in
+    let now = c.loop-next.self in
+    let new = c.event.new.self in
+    let next = (c.in_ok-session.session, c.in_ok-session.why) in
+    let found : first_marked old.lines ≡ Some next = subst (λ r. IfOk r (λ e. first_marked old.lines ≡ Some e)) c.in_ok-session.was c.in-Some.ensures.session in
+    let first : IsFirstMarked next old.lines = subst (λ o. IfSome o (λ e. IsFirstMarked e old.lines)) found c.in-Some.ensures.first in
+    passed_on c.from_residual-in_err-event.result c.in_err-event.field-0.0 (StopsAtMarkOn g.K.Keeper.works g.K.Keeper.keeps c.args.now c.args.self.now new) c.from_residual-in_err-event.ensures.1
+    (marked_stops g.K.Keeper.works g.K.Keeper.keeps c.args.now c.args.self.now now new next c.in_err-event.field-0.0 c.loop-next.invariant.6
+    (subst (λ x. IsFirstMarked next x.lines) c.self.view_is first)
+    (refused_end (end_by c.in_ok-session.why c.in_ok-session.session) c.args.now now.run.server new.run.server c.in_err-event.field-0.0
+    (subst (λ i. IsEventRefused i c.args.now now.run.server new.run.server c.in_err-event.field-0.0) c.end_by.ensures.input c.in_err-event.ensures.refused))
+    c.in_err-event.ensures.lines c.in_err-event.ensures.still)

@@ -4,7 +4,10 @@ use Rattle.pres_keeper.specs.Engines.{Runs}
 use Rattle.pres_ring.specs.Lines.{line_at}
 use Rattle.pres_dispatch.specs.Dispatches.{StaysMarked}
 use Rattle.pres_hub.proofs.CoreLogs.{goes_twice}
+use Rattle.pres_dispatch.proofs.Ended.{passed_on}
+use Rattle.pres_hub.specs.CoreTurns.{TickStopsOn}
 use Rattle.pres_hub.proofs.Ends.{closed_there}
+use Rattle.pres_hub.proofs.Ticking.{tick_at_mark, tick_at_lease}
 use Rattle.pres_hub.proofs.center.Core.tick.Goals as goal
 
 pub returns-in_err-end_late-clause-goes_on : goal.returns-in_err-end_late-clause-goes_on
@@ -35,3 +38,13 @@ returns-clause-carries g c = λ log stands.
       },
       late.1,
     )
+
+pub returns-in_err-end_marked-clause-stops : goal.returns-in_err-end_marked-clause-stops
+returns-in_err-end_marked-clause-stops g c =
+    passed_on c.from_residual.result c.in_err-end_marked.field-0.0 (TickStopsOn g.K.Keeper.works g.K.Keeper.keeps c.args.now c.args.self.now c.end_marked.new.self) c.from_residual.ensures.1
+    (tick_at_mark g.K.Keeper.works g.K.Keeper.keeps c.args.now c.args.self.now c.end_marked.new.self c.in_err-end_marked.field-0.0 c.in_err-end_marked.ensures.stops)
+
+pub returns-in_err-end_late-clause-stops : goal.returns-in_err-end_late-clause-stops
+returns-in_err-end_late-clause-stops g c =
+    passed_on c.from_residual-in_err-end_late.result c.in_err-end_late.field-0.0 (TickStopsOn g.K.Keeper.works g.K.Keeper.keeps c.args.now c.args.self.now c.end_late.new.self) c.from_residual-in_err-end_late.ensures.1
+    (tick_at_lease g.K.Keeper.works g.K.Keeper.keeps c.args.now c.args.self.now c.end_marked.new.self c.end_late.new.self c.in_err-end_late.field-0.0 c.in_ok-end_marked.ensures.carries c.in_ok-end_marked.ensures.none_marked c.in_err-end_late.ensures.stops)
