@@ -4,7 +4,8 @@ use Rattle.pres_ids.specs.declared.id.SessionId.{SessionId}
 use Rattle.pres_faults.specs.declared.hub_fault.HubFault.{HubFault}
 use Rattle.pres_accounting.specs.declared.tally.Counts.{Counts}
 
--- whose seat it is, its session's last q, the greatest number that it was told of, and how many of its messages were accepted
+-- whose seat it is, its session's last q, the greatest number that was sent to it, and how many of its messages were
+-- accepted
 pub record SeatState : Type 0 where
   pub session : SessionId
   pub q : ℕ

@@ -1,5 +1,6 @@
-//! Seats: what each connection of a hub said and was told of, and how many of its messages were
-//! accepted. These are counted in a ledger, so that what a run accepted is what its seats made.
+//! Seats: for each connection of a hub, what it sent, the greatest number it received, and how many
+//! of its messages were accepted. A ledger counts the accepted messages, so that its total is the
+//! sum over its seats.
 #![tactic(auto)]
 
 mod report;

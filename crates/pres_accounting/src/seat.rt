@@ -7,9 +7,9 @@ use pres_server::{Count, SessionId};
 use std::marker::Model;
 use std::sync::ledger::{Ledger, Share};
 
-/// The place of a connection at the hub. It can't be let go: `Tally::take` takes it back. Contracts
-/// see its session, the number of its last message, the greatest number that it was told of, and
-/// how many of its messages were accepted, its Hello too.
+/// The place of a connection at the hub. It can't be dropped: `Tally::take` takes it back.
+/// Contracts see its session, the number of its last message, the greatest number that was sent to
+/// it, and how many of its messages were accepted, its Hello too.
 pub struct Seat<L: Ledger> {
     pub(crate) session: SessionId,
     pub(crate) q: Count,
@@ -44,14 +44,14 @@ impl<L: Ledger> Seat<L> {
         self.q
     }
 
-    /// The greatest number that it was told of.
+    /// The greatest number that was sent to it.
     pub fn seen(&self) -> u64
         ensures { result ≡ self.now.seen }
     {
         self.seen
     }
 
-    /// It was told of the number, which is no smaller than those before.
+    /// Notes a number that was sent to it, no smaller than the ones before.
     pub fn see(&mut self, number: u64)
         requires { self.old.seen ≤ number }
         ensures { self.new ≡ record self.old { seen = number } }
@@ -60,8 +60,8 @@ impl<L: Ledger> Seat<L> {
     }
 }
 
-/// What a seat leaves behind. Contracts see how many of its messages were accepted, and why its end
-/// was refused, where it was: then the session is marked and ended later.
+/// What remains of a seat. Contracts see how many of its messages were accepted, and why its
+/// session could not be ended, where that failed: then the session is marked and ended later.
 #[derive(Drop)]
 pub struct Parting<L: Ledger> {
     pub(crate) made: u64,

@@ -38,7 +38,7 @@ pub record Reached (input rest before after : Option (List ℕ)) : Type 0 where
   pub lines : lines_of seen ≡ done ++ last ∷ []
   pub written : Appends before after (replies start done)
 
--- The same, where so many bytes at least were read.
+-- The same, where at least this many bytes were read.
 pub record ReachedPast (least : ℕ) (input rest before after : Option (List ℕ)) : Type 0 where
   pub reached : Reached input rest before after
   pub long : least ≤ length reached.seen
@@ -101,7 +101,7 @@ pub record Midway (old new : ApplyState) (line piece rest bytes : List ℕ) (cut
   pub state : new ≡ end_of old done
   pub text : out ≡ before ++ replies old done
 
--- What was read, so many bytes at least, and written so far, and the state then.
+-- What was read, at least this many bytes, and written so far, and the state then.
 pub record Going (input rest before after : Option (List ℕ)) (s : ApplyState) (bytes : List ℕ) (cut : Bool) (least : ℕ) : Type 0 where
   pub seen : List ℕ
   pub said : List ℕ

@@ -57,7 +57,7 @@ pub fn apply_run<R: Read, W: Write>(
     Err(RunFault::Endless)
 }
 
-// So many bytes of room.
+// This many zero bytes.
 fn zeros(alloc: Global, count: usize) -> Result<Vec<u8>, AllocError>
     ensures { IfOk result (λ made. vec_len made ≡ count) }
 {

@@ -25,7 +25,7 @@ are_done after last (row ∷ later) = nat_lt after row.done && nat_le row.done l
 abbrev pub last_in : ClientId → List ClientPart → Option Stamp
 last_in client clients = find client_cmp client (map (λ c. (c.id, c.last)) clients)
 
--- what holds of an open session, after so many entries
+-- what holds of an open session, after this many entries
 pub record IsOpenPart (number : ℕ) (s : SessionPart) : Type 0 where
   -- the places stand in path order, each once
   pub listens : IsStrictlySortedBy path_cmp s.listens

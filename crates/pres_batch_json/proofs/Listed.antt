@@ -10,7 +10,7 @@ use Rattle.pres_batch_json.specs.Reads.{all_of, list_of}
 abbrev pub AllRead : {A : Type 0} → (Data → Option A) → (A → Data) → (A → A) → List A → ℕ → Type 0
 AllRead {A} found json kept xs n = (k : ℕ) (d : A) → k < n → found (json (slice_index_or xs k d)) ≡ Some (kept (slice_index_or xs k d))
 
--- the JSON of the first n nests so many levels at most
+-- the JSON of the first n nests at most this many levels
 abbrev pub AllLow : {A : Type 0} → (A → Data) → ℕ → List A → ℕ → Type 0
 AllLow {A} json levels xs n = (k : ℕ) (d : A) → k < n → depth (json (slice_index_or xs k d)) ≤ levels
 

@@ -1,4 +1,4 @@
--- The entries of a batch as JSON: what is saved of a batch beside its number and its moment.
+-- The entries of a batch as JSON: what is saved of a batch, along with its number and its moment.
 use Rattle.std.specs.Prelude.{ℕ, List, [], ◌∷◌, codes, map, Option, Some, None}
 use Rattle.serde_json.specs.Data.{Data, null, string, array, object, no_items, item, no_members, member, put}
 use Rattle.serde_json.specs.View.{items_of}

@@ -32,7 +32,7 @@ in_range m h = grind (arith, nat_tests)
 reads_stored : (k : ℕ) (s : RowContent) → s.moment ≤ last_moment → IsUtf8 s.body → saved_row k (shown_row (stored k s)) ≡ Some s
 reads_stored k s low text = rw (is_utf8-from_IsUtf8 s.body text, same_number k, in_range s.moment low)
 
--- a row behind these is the last that is saved
+-- a row after these is the last that is saved
 pub saved_next : (rows : List Row) (last : ℕ) (s : RowContent) → s.moment ≤ last_moment → IsUtf8 s.body
     → (before : List RowContent) → saved_rows (map shown_row rows) ≡ Ok before → last ≡ length before → saved_rows (map shown_row (rows ++ stored (last + 1) s ∷ [])) ≡ Ok (before ++ s ∷ [])
 saved_next rows last s low text before holds count =

@@ -218,7 +218,7 @@ may_leave s k b db text can (inr may) =
     let made = does_insert s.step_limit (mode_of s) k b s.now may.2 text may.1 can.ours.schema may.3 in
     ap (λ (t : Trees). t 2) may.5 ∙ made.1 ∙ put_above k b (rows_in s) can.below
 
--- what a crash may leave beside the rows before
+-- what a crash may leave other than the rows before
 leaves : (s : State) (k : ℕ) (b : RowContent) (db : Trees) → CanTake s k → CommitsBy insert_text (params_for k b) s db → db 2 ≡ rows_in s ++ stored k b ∷ []
 unfolding CommitsBy
 leaves s k b db can h =
@@ -271,7 +271,7 @@ awaits_left old new k idle left = record {
 
 -- ---- the row is added where the statement was understood
 
--- what a crash may leave beside what it left before: the rows with one more, and only where the store was open
+-- what a crash may leave in addition to what it left before: the rows with one more, and only where the store was open
 abbrev pub WithRow : State → ℕ → RowContent → Trees → Type 0
 WithRow s k b db = IsTrue s.is_open × (db 2 ≡ rows_in s ++ stored k b ∷ [])
 

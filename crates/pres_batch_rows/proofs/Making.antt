@@ -46,7 +46,7 @@ creates_meta old new count has h =
     let made = creates no_schema meta_text meta create_meta_is.0 create_meta_is.1 meta_is meta_plain refl old new count has h in
     (made.0, made.1)
 
--- the second, beside it
+-- the second, next to it
 pub creates_batch : (old new : State) (count : ℕ) → old.now.schema ≡ meta_schema → Executes batch_text [] old new (Ok count)
     → (new.now.schema ≡ saved_schema) × (new.now.trees 2 ≡ []) × (new.now.trees 0 ≡ old.now.trees 0)
 creates_batch old new count has h =

@@ -41,7 +41,7 @@ pub taken_push : {T : Type 0} (takes : T → RowContent → T → Type 0) (given
 taken_push takes [] row old mid new h one = (new, subst (λ m. takes m row new) h one, refl)
 taken_push takes (first ∷ given) row old mid new h one = (h.0, h.1, taken_push takes given row h.0 mid new h.2 one)
 
--- the query has given so many rows, which save these
+-- the query has returned this many rows, which save these
 pub record Progress {S : Type 0} (g : Ghosts S) (first held : Held S) (saved : List RowContent) (count : ℕ) : Type 0 where
   pub given : List Row
   pub has : HasGiven g select_text [] held given

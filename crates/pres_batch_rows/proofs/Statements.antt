@@ -48,7 +48,7 @@ pub batch_is : table_defined_by batch_text ≡ Ok batch
 unfolding understood everything
 batch_is = refl
 
--- the tables of the statements, and others beside them
+-- the tables of the statements, and others with them
 abbrev beside : List Table → List Index → List View → Schema
 beside others indexes views = record { tables = saved_schema.tables ++ others; indexes = indexes; views = views }
 

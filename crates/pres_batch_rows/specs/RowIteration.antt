@@ -35,7 +35,7 @@ module _ {T : Type 0} (takes : T → RowContent → T → Type 0) (refuses : T �
     pub taken : TakesAll takes given old mid
     pub refused : refuses mid row e new
 
-  -- all rows before the first bad one were taken, and its number is told
+  -- all rows before the first bad one were taken, and the fault names its number
   pub record MeetsBadRow (shown : List Row) (old new : T) (e : SavedFault) : Type 0 where
     pub k : ℕ
     pub bad : saved_rows shown ≡ Err k

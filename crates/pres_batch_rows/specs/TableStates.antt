@@ -20,8 +20,8 @@ abbrev pub kept_code : {S : Type 0} → Coded S → Coded (TableState S)
 kept_code {S} store =
     code_by (Held S × ℕ) (coded× (held_code store) coded_ℕ) (λ t. (t.connection, t.last)) (λ p. record { connection = p.0; last = p.1 }) (λ _. refl)
 
--- The tables of our names are those of the statements. They come first, since they are made where there is no other, and
--- whatever tables, indexes and views stand beside them.
+-- The tables with our names are those of the statements. They come first, since the statements create them where they
+-- don't exist; any other tables, indexes and views may follow.
 pub record HasOurTables (schema : Schema) : Type 0 where
   pub others : List Table
   pub tables : schema.tables ≡ saved_schema.tables ++ others

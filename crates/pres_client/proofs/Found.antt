@@ -38,7 +38,7 @@ watch_of-frozen p seen (e ∷ ws) = by (eq_by_cmp path_cmp p e.0) (watch_of-froz
   by true h = refl
   by false h = h
 
--- a watch that is told a value
+-- a watch that receives a value
 abbrev pub now : Rows Scalar → Watch → Watch
 now v w = record w { shown = shown.Live v }
 

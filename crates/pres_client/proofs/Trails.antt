@@ -56,7 +56,7 @@ last_or-push : {A : Type 0} → (o : Option A) (xs : List A) (x : A) → last_or
 last_or-push o [] x = refl
 last_or-push o (y ∷ xs) x = last_or-push (Some y) xs x
 
--- the last value told
+-- the last value received
 abbrev last_told : Path → List Down → Option (Rows Scalar)
 last_told p ms = last_or None (filter_map (value_told p) ms)
 
@@ -454,7 +454,7 @@ next_answered p c t s r z q x v on apart h = by (same_path x p) refl (is_last x 
   asked : Bool
   asked = list_any (is_on p) rest
 
-  -- what is told of another path, or of p while its messages don't count
+  -- what is received for another path, or for p while its messages don't count
   silent : (t.counts ≡ true → value_told p m ≡ None) → Holds p d (more t m)
   silent e = rest_holds p (bring c z) (more t m) rest (silent_rest p c.queue) (takes_silent p c t m e h)
 

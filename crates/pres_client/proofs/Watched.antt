@@ -1,4 +1,4 @@
--- What is told of the paths that are listened to.
+-- What is received for the paths that are listened to.
 use Rattle.std.proofs.Common.{ℕ, ◌≡◌, ◌++◌, List, [], ◌∷◌, refl}
 use Rattle.pres_tree.specs.Paths.{Path}
 use Rattle.pres_wire.specs.declared.up.Up.{Up}

@@ -1,4 +1,4 @@
--- What a Welcome puts in front of the writes, and that its numbers can be told.
+-- What a Welcome puts in front of the writes, and that its numbers fit.
 use Rattle.std.proofs.Common.{ℕ, ◌+◌, ◌≤◌, ◌≡◌, Bool, true, false, ◌&&◌, List, [], ◌∷◌, ◌++◌, length, max, map, Some, refl, arith, nat_le, unwrap_or, length-append, Result, Ok, Err, if◌then◌else◌}
 use Rattle.std.specs.Result.{OnOk, OnErr}
 use Rattle.std.proofs.lemmas.Bool.Decides.{nat_tests}

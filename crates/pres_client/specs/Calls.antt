@@ -111,7 +111,7 @@ answer_refusal c (answer.New new) (Some a) = if no_write c || no_message c then 
 abbrev pub spent_if : Bool → Option ClientFault
 spent_if b = if b then Some Spent else None
 
--- why a call is refused, but for want of memory, which comes last
+-- why a call is refused, apart from lack of memory, which comes last
 abbrev pub refusal : ClientState → Call → Option ClientFault
 refusal c (call.Set p draft) = write_refusal c (set_fault p draft)
 refusal c (call.Update p places) = write_refusal c (update_fault p places.items)
@@ -223,7 +223,7 @@ Does c k d = (refusal c k ≡ None) × (d ≡ after_call c k)
 abbrev pub Answers : ClientState → Call → ClientState → ℕ → Type 0
 Answers c k d request = (request ≡ c.requests + 1) × Does c k d
 
--- the call is refused, at last for want of memory, and the client is as it was
+-- the call is refused, last of all for lack of memory, and the client is as it was
 abbrev pub Refuses : ClientState → Call → ClientState → ClientFault → Type 0
 Refuses c k d e = (e ≡ unwrap_or (refusal c k) Memory) × (d ≡ c)
 

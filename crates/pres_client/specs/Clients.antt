@@ -86,7 +86,7 @@ base_of c = unwrap_or c.base 0
 abbrev pub outstanding : ClientState → List Up
 outstanding c = messages c.session (c.heard + 1) (base_of c + c.answered + 1) c.queue
 
--- the numbers of every client can be told: none passes 2^53 - 1
+-- the numbers of every client fit: none passes 2^53 - 1
 pub record InRange (base : Option ℕ) (made sent answered heard : ℕ) (queue : List Queued) : Type 0 where
   pub writes : made ≡ answered + count_writes queue
   pub gone_out : sent ≤ made

@@ -12,7 +12,7 @@ abbrev pub IsShown : ClientState → Notice → Type 0
 IsShown c (notice.Value p z v) = view p c ≡ Some (z, v)
 IsShown c n = ⊤
 
--- behind these notices more were noted, and each value among them is what the client shows now
+-- these notices were added, and each value among them is what the client shows now
 pub record Notes (before : List Notice) (now : ClientState) : Type 0 where
   pub noted : List Notice
   pub added : now.notices ≡ before ++ noted

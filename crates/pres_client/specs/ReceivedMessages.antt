@@ -141,7 +141,7 @@ abbrev pub judge_denied : ClientState → List Queued → ℕ → Limit → Clie
 judge_denied c queue q limit.Plan = judge_action c queue q denied
 judge_denied c queue q limit.Listens = listen_denied c (drop 1 queue) q (first_listen queue)
 
--- the value is told, where the path is listened to
+-- the value is stored, where the path is listened to
 abbrev pub after_value : ClientState → Path → ℕ → Rows Scalar → Option Watch → ClientState
 after_value c p z v None = c
 after_value c p z v (Some w) = let d = note c (notice.Value p z v) in record d { watches = tell p v c.watches }

@@ -97,7 +97,7 @@ made_step c t (receives m) = t
 made_step c t hands_out_sends = t
 made_step c t hands_out_notices = t
 
--- the session's list begins where the client comes to be Online, and is of no more use once it is not
+-- the session's list begins when the client goes Online, and is of no more use once it is not
 abbrev pub kept_while : ClientState → ClientState → SendList → SendList
 kept_while c d t = if is_online d.phase then (if is_online c.phase then t else opening d t) else t
 

@@ -82,7 +82,8 @@ abbrev pub trail : Path → ClientState → Trail → List ClientStep → Trail
 trail p c t [] = t
 trail p c t (s ∷ steps) = trail p (after c s) (kept_for p (after c s) (trail_step p c t s)) steps
 
--- After any steps the view of a path is what its trail tells: the number of the last message, and the last value told.
+-- After any steps the view of a path is what its trail says: the number of the last message, and the last value
+-- received.
 abbrev pub ViewsHold : Type 0
 ViewsHold =
     (client : ClientId) (incarnation : ℕ) (p : Path) (steps : List ClientStep) → AreMessages steps →

@@ -59,7 +59,7 @@ pub struct Client {
     pub(crate) mail: ClientQueues,
 }
 
-// By hand, so that letting go of a client is one step of a proof, in the crates above too.
+// Written out so that dropping a client is one step of a proof, in the crates above too.
 impl Drop for Client {
     fn drop(self) {
         let Client {

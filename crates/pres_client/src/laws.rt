@@ -4,8 +4,8 @@ ghost use Rattle.pres_client.specs.Notices.{CallsNote, MessagesNote};
 ghost use Rattle.pres_client.specs.Views.{ViewsHold};
 ghost use Rattle.pres_client.specs.Sends.{SendsHold, StepSends};
 
-/// After any steps the view of a path is what the messages that count for it tell: the number of
-/// the last one, and the last value told.
+/// After any steps the view of a path follows from the messages that count for it: the number of
+/// the last one, and the last value received.
 pub fn views_hold()
     ensures { ViewsHold }
 {}
@@ -21,7 +21,7 @@ pub fn steps_send()
     ensures { StepSends }
 {}
 
-/// What a client notes of values is what it shows: behind each call and each message, a value that
+/// What a client notes of values is what it shows: after each call and each message, a value that
 /// was noted is the view of its path, at the view's number.
 pub fn notes_are_shown()
     ensures calls { CallsNote }

@@ -52,7 +52,7 @@ fn news(
     Ok(notices)
 }
 
-// The path shows the value, where this session told one before.
+// The path shows the value, where this session sent one before.
 fn tell_live(watches: &mut Watches, told: PathValue)
     ensures { watches.new ≡ tell_live watches.old told }
 {
@@ -62,7 +62,7 @@ fn tell_live(watches: &mut Watches, told: PathValue)
     }
 }
 
-// The watches show the values of the paths that this session told before.
+// The watches show the values of the paths whose values this session sent before.
 fn tell_all(watches: &mut Watches, values: Vec<PathValue>)
     ensures { watches.new ≡ fold tell_live watches.old values.items }
 {

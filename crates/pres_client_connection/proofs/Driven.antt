@@ -136,7 +136,7 @@ called c d k old h = record {
   printed_them = subst (λ r. Appends old old (refusal_line r ++ [])) (sym h.0) (unwritten old);
 }
 
--- a call that is refused, but for want of memory
+-- a call that is refused, apart from lack of memory
 is_refusal : (r : Option ClientFault) (e : ClientFault) → e ≡ unwrap_or r Memory → (e ≡ Memory → ⊥) → r ≡ Some e
 is_refusal (Some f) e why other = ap Some (sym why)
 is_refusal None e why other = absurd (other why)
@@ -155,7 +155,7 @@ refused c d k e old new h other told = let why = is_refusal (refusal c k) e h.0 
 pub passed_over : (c : ClientState) (old new : Option Text) → Appends old new (line_of (refusal_text 5)) → Drives c (None ∷ []) c old new
 passed_over c old new told = record { events = refuses ∷ []; came = refl; asked_them = refl; heard = no_steps; waited = tt; printed_them = subst (Appends old new) (sym (append-nil (line_of (refusal_text 5)))) told }
 
--- what a line asks for, and then those behind it
+-- what a line asks for, and then the lines after it
 asked_next : (l : Line) (lines : List Line) → asked_in (l ∷ []) ++ asked_in lines ≡ asked_in (l ∷ lines)
 asked_next (line.Call k) lines = refl
 asked_next line.Refused lines = refl

@@ -49,7 +49,7 @@ printed_of c [] = []
 printed_of c (does s ∷ events) = printed c s ++ printed_of (after c s) events
 printed_of c (refuses ∷ events) = line_of (refusal_text 5) ++ printed_of c events
 
--- nothing waits for an answer, to be sent or to be told
+-- nothing waits for an answer, to be sent or to be printed
 pub record IsSettled (c : ClientState) : Type 0 where
   pub answered : unanswered c ≡ 0
   pub sent : c.sends ≡ []

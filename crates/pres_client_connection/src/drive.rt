@@ -16,13 +16,13 @@ use std::alloc::Global;
 use std::io::{Read, Write};
 use tungstenite::{Error, MaskKeys};
 
-// What a refused call's JSON or path is told as.
+// The name by which a call with refused JSON or a refused path is printed.
 const REFUSED: u8 = 5;
 
 /// Takes a client online over the stream, does what each line says, and takes it offline. Once it
-/// is online and behind each line it reads until nothing waits for an answer. Its notices go to the
-/// output, each as a line, and a call that is refused as `refused` and its number. At the end
-/// nothing is left to send or to tell. Refused with the client as it is then, as it was where the
+/// is online, and after each line, it reads until nothing waits for an answer. Each of its notices
+/// goes to the output as a line, and a refused call as `refused` and its number. At the end nothing
+/// is left to send or to print. A refusal hands back the client as it is then, unchanged where the
 /// handshake failed; a connection that the server closes is a fault of the stream.
 pub fn drive_client<S: Read + Write + Drop, M: MaskKeys + Drop, W: Write>(
     alloc: Global,

@@ -1,4 +1,4 @@
--- What is told of the paths that are listened to.
+-- What is received for the paths that are listened to.
 use Rattle.std.proofs.Common.{◌≡◌, Some, None, refl}
 use Rattle.pres_tree.specs.declared.scalar.Scalar.{Scalar}
 use Rattle.pres_tree.specs.Paths.{Path}

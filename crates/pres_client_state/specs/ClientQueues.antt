@@ -14,12 +14,12 @@ pub record QueuesState : Type 0 where
   pub sends_room : ℕ
   pub notices_room : ℕ
 
--- so many more go in without memory
+-- this many more go in without allocating
 pub record HasRoom (m : QueuesState) (queued sent noted : ℕ) : Type 0 where
   pub queue : queued ≤ m.queue_room
   pub sends : sent ≤ m.sends_room
   pub notices : noted ≤ m.notices_room
 
--- so many numbers can be told from the first one on
+-- this many numbers fit, from the first one on
 abbrev pub MayNumber : ℕ → ℕ → Type 0
 MayNumber first count = (1 ≤ first) × (first + count ≤ greatest_number + 1)

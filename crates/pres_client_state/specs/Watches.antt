@@ -36,7 +36,7 @@ kept seen (shown.Live v) = shown.Kept seen v
 abbrev pub frozen : ℕ → Watches → Watches
 frozen seen ws = map (λ e. (e.0, record e.1 { shown = kept seen e.1.shown })) ws
 
--- the session told a value of the path, where that is listened to
+-- the session sent a value of the path, where that is listened to
 abbrev pub tell : Path → Rows Scalar → Watches → Watches
 tell p v ws = tell_at (watch_of p ws) where
   tell_at : Option Watch → Watches
@@ -48,12 +48,12 @@ is_shown_live shown.Nothing = false
 is_shown_live (shown.Kept z v) = false
 is_shown_live (shown.Live v) = true
 
--- this session told a value of the path
+-- this session sent a value of the path
 abbrev pub is_live : Option Watch → Bool
 is_live None = false
 is_live (Some w) = is_shown_live w.shown
 
--- the number and the value that are shown; what this session told holds at the number of the last message taken
+-- the number and the value that are shown; what this session sent holds at the number of the last message taken
 abbrev pub shown_at : ℕ → Shown → Option (ℕ × Rows Scalar)
 shown_at seen shown.Nothing = None
 shown_at seen (shown.Kept z v) = Some (z, v)

@@ -127,7 +127,7 @@ impl ClientQueues {
         }
     }
 
-    /// Makes room for so many more of each.
+    /// Makes room for this many more of each.
     pub fn reserve(&mut self, queue: usize, sends: usize, notices: usize) -> Result<(), AllocError>
         ensures queue { self.new.queue ≡ self.old.queue }
         ensures sends { self.new.sends ≡ self.old.sends }

@@ -18,7 +18,7 @@ pub enum Shown {
     Nothing,
     /// The value of an earlier session, and the server's number at which that session was left.
     Kept { number: Count, value: Tree },
-    /// The value that this session was told last. It holds at the number of the last message.
+    /// The value that this session sent last. It holds at the number of the last message.
     Live { value: Tree },
 }
 
@@ -36,7 +36,7 @@ impl Shown {
         }
     }
 
-    /// Whether this session told it.
+    /// Whether this session sent it.
     pub fn is_live(&self) -> bool
         ensures { result ≡ is_shown_live self.now }
     {
@@ -111,7 +111,7 @@ impl Watches {
         self.by_path.get(path)
     }
 
-    /// Whether this session told a value of the path.
+    /// Whether this session sent a value of the path.
     pub fn is_live(&self, path: &Path) -> bool
         ensures { result ≡ is_live (watch_of path.now self.now) }
     {
@@ -141,7 +141,7 @@ impl Watches {
         drop(self.by_path.remove(path));
     }
 
-    /// This session told the value of the path, where that is listened to.
+    /// This session sent the value of the path, where that is listened to.
     pub fn tell(&mut self, path: &Path, value: Tree)
         ensures { self.new ≡ tell path.now value self.old }
     {

@@ -16,6 +16,6 @@ Asks name rows words = AreTaken words × (subcommand_of program words ≡ Some (
 abbrev pub HasServed : List Row → Option Text → Option Text → Type 0
 HasServed rows old new = (serving : ServeOptions) × IsServed serving rows × ((number : ℕ) × Appends old new (listening_line serving.address.now ++ number_line number))
 
--- what a new client of the id and the incarnation that were given told, asked for what the lines of the input say
+-- what a new client with the given id and incarnation prints when it does what the lines of the input say
 abbrev pub HasCalled : List Row → Option Text → Option Text → Option Text → Type 0
 HasCalled rows input old new = (calling : ClientWords) × IsCalled calling rows × HasRunClient calling.id.now calling.incarnation input old new

@@ -70,7 +70,7 @@ AreTaken words = fault_of program words ≡ []
 abbrev pub IsMistake : ErrorKind → Type 0
 IsMistake k = (k ≢ kind.DisplayHelp) × (k ≢ kind.DisplayVersion)
 
--- the number of so many bits that the text's decimal digits tell: none without a text, or where they tell none
+-- the number with this many bits that the text's decimal digits write: none without a text, or where they write none
 abbrev pub IsReadAs : ℕ → Option Text → Option ℕ → Type 0
 IsReadAs bits None number = number ≡ None
 IsReadAs bits (Some text) number =

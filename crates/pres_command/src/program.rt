@@ -246,8 +246,8 @@ fn explain<W: Write, F: Write>(error: &Error, output: &mut W, faults: &mut F) ->
     DONE
 }
 
-/// Says on the stream for faults why the words of the command line could not be read, and answers
-/// the exit status: 5 for want of memory, else 2.
+/// Prints on the stream for faults why the command line could not be parsed, and returns the exit
+/// status: 5 for lack of memory, else 2.
 pub fn explain_unread<F: Write>(error: &io::Error, faults: &mut F) -> u8
     ensures { (result ≡ 2) ⊎ (result ≡ 5) }
 {

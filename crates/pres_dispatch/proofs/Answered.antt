@@ -1,4 +1,4 @@
--- What is told after a turn, and on which lines it was put.
+-- What is sent after a turn, and on which lines it was put.
 use Rattle.std.proofs.Common.{refl, sym, ◌∙◌, ap, subst, ◌≡◌, ℕ, List, [], ◌∷◌, ◌++◌, Bool, true, false, not, ◌&&◌, ◌||◌, append-nil, Option, Some, None, inl, inr, unwrap_or, IfSome}
 use Rattle.std.specs.List.{list_any}
 use Rattle.std.proofs.lemmas.Bool.{and_parts}
@@ -69,7 +69,7 @@ line_told s old new ms (Some l) after t o h p = by (list_any (is_gone_for s) ms)
   by true k gone = subst (CarriesTranscript new s) (sym gone) (o ∙ (λ i. h.0 i && not (k i)))
   by false k put = subst (CarriesTranscript new s) (sym put.1) (o ∙ (λ i. h.0 i && not (k i)), sent_told s old new ms l.sent put.0.sent t h.1 put.3)
 
--- what is to be put on the line is told in this log
+-- what is to be put on the line is sent to its session in this log
 pub line_with : (s : SessionId) (old : List Entry) (log : Log) (ms : List Down) (line : Option SessionLine) → IsLegal log → transcript s (entries log) ≡ transcript s old ++ those_for s ms
     → (list_any (opens s) old ≡ true → list_any (opens s) (entries log) ≡ true) → CarriesTranscript old s line → FitsTranscript s ms line
 line_with s old log ms None legal t o h = tt

@@ -37,7 +37,7 @@ pub runs_map : (P Q : SumState → Type 0) → ((s : SumState) → P s → Q s) 
 runs_map P Q f None h = tt
 runs_map P Q f (Some s) h = f s h
 
--- so many entries more
+-- this many entries more
 pub number_after : (es : List Entry) (sum : Sum) → (sum_after_all es sum).number ≡ sum.number + length es
 number_after [] sum = let none : sum.number ≡ sum.number + 0 = omega arith in none
 number_after (e ∷ es) sum = let rest = number_after es (sum_after e sum) in omega (arith, rest)

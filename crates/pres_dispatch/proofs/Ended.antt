@@ -60,7 +60,7 @@ pub goes_on : {U E : Type 0} (r : Result U E) (P : Log → Type 0) (made same : 
 goes_on (Ok x) P made same h = h
 goes_on (Err e) P made same h = h
 
--- these ends stand before the others, and the log behind both is that of the others behind this one
+-- these ends come before the others, and the log after both is that of the others after this one
 abbrev pub Before : (now : ℕ) (old new after : Option SumState) (before lines behind : Lines) → (Log → Log) → AreEnded now new after lines behind → Type 0
 Before now old new after before lines behind on h = (e : AreEnded now old after before behind) × ((log : Log) → log_ended log e ≡ log_ended (on log) h)
 
@@ -104,9 +104,9 @@ module _ (now : ℕ) (old : Option SumState) (before middle : Lines) (found : Op
       λ log. refl,
     )
 
--- ---- what stays behind the ends of slow sessions
+-- ---- what is kept by the ends of slow sessions
 
--- what holds of a server and of its log holds behind the ends of slow sessions, where each turn that is done keeps it
+-- what holds of a server and of its log holds after the ends of slow sessions, where each turn that is done keeps it
 module _ (P : Log → SumState → Type 0) (now : ℕ)
     (keeps : (log : Log) (x : SumState) (s : SessionId) (new : Option SumState) (outs : List Down) → is_open_in s x.sum ≡ true → IsTurnDone (Some x) (input.Slow s) now new outs → P log x → Runs (P (log_turned log (Some x) (input.Slow s) now)) new) where
   slow_step : (log : Log) (s : SessionId) (old new : Option SumState) (before after : Lines) → (step : EndsFirstSlow now s old new before after) → Runs (P log) old
@@ -141,7 +141,7 @@ pub passed_on : {X E : Type 0} (r : Result X E) (x : E) (P : E → Type 0) → I
 passed_on (Ok y) x P h p = absurd h
 passed_on (Err e) x P h p = subst P (sym h) p
 
--- these ends stand before the others, and the log behind both is that of the others behind this one
+-- these ends come before the others, and the log after both is that of the others after this one
 abbrev pub BeforeAtStart : (now : ℕ) (old new after : Option SumState) → (Log → Log) → AreRestarted now new after → Type 0
 BeforeAtStart now old new after on h = (e : AreRestarted now old after) × ((log : Log) → log_restarted log e ≡ log_restarted (on log) h)
 

@@ -1,4 +1,4 @@
--- Logs grow: behind a turn, and behind the ends of slow sessions, a log begins with the log of before.
+-- Logs grow: after a turn, and after the ends of slow sessions, a log begins with the log before it.
 use Rattle.std.proofs.Common.{refl, sym, ◌∙◌, ap, ◌≡◌, ℕ, List, [], ◌∷◌, ◌++◌, append-nil, append_assoc, Option, Some, None, ◌⊎◌, inl, inr}
 use Rattle.pres_ids.specs.declared.id.SessionId.{SessionId}
 use Rattle.pres_log.specs.Logs.{Log}

@@ -89,7 +89,7 @@ pub fits_before : (t s : SessionId) (ms : List Down) (w : Down) (line after : Op
 fits_before t s ms w line after is other fits =
     subst (λ xs. IfSome line (λ l. IfSome l.sent (λ sent. length sent + length xs ≤ 256 → IfSome after (λ new. new.sent ≡ Some (sent ++ xs))))) (sym (those_before t s ms w is other)) fits
 
--- ---- what is told with further messages is told without them
+-- ---- what is sent with further messages is sent without them
 
 part_told : (s : SessionId) (xs ys : List Down) → BeginsTranscript s (xs ++ ys) → BeginsTranscript s xs
 part_told s xs ys h = record {
@@ -199,7 +199,7 @@ module _ (log : Log) (state : SumState) (leads : MakesSum log state.sum) (s : Se
   open_now : (t : SessionId) → is_open t (entries after_log) ≡ ((is_open t (entries log) && not (list_any (is_gone_for t) said)) || same_session t s)
   open_now t = open_after t log made_batch legal_after ∙ (λ i. (is_open t (entries log) && not (list_any (is_gone_for t) (sym said_is i))) || opened_now t i)
 
-  -- behind the delivery, and with its own line, each line is told
+  -- after the delivery, and with its own line, each line holds a beginning of a transcript
   pub told_when_joined : (lines placed after : Lines) (end : OutboxState) → CarryTranscripts (entries log) lines → ChangesAt s kept_or_blank lines placed → LinesJoined s said placed after end → CarryTranscripts (entries after_log) after
   told_when_joined lines placed after end told_before change joined t = by (same_session t s) refl (change t) where
     same : joined.last ≡ is_welcomed.last
@@ -243,7 +243,7 @@ record IsMade (old new : Option SumState) (s : SessionId) (now : ℕ) (outs : Li
   runs : new ≡ Some (after_commit state (moment_by state.sum now) es)
   answered : outs ≡ answers_by state.sum es
 
--- some log leads to the sum, by which the lines are told
+-- some log leads to the sum and explains the lines
 abbrev IsTold : Lines → SumState → Type 0
 IsTold lines state = (log : Log) × MakesSum log state.sum × CarryTranscripts (entries log) lines
 
@@ -287,7 +287,7 @@ module _ {A : Type 0} (works : A → Type 0) (keeps : A → Log → Type 0) (hel
     joined_here : (opening : SessionId) → opening ≡ s → (after : Lines) (end : OutboxState) → LinesJoined opening outs placed after end → LinesJoined s (answers_by made_here.state.sum made_here.es) placed after end
     joined_here opening is after end joined = subst (λ ms. LinesJoined s ms placed after end) made_here.answered (subst (λ u. LinesJoined u outs placed after end) is joined)
 
-    -- by a log that stands, they are told by the log with the batch of the Hello
+    -- if a log that stands explains them, so does the log with the batch of the Hello
     pub kept_at : (log : Log) (opening : SessionId) → opening ≡ s → (after : Lines) (end : OutboxState) → LinesJoined opening outs placed after end
         → Runs (λ st. StandsBehind works keeps held st log → CarryTranscripts (entries (log_turned log held.run.server (input.Up (up.Hello s)) now)) after) held.run.server
     kept_at log opening is after end joined =

@@ -34,7 +34,7 @@ stays_put s ms (Some l) after h = λ mark. by (list_any (is_gone_for s) ms) h ma
   by true left mark = subst (λ x. IfSome x (λ new. is_some new.mark ≡ true)) (sym left) tt
   by false put mark = subst (λ x. IfSome x (λ new. is_some new.mark ≡ true)) (sym put.1) (ap is_some put.2 ∙ mark)
 
--- a line that is marked anew has a mark
+-- a line that is marked again has a mark
 pub stays_changed : (t : SessionId) (w : Why) (before after : Lines) → ChangesAt t (option_map (marked w)) before after → StayMarked before after
 stays_changed t w before after changes s = subst (StaysMarked (line_at s before)) (sym (changes s)) (by (same_session s t) (line_at s before)) where
   by : (same : Bool) (line : Option SessionLine) → StaysMarked line (if same then option_map (marked w) line else line)

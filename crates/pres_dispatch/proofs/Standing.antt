@@ -1,4 +1,4 @@
--- A log that stands behind a server and its lines: with what a turn makes it does so after the turn.
+-- A log that explains a server and its lines: with what a turn makes it does so after the turn.
 use Rattle.std.proofs.Common.{sym, ◌∙◌, subst, ◌≡◌, ℕ, List, [], Bool, true, false, cond, Option, Some, None, is_some, IfSome, IfNone, option_map, Result, Ok, Err}
 use Rattle.std.specs.Prelude.{IsErrAnd, MatchResult}
 use Rattle.pres_ids.specs.declared.id.SessionId.{SessionId}
@@ -66,7 +66,7 @@ module _ {A : Type 0} (works : A → Type 0) (keeps : A → Log → Type 0) wher
   -- ---- lines that change with nothing said
 
   module _ (old new : DispatcherState A) (same : new.run ≡ old.run) where
-    -- the same server, with other lines that are told as well
+    -- the same server, with other lines that the log explains as well
     pub stands_with : (log : Log) → (CarryTranscripts (entries log) old.lines → CarryTranscripts (entries log) new.lines) → Stands works keeps log old → Stands works keeps log new
     stands_with log told stands =
         subst (λ run. Runs (λ s. StandsBehind works keeps (record { run = run; lines = new.lines }) s log) run.server) (sym same)
@@ -115,7 +115,7 @@ module _ {A : Type 0} (works : A → Type 0) (keeps : A → Log → Type 0) wher
     turned_by : (log_new : Log) (x : SumState) → IsLogOf log_new (Some x) → (works new.run.keeper → keeps new.run.keeper log_new) → new.run.number ≡ x.sum.number → CarryTranscripts (entries log_new) new.lines → StandsBehind works keeps new x log_new
     turned_by log_new x leads kept counted told = record { legal = legal_by log_new x leads; makes = leads; kept = kept; counted = counted ∙ number_by log_new x leads; told = told }
 
-    -- a turn that is done, behind which the lines are told by this log
+    -- a turn that is done, after which this log explains the lines
     pub stands_turned : (i : Input) (now : ℕ) (outs : List Down) → IsTurnDone old.run.server i now new.run.server outs
         → (IsLogOf log old.run.server → IsLogOf (log_turned log old.run.server i now) new.run.server)
         → (IsLogOf log old.run.server → works new.run.keeper → keeps old.run.keeper log → keeps new.run.keeper (log_turned log old.run.server i now))

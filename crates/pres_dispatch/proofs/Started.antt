@@ -15,7 +15,7 @@ server_is log None is made leads = absurd (cc is)
 server_is log (Some s) is made leads = ap Some (made ∙ ap resumed (sym leads.there))
 
 module _ {A : Type 0} (works : A → Type 0) (keeps : A → Log → Type 0) (now : ℕ) where
-  -- the log with what the start makes stands behind the lines, of which there is none
+  -- the log with what the start makes explains the lines, of which there is none
   pub started : (before after : EngineState A) (held : DispatcherState A) (log : Log) → held ≡ record { run = after; lines = [] } → before.server ≡ Some (resumed (sum_of log))
       → (e : AreRestarted now before.server after.server) × IsLogOf (log_restarted log e) after.server × keeps after.keeper (log_restarted log e)
       → ((l : Log) → IsLogOf l after.server → (works after.keeper → keeps after.keeper l) → Stands works keeps l held)

@@ -35,7 +35,7 @@ pub record DispatcherState (A : Type 0) : Type 0 where
   pub run : EngineState A
   pub lines : Lines
 
--- a line is an open session's, and what was put on it is what the session was told
+-- a line is an open session's, and what was put on it is a beginning of that session's transcript
 abbrev pub CarriesTranscript : List Entry → SessionId → Option SessionLine → Type 0
 CarriesTranscript es s None = is_open s es ≡ false
 CarriesTranscript es s (Some l) = (is_open s es ≡ true) × IfSome l.sent (λ sent. sent ≡ transcript s es)
@@ -44,8 +44,9 @@ CarriesTranscript es s (Some l) = (is_open s es ≡ true) × IfSome l.sent (λ s
 abbrev pub CarryTranscripts : List Entry → Lines → Type 0
 CarryTranscripts es lines = (s : SessionId) → CarriesTranscript es s (line_at s lines)
 
--- A log stands behind a server and its lines: it is legal and leads to the server's sum, the keeper holds it as long as it
--- works, it has as many entries as were answered, and what was put on each line is what its session was told in it.
+-- The log that explains a server and its lines: it is legal and leads to the server's sum, the keeper holds it as long
+-- as the keeper works, it has as many entries as were answered, and what was put on each line is what it sends to that
+-- line's session.
 pub record StandsBehind {A : Type 0} (works : A → Type 0) (keeps : A → Log → Type 0) (held : DispatcherState A) (s : SumState) (log : Log) : Type 0 where
   pub legal : IsLegal log
   pub makes : MakesSum log s.sum
@@ -95,7 +96,7 @@ IsNotAnswered old input now new refusal.Down = IsTurnRefused old input now new r
 
 -- ---- a session that is opened
 
--- of the answers the last alone is for s, and that is all that it is told
+-- of the answers only the last is for s, and that is all that s gets
 pub record LastIsFor (s : SessionId) (ms : List Down) : Type 0 where
   pub others : List Down
   pub last : Down
@@ -114,7 +115,7 @@ pub record LinesJoined (s : SessionId) (ms : List Down) (before after : Lines) (
   pub fits : (t : SessionId) → same_session t s ≡ false → LineFits t ms (line_at t before) (line_at t after)
   pub outbox : end ≡ record { session = s; taken = []; ahead = last ∷ [] }
 
--- the Hello of s is done, and its answers are put on the lines, behind which s has its own
+-- the Hello of s is done, and its answers are put on the lines; after that s has a line of its own
 pub record IsJoined (s : SessionId) (now : ℕ) (old new : Option SumState) (before after : Lines) (end : OutboxState) : Type 0 where
   pub state : SumState
   pub made : List Entry
@@ -149,12 +150,12 @@ pub record AreEnded (now : ℕ) (old new : Option SumState) (before after : Line
   pub sessions : List SessionId
   pub ends : EndsSlow now sessions old new before after
 
--- the log behind an end that is answered, or behind one that isn't
+-- the log after an end that is answered, or after one that isn't
 abbrev pub log_if : {A B : Type 0} → A ⊎ B → Log → Log → Log
 log_if (inl answered) made same = made
 log_if (inr unanswered) made same = same
 
--- the log behind these ends, one after the other
+-- the log after these ends, one after the other
 abbrev pub log_slow : Log → (now : ℕ) (ss : List SessionId) (old new : Option SumState) (before after : Lines) → EndsSlow now ss old new before after → Log
 log_slow log now [] old new before after ends = log
 log_slow log now (s ∷ ss) old new before after ends =
@@ -177,7 +178,7 @@ pub record AreRestarted (now : ℕ) (old new : Option SumState) : Type 0 where
   pub clients : List ClientId
   pub ends : EndsAtStart now clients old new
 
--- the log behind these ends
+-- the log after these ends
 abbrev pub log_at_start : Log → (now : ℕ) (cs : List ClientId) (old new : Option SumState) → EndsAtStart now cs old new → Log
 log_at_start log now [] old new ends = log
 log_at_start log now (c ∷ cs) None new ends = log
@@ -192,8 +193,8 @@ abbrev pub IsNoClient : Option SumState → EngineFault → Type 0
 IsNoClient None e = e ≡ refusal.Down
 IsNoClient (Some s) e = (e ≡ refusal.Memory) × (c : ClientId) × (first_client s.heard ≡ Some c)
 
--- A start over this log stops at the first client in byte order that has a session open, whose end isn't answered. The ends
--- before it stand and are kept, and so is this one where the server went down behind its commit.
+-- A start over this log stops at the first client in byte order that has a session open, whose end isn't answered. The
+-- ends before it stand and are kept, and so is this one where the server went down after its commit.
 pub record StopsAtStart (keeps : Log → Type 0) (now : ℕ) (log : Log) (old : Option SumState) (e : EngineFault) : Type 0 where
   pub middle : Option SumState
   pub ended : AreRestarted now old middle

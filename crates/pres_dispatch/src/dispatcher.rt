@@ -182,9 +182,9 @@ impl<K: Keeper + Drop, B: Bell + Clone + Drop> Dispatcher<K, B> {
         self.engine.number()
     }
 
-    /// Does what the input asks for, and puts its answers on the lines. A log that stands behind the
-    /// server does so after the turn with the turn's batch, and whatever a crash leaves from then on
-    /// begins with it.
+    /// Does what the input asks for, and puts its answers on the lines. A log that explains the
+    /// server and its lines does so after the turn, with the turn's batch appended, and whatever a
+    /// crash leaves from then on begins with it.
     pub fn turn(&mut self, input: Input, now: Moment) -> Result<(), EngineFault>
         requires { is_hello input ≡ false }
         ensures answered { IfOk result (λ _. IsAnswered self.old.run.server input now

@@ -93,7 +93,7 @@ module _ {A : Type 0} where
   any_none p [] a = refl
   any_none p (x ∷ xs) a = ap (λ b. b || list_any p xs) a.0 ∙ any_none p xs a.1
 
-  -- what a filter leaves is seen behind it
+  -- what a filter leaves is seen after it
   pub any_under : (p q : A → Bool) → ((x : A) → p x ≡ true → q x ≡ true) → (xs : List A) → list_any p (filter q xs) ≡ list_any p xs
   any_under p q f [] = refl
   any_under p q f (x ∷ xs) = by (q x) refl (p x) refl (any_under p q f xs) where
@@ -105,7 +105,7 @@ module _ {A : Type 0} where
   -- ---- keys put in order
 
   module _ (cmp : A → A → Ordering) (k : A) where
-    -- a key that the test refuses is not seen behind the filter
+    -- a key that the test refuses is not seen after the filter
     pub filter_put_other : (p : A → Bool) → p k ≡ false → (xs : List A) → filter p (insert_key cmp xs k) ≡ filter p xs
     filter_put_other p e [] = ap (λ b. cond b (k ∷ []) []) e
     filter_put_other p e (x ∷ xs) = by (cmp k x) (filter_put_other p e xs) where
@@ -115,7 +115,7 @@ module _ {A : Type 0} where
       by Greater h = ap (λ l. cond (p x) (x ∷ l) l) h
 
     module _ (same : A → A → Bool) where
-      -- a new key that the test passes is one more behind the filter
+      -- a new key that the test passes is one more after the filter
       pub length_put_new : ((x : A) → cmp k x ≡ Equal → same k x ≡ true) → (p : A → Bool) → p k ≡ true → (xs : List A) → list_any (same k) xs ≡ false → length (filter p (insert_key cmp xs k)) ≡ suc (length (filter p xs))
       length_put_new ties p e [] n = ap (λ b. length (cond b (k ∷ []) [])) e
       length_put_new ties p e (x ∷ xs) n = by (cmp k x) refl (length_put_new ties p e xs (or_parts (same k x) _ n).1) where
@@ -214,7 +214,7 @@ put_rises cmp total k (x ∷ xs) o = by (cmp k x) refl (put_rises cmp total k xs
   by Equal c h = o
   by Greater c h = (all_put cmp (λ y. cmp x y ≡ Less) k (total.antisymm x k ∙ ap ordering_reverse c) xs (sorted_head cmp x xs o), h)
 
--- a test that tells nothing apart that q passes is a test of those behind the filter
+-- a test that distinguishes nothing that q passes is a test of those after the filter
 pub any_filtered : {A : Type 0} (q p : A → Bool) (b : Bool) → ((x : A) → q x ≡ true → p x ≡ b) → (xs : List A) → list_any q (filter p xs) ≡ (b && list_any q xs)
 any_filtered q p true f [] = refl
 any_filtered q p false f [] = refl

@@ -27,7 +27,7 @@ searchable xs x sorted =
 
 -- ---- one more
 
--- a session that goes behind the lesser ones and before the greater ones is put in order
+-- a session that goes after the lesser ones and before the greater ones is put in order
 pub put_at : (x : SessionId) (xs : List SessionId) (at : ℕ) → at ≤ length xs →
     ((k : ℕ) (d : SessionId) → 0 ≤ k → k < at → session_cmp (get_or xs k d) x ≡ Less) →
     ((k : ℕ) (d : SessionId) → at ≤ k → k < length xs → session_cmp (get_or xs k d) x ≡ Greater) →

@@ -49,7 +49,7 @@ from_apart s t f e = by (session_cmp s t) refl f where
   by Equal o k = absurd (true≢false (sym (session_itself s) ∙ ap (same_session s) (session_apart s t o) ∙ e))
   by Greater o k = absurd (true≢false k)
 
--- the sessions behind one that comes later come later
+-- the sessions after one that comes later come later
 pub all_later : (s : SessionId) (x : Listener) (xs : List Listener) → IsStrictlySortedBy listener_cmp (x ∷ xs) → session_cmp s x.session ≡ Less → AllByRecursion (λ y. session_cmp s y.session ≡ Less) (x ∷ xs)
 all_later s x xs sorted l = (l, all_then (From x.session) (λ y. session_cmp s y.session ≡ Less) later xs (all_from x xs sorted)) where
   later : (y : Listener) → From x.session y → session_cmp s y.session ≡ Less

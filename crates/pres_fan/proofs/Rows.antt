@@ -162,7 +162,7 @@ by_first l ls = λ i. (l.session, own i) ∷ rest i where
 
 -- ---- the rows of listeners in order
 
--- the last row takes the places of its session, and the others come behind it
+-- the last row takes the places of its session, and the others come after it
 added_behind : (rows : List Row) (s : SessionId) (ps : List Path) (ls : List Listener) → IsStrictlySortedBy listener_cmp ls → AllByRecursion (From s) ls →
     added (rows ++ (s, ps) ∷ []) ls ≡ rows ++ (s, ps ++ paths_of s ls) ∷ by_session (without_session s ls)
 added_behind rows s ps [] sorted from = ap (λ qs. rows ++ (s, qs) ∷ []) (sym (append-nil ps))

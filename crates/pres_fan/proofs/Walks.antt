@@ -113,7 +113,7 @@ none_later k (e ∷ es) h = ap (λ o. cond (is_eq o) (Some e.1) (lookup (is_at (
 not_some : {A : Type 0} (a : A) → None ≡ Some a → ⊥
 not_some a e = true≢false (ap is_some (sym e))
 
--- a later entry is found behind the first one
+-- a later entry is found after the first one
 found_later : (k m : Key) (c d : Level) (rest : List (Key × Level)) → IsStrictlySortedBy key_cmp (keys_of ((m, d) ∷ rest)) → lookup (is_at (key_cmp k)) rest ≡ Some c → lookup (is_at (key_cmp k)) ((m, d) ∷ rest) ≡ Some c
 found_later k m c d rest sorted h = by (same_key k m) refl where
   by : (b : Bool) → same_key k m ≡ b → cond b (Some d) (lookup (is_at (key_cmp k)) rest) ≡ Some c
@@ -176,7 +176,7 @@ next_keys (l ∷ p) (suc n) k ks is =
     tail [] = []
     tail (m ∷ q) = q
 
--- the keys up to the next level, and those behind it
+-- the keys up to the next level, and those after it
 pub next_level : (p : Path) (n : ℕ) (k : Key) (ks : Path) → p ≡ take n p ++ k ∷ ks → (take (n + 1) p ≡ take n p ++ k ∷ []) × (p ≡ take (n + 1) p ++ ks)
 next_level p n k ks is =
     let more : suc n ≡ n + 1 = omega arith in

@@ -85,7 +85,7 @@ fn add_below(
     Ok(())
 }
 
-// Adds the listeners at the level, which stands at so many first keys of the path.
+// Adds the listeners at the level, which is this many keys down the path.
 fn add_above(
     found: &mut Vec<Listener>,
     alloc: Global,
@@ -110,7 +110,7 @@ fn add_above(
 }
 
 // Adds the listeners at the path, above it and below it, of those at the level and below it. The
-// level stands at so many first keys of the path, and these keys are left of it.
+// level is this many keys down the path, and these keys remain of the path.
 fn add_met(
     found: &mut Vec<Listener>,
     alloc: Global,

@@ -209,8 +209,8 @@ fn remove_all(root: &mut Level, session: &SessionId, paths: BTreeSet<Path>)
     }
 }
 
-// Adds a listener that comes behind those of the rows: its place to the last row, or to a row of
-// its own where that is of another session.
+// Appends a listener after those of the rows: its place goes to the last row, or to a new row where
+// the last one is of another session.
 fn add(rows: &mut Vec<Touched>, alloc: Global, listener: Listener) -> Result<(), AllocError>
     ensures { (before : List Listener)
         → IsStrictlySortedBy listener_cmp (before ++ listener ∷ [])

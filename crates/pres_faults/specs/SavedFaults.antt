@@ -20,7 +20,7 @@ name_of NotOurs = codes "NotOurs"
 name_of (BadRow k) = codes "BadRow"
 name_of Version = codes "Version"
 
--- want of memory is Memory, all else Database
+-- a failed allocation is Memory, all else Database
 abbrev pub fault_of : Error → SavedFault
 fault_of (SqliteFailure OutOfMemory) = Memory
 fault_of _ = Database

@@ -22,7 +22,7 @@ pub enum HubFault {
     /// The hub is down, until it is started again from what the keeper holds.
     #[error("down")]
     Down,
-    /// The server has less than what the seat was told of.
+    /// The server has fewer entries than the greatest number that was sent to the seat.
     #[error("the server has {have} entries, and the seat was told of {seen}")]
     Behind { have: u64, seen: u64 },
     /// The session is open, and its next message isn't the seat's, whose number this is.

@@ -152,7 +152,7 @@ fn found<S: Alter + Drop>(
     }
 }
 
-/// The same, and the database is let go where it is refused.
+/// The same, and where it is refused the database is dropped.
 pub fn keeper_for<S: Alter + Drop>(
     alloc: Global,
     connection: Connection<S>,

@@ -147,7 +147,7 @@ fn creation_fault(error: sqlite_store::OpenError) -> SavedFault {
     }
 }
 
-// A connection over the store, which is let go where it is refused.
+// A connection over the store, which is dropped where it is refused.
 fn connection_over<S: Alter + Drop>(alloc: Global, store: S) -> Result<Connection<S>, SavedFault>
     requires fresh { IsClean (S.Store.view store) → IsFresh (S.Store.view store) }
     ensures mode { IfOk result (λ c. c.in_transaction ≡ false) }

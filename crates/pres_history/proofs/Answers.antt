@@ -109,7 +109,7 @@ one_answer s es e msg sound o one =
     ap (numbered_from (length (stream s es) + push_count s es e + 1)) one
     ∙ sym (ap (λ l. message_next (sent_between l es e) msg) (only_open s es sound o))
 
--- the own answer is told by what the log says of the entry's client
+-- the own answer depends on what the log says of the entry's client
 pub own_answered : (es : List Entry) (m : ℕ) (e : Entry) → Sound es → MayComeUncounted es m e
     → own_added es e ≡ answer_by (length es + 1) e (rows_for (session_of e).client es) (sent_between (open_sessions_of (session_of e).client es) es e) (tree (es ++ e ∷ []))
 own_answered es m (entry.Open s) sound f = λ i. Welcome s (length-append es (entry.Open s ∷ []) i) (length (no_row s.client es (entry.Open s) refl i)) ∷ []

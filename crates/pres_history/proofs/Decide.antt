@@ -72,7 +72,7 @@ said_is s q d es sound = elim (is_open s es) as (λ b. is_open s es ≡ b → co
   by None e = refl
   by (Some l) e = ap (λ b. cond b (cond (nat_le q l.count) quiet (cond (q == l.count + 1) d (refused fault.Order))) (refused fault.Session)) (sym e)
 
--- write n of a client that has made so many
+-- write n of a client that has made this many
 abbrev op_by_count : ℕ → Rows Scalar → ℕ → SessionId → ℕ → ℕ → Op → Decision
 op_by_count ops tree m s q n op =
     cond (n == 0) (refused fault.Order) (cond (n == ops + 1) (makes (entry.Op s q n op (resolved tree m op) ∷ [])) (cond (nat_lt ops n) (refused fault.Order) (makes (entry.Again s q n ∷ []))))

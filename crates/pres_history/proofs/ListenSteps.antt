@@ -46,7 +46,7 @@ touched_before paths (entry.On s q path) = none_touched (add_path path paths) �
 touched_before paths (entry.Off s q path) = none_touched (filter (λ p. not (same_path path p)) paths) ∙ sym (none_touched paths)
 touched_before paths (entry.Ended s q why rows) = refl
 
--- what an entry touches is told by what the session listened to before
+-- what an entry touches depends on what the session listened to before
 pub touched_is : (s : SessionId) (es : List Entry) (e : Entry) → list_any (opens s) es ≡ true → touched s (es ++ e ∷ []) e ≡ filter (is_touched (writes_of e)) (listened s es)
 touched_is s es e o = by (same_session s (session_of e)) refl where
   by : (b : Bool) → same_session s (session_of e) ≡ b → touched s (es ++ e ∷ []) e ≡ filter (is_touched (writes_of e)) (listened s es)

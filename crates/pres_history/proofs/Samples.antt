@@ -319,7 +319,7 @@ whole_sum = refl
 whole_answers : answers_in (whole three) ≡ Welcome (alice 1) 1 0 ∷ Reply (alice 1) 1 2 1 1 2 kept.Wrote ∷ Gone (alice 1) 2 3 why.Lost ∷ []
 whole_answers = refl
 
--- the same sum, from the sum behind the write
+-- the same sum, from the sum after the write
 abbrev since_write : History
 since_write = record { base = wrote_once; log = losing ∷ [] }
 

@@ -19,7 +19,7 @@ use Rattle.pres_history.proofs.StreamSteps.{stream_step, length-numbered_from}
 use Rattle.pres_history.proofs.Steps.{In, in_open}
 use Rattle.pres_history.proofs.Parts.{open_of_same, only_open, not_opened, not_ended, open_of_opened, fresh_count, row_there, own_again, ended_own, ended_other}
 
--- so many Pushes it makes to the session
+-- the number of Pushes that it makes to the session
 abbrev pub push_count : SessionId → List Entry → Entry → ℕ
 push_count s es e = length (push_of s (es ++ e ∷ []) (touched s (es ++ e ∷ []) e))
 

@@ -98,7 +98,7 @@ listens_there es s q path index ix o few =
     ∙ sym (with_step s path s index.listeners ix.held))
     few
 
--- an entry that may come behind the log may be taken in, once its writes are carried out
+-- an entry that may come after the log may be taken in, once its writes are carried out
 pub takes : (es : List Entry) (m : ℕ) (e : Entry) (index : Index) → Between es e index → Sound es → MayComeUncounted es m e → length es + 1 < 2 ^ 52 → MayTake index e
 takes es m (entry.Open s) index ix sound f small =
     may_open index s (ap (λ (p : Part). p.live) (ix.parts s.client) ∙ ap (λ xs. live_in xs es) f.1)

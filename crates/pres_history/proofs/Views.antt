@@ -301,7 +301,7 @@ never : {A : Type 0} (xs : List A) → filter (λ x. false) xs ≡ []
 never [] = refl
 never (x ∷ xs) = never xs
 
--- from the answer to an On of an open session, with no Off of its path behind it, each view is the value at its number
+-- from the answer to an On of an open session, with no Off of its path after it, each view is the value at its number
 pub views_are_true : (s : SessionId) (q : ℕ) (p : Path) (before later : List Entry) → ViewsAreTrue s q p before later
 views_are_true s q p before later open_then n = record { rest = more; sent = is_sent; seen = is_seen } where
   on : Entry

@@ -32,7 +32,7 @@ abbrev pub MayComeInTurn : List Entry → ℕ → List Entry → Type 0
 MayComeInTurn es m [] = Unit {0}
 MayComeInTurn es m (e ∷ more) = MayComeUncounted es m e × MayComeInTurn (es ++ e ∷ []) m more
 
--- entries that may come one after another, from entry number z on, behind those of a sound log
+-- entries that may come one after another, from entry number z on, after those of a sound log
 pub record MayTakeAll (es : List Entry) (z moment : ℕ) (more : List Entry) (index : Index) : Type 0 where
   pub indexed : Indexed es index
   pub sound : Sound es

@@ -1,4 +1,4 @@
--- Servers that are made anew from their log.
+-- Servers that are rebuilt from their log.
 use Rattle.std.specs.Prelude.{map}
 use Rattle.pres_log.specs.Logs.{Log, entries, last_moment}
 use Rattle.pres_server.specs.ServerStates.{Heard}

@@ -1,5 +1,5 @@
--- The plan of a session, read off the log: what its puts and cancels come to, and what is due at its end. Puts and
--- cancels are those of onDisconnect of Firebase Realtime Database.
+-- The plan of a session, computed from the log: the result of its puts and cancels, and what is due at its end. Puts
+-- and cancels are those of onDisconnect of Firebase Realtime Database.
 use Rattle.std.specs.Prelude.{ℕ, List, []}
 use Rattle.std.specs.List.{flat_map}
 use Rattle.pres_write.specs.declared.basic.Basic.{Basic}

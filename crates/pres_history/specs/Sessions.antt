@@ -47,7 +47,7 @@ opened entries = filter_map opened_by entries
 abbrev pub sessions_of : ClientId → List Entry → List SessionId
 sessions_of client entries = filter (λ s. same_client client s.client) (opened entries)
 
--- the open sessions behind their clients, in byte order of clients, of which each has at most one
+-- the open sessions with their clients, in byte order of clients, of which each has at most one
 abbrev pub open_entries : List Entry → List (ClientId × SessionId)
 open_entries entries = sorted_by client_cmp (map (λ s. (s.client, s)) (filter (λ s. is_open s entries) (opened entries)))
 

@@ -1,4 +1,4 @@
--- The log behind the value under a hub's lock, from call to call.
+-- The log that explains the value under a hub's lock, from call to call.
 use Rattle.std.proofs.Common.{refl, sym, ◌∙◌, subst, ◌≡◌, ◌<◌, ◌^◌, ℕ, [], ◌++◌, append-nil, append_assoc, Option, Some, None, ◌⊎◌, inl, inr, Result, Ok, Err}
 use Rattle.std.specs.Prelude.{OnErr, IfNone}
 use Rattle.pres_log.specs.Logs.{Log}

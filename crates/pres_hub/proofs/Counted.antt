@@ -35,7 +35,7 @@ use Rattle.pres_hub.specs.CoreCalls.{accepted_by, accepted_of}
 pub none_accepted : (start : ℕ) (log : Log) → start ≡ number log → AreAccepted start 0 log
 none_accepted start log h = (omega (arith, h), ap (λ n. accepted (drop n (entries log))) h ∙ ap accepted (drop-length (entries log)))
 
--- behind this batch
+-- after this batch
 made_accepted : (start count : ℕ) (log : Log) (b : Batch) → AreAccepted start count log → AreAccepted start (count + accepted b.entries) (log ++ b ∷ [])
 made_accepted start count log b h =
     let more = number-push log b in (
@@ -46,7 +46,7 @@ made_accepted start count log b h =
           ∙ ap (λ n. n + accepted b.entries) h.1,
     )
 
--- so many messages does the decision on so many accept
+-- the number of messages that the decision accepts
 abbrev pub taken : ℕ → Decision → ℕ
 taken messages (makes es) = messages
 taken messages _ = 0
@@ -61,7 +61,7 @@ one_taken (refused f) = refl
 one_taken quiet = refl
 one_taken (makes es) = refl
 
--- the log leads to the server's sum, and has so many messages accepted since the start
+-- the log leads to the server's sum, and has this many messages accepted since the start
 abbrev pub Accepted : ℕ → ℕ → Log → SumState → Type 0
 Accepted start count log s = MakesSum log s.sum × AreAccepted start count log
 
@@ -124,7 +124,7 @@ no_hello (input.Slow s) h = refl
 no_hello (input.Restart c) h = refl
 no_hello input.Tick h = refl
 
--- there are not so many messages, since there are not so many entries
+-- the messages don't run out of numbers, since the entries don't
 pub few_accepted : (start count : ℕ) (log : Log) → IsLegal log → AreAccepted start count log → count < 2 ^ 53
 few_accepted start count log legal h =
     let few = accepted_is_few (drop start (entries log)) in

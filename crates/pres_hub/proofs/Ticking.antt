@@ -1,4 +1,4 @@
--- The log behind the ends of a tick, in its loops.
+-- The log after the ends of a tick, in its loops.
 use Rattle.std.proofs.Common.{refl, sym, subst, ◌≡◌, ℕ, suc, true, [], ◌∷◌, Option, Some, None, is_some, IfSome, inl, inr}
 use Rattle.pres_ids.specs.declared.id.SessionId.{SessionId}
 use Rattle.pres_ids.specs.declared.id.Why.{Why}

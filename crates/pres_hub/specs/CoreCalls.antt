@@ -57,16 +57,16 @@ HasSameCount m q server = Runs (λ s. IfSome (accepted_in (session_in m) s.sum) 
 abbrev pub IsOwnMessage : SeatState → Up → Type 0
 IsOwnMessage seat m = (is_hello m ≡ false) × (same_session (session_in m) seat.session ≡ true)
 
--- A seat's message is taken to a server that runs: it is the seat's own, its session has had as many messages as the
--- seat, and the server has what the seat was told of.
+-- A running server takes a seat's message: it is the seat's own, its session has had as many messages as the seat, and
+-- the server has every number that was sent to the seat.
 pub record IsTaken (seat : SeatState) (m : Up) (server : Option SumState) (number : ℕ) : Type 0 where
   pub runs : is_some server ≡ true
   pub own : IsOwnMessage seat m
   pub fresh : seat.seen ≤ number
   pub abreast : HasSameCount m seat.q server
 
--- The message's turn is done and answered on the lines, and then each session whose line is slow is ended. The seat and
--- the counts have one message more where the server accepted it, and the seat is told of the number.
+-- The message's turn is done and answered on the lines, and then each session whose line is slow is ended. Where the
+-- server accepted the message, the seat and the counts have one more, and the seat notes the number.
 pub record IsSayAnswered (m : Up) (now : ℕ) (old new : Option SumState) (before after : Lines) (earlier number : ℕ) (seat seat_after : SeatState) (counts counts_after : Counts) : Type 0 where
   pub taken : IsTaken seat m old earlier
   pub carried : IsCarriedOut (input.Up m) now old new before after
@@ -86,8 +86,9 @@ abbrev pub IsForeign : Bool → Bool → Fault → Type 0
 IsForeign true same f = f ≡ fault.Bad
 IsForeign false same f = (f ≡ fault.Session) × (same ≡ false)
 
--- Why a seat's message isn't taken to the server: the server is down, before all; it isn't the seat's own; the server
--- has less than the seat was told of; and last, its session has had another number of messages than the seat.
+-- Why the server doesn't take a seat's message, in this order: the server is down; the message isn't the seat's own;
+-- the server has fewer entries than were sent to the seat; its session has had another number of messages than the
+-- seat.
 abbrev pub IsHeldBack : SeatState → Up → Option SumState → ℕ → HubFault → Type 0
 IsHeldBack seat m None number e = e ≡ why.Down
 IsHeldBack seat m (Some s) number (why.Refused f) = IsForeign (is_hello m) (same_session (session_in m) seat.session) f
@@ -133,7 +134,7 @@ EndsMarked now (e ∷ es) old new before after =
     IsFirstMarked e before
     × (middle : Option SumState) × (lines : Lines) × IsCarriedOut (end_by e.1 e.0) now old middle before lines × EndsMarked now es middle new lines after
 
--- so many times the first lease that ran out is ended, or nothing is done where there is none
+-- this many times the first lease that ran out is ended, or nothing is done where there is none
 abbrev pub EndsLate : ℕ → ℕ → Option SumState → Option SumState → Lines → Lines → Type 0
 EndsLate now zero old new before after = (new ≡ old) × (after ≡ before)
 EndsLate now (suc n) old new before after =

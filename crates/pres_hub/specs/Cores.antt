@@ -20,7 +20,7 @@ pub record CoreState (A : Type 0) : Type 0 where
   pub counts : Counts
   pub start : ℕ
 
--- so many of the log's messages were accepted since the start
+-- this many of the log's messages were accepted since the start
 abbrev pub AreAccepted : ℕ → ℕ → Log → Type 0
 AreAccepted start count log = (start ≤ number log) × (accepted (drop start (entries log)) ≡ count)
 
@@ -28,7 +28,7 @@ AreAccepted start count log = (start ≤ number log) × (accepted (drop start (e
 abbrev pub dispatched : {A : Type 0} → CoreState A → DispatcherState A
 dispatched held = record { run = held.run; lines = held.lines }
 
--- A log stands behind the server and its lines, and has as many messages accepted since the start as were counted.
+-- The log explains the server and its lines, and has as many messages accepted since the start as were counted.
 pub record CoreLog {A : Type 0} (works : A → Type 0) (keeps : A → Log → Type 0) (held : CoreState A) (s : SumState) (log : Log) : Type 0 where
   pub behind : StandsBehind works keeps (dispatched held) s log
   pub counted : AreAccepted held.start held.counts.accepted log
@@ -41,8 +41,8 @@ IsCoreLog works keeps log held = Runs (λ s. CoreLog works keeps held s log) hel
 abbrev pub GoesOn : {A : Type 0} → (A → Type 0) → (A → Log → Type 0) → CoreState A → CoreState A → Type 0
 GoesOn works keeps old new = (log : Log) → IsCoreLog works keeps log old → (more : Log) × IsCoreLog works keeps (log ++ more) new
 
--- What holds whenever the lock is free: behind the server, where there is one, stands a legal log that leads to its sum, and
--- that its keeper holds as long as it works; what was put on each line is what its session was told in that log, and each
+-- What holds whenever the lock is free: a running server has a legal log that leads to its sum, and that its keeper
+-- holds as long as the keeper works; what was put on each line is what that log sends to the line's session, and each
 -- line whose messages were given up is marked; the count is that of the messages that were accepted in it.
 pub record CoreInvariant {A : Type 0} (works : A → Type 0) (keeps : A → Log → Type 0) (held : CoreState A) : Type 0 where
   pub stands : Runs (λ s. (log : Log) × CoreLog works keeps held s log) held.run.server

@@ -256,9 +256,10 @@ impl<L: Ledger, K: Keeper + Drop, B: Bell + Clone + Drop> Core<L, K, B> {
         Ok((seat, outbox))
     }
 
-    /// Takes the seat's message to the server. Refused with the seat and the server as they were:
-    /// Down; Refused, where it is a Hello (Bad) or names another session (Session); Behind; Apart;
-    /// and as the engine refuses its turn, which is Down from then on where the batch was kept.
+    /// Takes the seat's message to the server. A refusal leaves the seat and the server as they
+    /// were: Down; Refused, where it is a Hello (Bad) or names another session (Session); Behind;
+    /// Apart; and whatever the engine refuses its turn for, which leaves the hub Down where the
+    /// batch was kept.
     pub fn say(&mut self, seat: &mut Seat<L>, up: Up, now: Moment) -> Result<Said, HubFault>
         ensures number { IfOk result (λ said. said.number ≡ self.new.run.number) }
         ensures fresh { IfOk result (λ said. seat.old.seen ≤ said.number) }

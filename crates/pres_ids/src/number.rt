@@ -121,7 +121,7 @@ impl Count {
         self.value
     }
 
-    /// The number after so many, none after 2^53 - 1.
+    /// The number this many after it, none after 2^53 - 1.
     pub fn next(self) -> Option<Number>
         ensures { MatchOption result
             (self ≡ greatest_number)

@@ -85,7 +85,7 @@ number_after : (es : List Entry) (sum : Sum) → (sum_after_all es sum).number �
 number_after [] sum = let none : sum.number ≡ sum.number + 0 = omega arith in none
 number_after (e ∷ es) sum = let rest = number_after es (sum_after e sum) in omega arith
 
--- so many entries does a log have that leads to the sum
+-- the number of entries of a log that leads to the sum
 number_from : (log : Log) (sum : Sum) → (sum_from sum log).number ≡ sum.number + length (entries log)
 number_from [] sum = let none : sum.number ≡ sum.number + 0 = omega arith in none
 number_from (b ∷ log) sum =
@@ -100,7 +100,7 @@ number_made log sum makes =
     let from = number_from log nothing in
     omega (arith, there, from)
 
--- so many batches
+-- the number of batches
 pub batches_made : (log : Log) (sum : Sum) → MakesSum log sum → sum.batches ≡ length log
 batches_made log sum makes =
     let there = ap (λ (s : Sum). s.batches) makes.there in

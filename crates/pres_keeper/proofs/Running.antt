@@ -19,7 +19,7 @@ pub replayed : {E : Type 0} (log : Log) (r : Result SumState E) → IfOk r (λ s
 replayed log (Ok s) is legal = subst (λ (s : SumState). MakesSum log s.sum) (sym is) (makes_all log legal)
 replayed log (Err e) is legal = tt
 
--- a success stands where the refusal is told in other words
+-- a success stays where the refusal is in other words
 pub mapped : {A D E : Type 0} (P : A → Type 0) (F : E → Type 0) (r : Result A E) (told : Result A D) → MatchResult r (λ x. told ≡ Ok x) F → is_ok told ≡ is_ok r → IfOk r P → IfOk told P
 mapped P F (Ok x) told is same p = subst (λ t. IfOk t P) (sym is) p
 mapped P F (Err e) (Ok x) is same p = absurd (true≢false same)

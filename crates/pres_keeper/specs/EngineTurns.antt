@@ -35,15 +35,15 @@ abbrev pub IsDecisionRefused : Option SumState → Input → ℕ → (Decision �
 IsDecisionRefused None input now why = ⊥
 IsDecisionRefused (Some s) input now why = why (turn_by s input now)
 
--- A turn isn't done: a refused one leaves the server as it was, and after want of memory after the commit there is none. A batch
--- isn't kept where memory or the database refuses.
+-- A turn isn't done: a refused one leaves the server as it was, and where memory is refused after the commit there is
+-- none. A batch isn't kept where memory or the database refuses.
 abbrev pub IsTurnRefused : Option SumState → Input → ℕ → Option SumState → EngineFault → Type 0
 IsTurnRefused old input now new (why.Refused f) = (new ≡ old) × IsDecisionRefused old input now (λ d. d ≡ refused f)
 IsTurnRefused old input now new why.Memory = (new ≡ old) × IsDecisionRefused old input now (λ d. IsRefusal d OutOfMemory)
 IsTurnRefused old input now new (why.Keeper f) = (new ≡ old) × IsDecisionRefused old input now (λ d. is_made d ≡ true) × IsOfStore f
 IsTurnRefused old input now new why.Down = (new ≡ None) × ((old ≡ None) ⊎ IsDecisionRefused old input now (λ d. is_made d ≡ true))
 
--- ---- the log behind a turn
+-- ---- the log after a turn
 
 -- the log with what is made
 abbrev pub log_made : Log → Sum → ℕ → Decision → Log
@@ -60,7 +60,7 @@ abbrev pub log_left : Log → Option SumState → Input → ℕ → EngineFault 
 log_left log old input now why.Down = log_turned log old input now
 log_left log old input now _ = log
 
--- what the turn makes is kept behind a log that leads to the server's sum
+-- what the turn makes is kept after a log that leads to the server's sum
 abbrev pub HoldsMade : (Log → Type 0) → SumState → ℕ → Decision → Type 0
 HoldsMade keeps s now (makes es) = SomeLog (λ log. keeps (log ++ batch_by s.sum (moment_by s.sum now) es ∷ [])) s.sum
 HoldsMade keeps s now _ = ⊥

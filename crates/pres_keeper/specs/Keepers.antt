@@ -22,7 +22,7 @@ abbrev pub bad_batch : ReplayFault → SavedFault
 bad_batch OutOfMemory = Memory
 bad_batch (NotLegal k) = BadRow k
 
--- the fault is want of memory, or the database's
+-- the fault is a failed allocation, or the database's
 abbrev pub IsOfStore : SavedFault → Type 0
 IsOfStore e = (e ≡ Memory) ⊎ (e ≡ Database)
 

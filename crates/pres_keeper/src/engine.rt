@@ -130,8 +130,8 @@ impl<K: Keeper + Drop> Engine<K> {
     /// as the server refuses the input; Memory; Keeper, where the batch isn't kept. Down, from then
     /// on, where memory is refused after the batch was kept.
     ///
-    /// A log that leads to the server's sum, and that the keeper holds as long as it works, is both
-    /// after the turn, with the turn's batch behind it.
+    /// A log that leads to the server's sum, and that the keeper holds as long as it works, still
+    /// is and does so after the turn, with the turn's batch appended.
     pub fn turn(&mut self, input: Input, now: Moment) -> Result<Items<Down>, EngineFault>
         ensures turned { IfOk result (IsTurnDone self.old.server input now self.new.server) }
         ensures refused { IfErr result (IsTurnRefused self.old.server input now self.new.server) }

@@ -17,15 +17,15 @@ pub enum Unsettled {
     /// The keeper refused its batch, as Memory or Database: nothing is changed, and this is the
     /// server as it was.
     Refused(SavedFault, Server),
-    /// It is kept, but for want of memory the server is gone. It has to be made again from what
+    /// It is kept, but an allocation failed and the server is gone. It has to be rebuilt from what
     /// the keeper holds.
     Reopen,
 }
 
-/// Gives the turn's batch to the keeper, and then does the turn: the server after it, and the
-/// answers, of which none goes out before the batch is kept. So a log that leads to the server's sum
-/// and that the keeper holds is both with the batch behind it, and whatever a crash leaves from then
-/// on begins with it.
+/// Gives the turn's batch to the keeper, and then does the turn: the result is the server after it,
+/// and the answers, of which none goes out before the batch is kept. So a log that leads to the
+/// server's sum and that the keeper holds does both with the batch appended, and whatever a crash
+/// leaves from then on begins with it.
 pub fn settle<K: Keeper>(keeper: &mut K, busy: Busy) -> Result<(Server, Items<Down>), Unsettled>
     ensures server { IfOk result
         (λ done. done.0 ≡ after_commit busy.state busy.moment busy.made) }

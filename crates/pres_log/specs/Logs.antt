@@ -23,7 +23,7 @@ entries log = flat_map (λ b. b.entries) log
 abbrev pub number : Log → ℕ
 number log = length (entries log)
 
--- each entry behind its number
+-- each entry with its number
 abbrev pub numbered : List Entry → List (ℕ × Entry)
 numbered entries = enumerate_from 1 entries
 

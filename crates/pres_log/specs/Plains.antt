@@ -22,7 +22,7 @@ last_number = greatest_number
 abbrev pub fresh : PlainState
 fresh = record { number = 0; moment = 0; tree = [] }
 
--- what an operation comes to: it is resolved at a moment that never falls
+-- the outcome of an operation: it is resolved at a moment that never decreases
 abbrev pub outcome_after : PlainState → Op → ℕ → Outcome
 outcome_after s op now = resolved s.tree (max s.moment now) op
 

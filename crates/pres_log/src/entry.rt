@@ -230,7 +230,7 @@ pub struct Batch {
     entries: Items<Entry>,
 }
 
-// By hand, so that letting go of a batch is one step of a proof, in the crates above too.
+// Written out so that dropping a batch is one step of a proof, in the crates above too.
 impl Drop for Batch {
     fn drop(self) {
         let Batch {

@@ -23,7 +23,7 @@ pub enum Fault {
     /// It leaves out a message of its session, or a write of its client.
     #[error("out of order")]
     Order,
-    /// So many sessions are open as the server takes.
+    /// As many sessions are open as the server takes.
     #[error("too many sessions")]
     Full,
     /// An allocation was refused; the same input may come again.

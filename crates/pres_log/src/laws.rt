@@ -6,7 +6,7 @@ ghost use Rattle.pres_log.specs.Logs.{Log, entries, last_moment, writes, tree};
 ghost use Rattle.pres_log.specs.declared.entry.Batch.{Batch};
 ghost use Rattle.pres_log.specs.declared.entry.Entry.{Entry};
 
-/// A batch more adds its entries, behind those before it.
+/// One more batch appends its entries to those before it.
 pub fn batches_add_entries()
     ensures { (log : Log) (batch : Batch)
         → entries (log ++ batch ∷ []) ≡ entries log ++ batch.entries }

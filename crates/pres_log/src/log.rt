@@ -16,7 +16,7 @@ pub struct Log {
     batches: Vec<Batch>,
 }
 
-// By hand, so that letting go of a log is one step of a proof, in the crates above too.
+// Written out so that dropping a log is one step of a proof, in the crates above too.
 impl Drop for Log {
     fn drop(self) {
         let Log { batches: _ } = self;

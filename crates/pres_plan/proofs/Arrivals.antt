@@ -17,7 +17,7 @@ pub map_twice : {A B C : Type 0} (f : A → B) (g : B → C) (xs : List A) → m
 map_twice f g [] = refl
 map_twice f g (x ∷ xs) = ap (λ l. g (f x) ∷ l) (map_twice f g xs)
 
--- the arrivals so far, the next one, and those behind it
+-- the arrivals so far, the next one, and those after it
 pub at_turn : (all done : List Arrival) (x : Arrival) → done ≡ take (length done) all → length done < length all → x ≡ get_or all (length done) x → all ≡ done ++ x ∷ drop (length done + 1) all
 at_turn all done x so_far low is =
     sym (take-append-drop (length done) all)

@@ -53,7 +53,7 @@ sorted_front (x ∷ xs) ys o = (front xs o.0, sorted_front xs ys o.1) where
   front [] a = tt
   front (z ∷ zs) a = (a.0, front zs a.1)
 
--- the rows behind others have greater numbers
+-- the rows after others have greater numbers
 pub sorted_behind : (xs ys : Entries) → IsStrictlySortedBy nat_cmp (keys_of (xs ++ ys)) → AllByRecursion (λ y. AllByRecursion (λ k. nat_cmp k y.0 ≡ Less) (keys_of xs)) ys
 sorted_behind [] ys o = none ys where
   none : (zs : Entries) → AllByRecursion (λ y. AllByRecursion (λ k. nat_cmp k y.0 ≡ Less) []) zs
@@ -97,7 +97,7 @@ all_found (x ∷ places) o = (
   later [] a b = tt
   later (y ∷ ys) a b = (ap (λ b. cond b (Some x.1) (spot_at y.0 places)) (apart y.0 a.0) ∙ b.0, later ys a.1 b.1)
 
--- a number that stands somewhere below the path, if it is told there
+-- a number that stands somewhere below the path, if it stands there
 told_where : (n : ℕ) (p : Path) (es : Entries) (places : Spots) (R : Type 0) → IsStrictlySortedBy path_cmp (keys_of places) → Tells places es →
     ((y : Path) → is_prefix p y ≡ true → has n y es ≡ true → R) → list_any (λ m. eqb m n) (numbers_below p places) ≡ true → R
 told_where n p es places R o tells f h =
@@ -121,7 +121,7 @@ only_one n (Some s) numbers t few h = by s.before t where
   )
   by (Some b) e = absurd (omega (arith, few, ap length e))
 
--- the number of a row is told below a path exactly where the row's path is
+-- the number of a row stands below a path exactly where the row's path is
 pub told_below : (p y : Path) (n : ℕ) (es : Entries) (places : Spots) → IsStrictlySortedBy nat_cmp (keys_of es) → IsStrictlySortedBy path_cmp (keys_of places) → Tells places es → OneEach es → has n y es ≡ true →
     list_any (λ m. eqb m n) (numbers_below p places) ≡ is_prefix p y
 told_below p y n es places sorted o tells one h =
@@ -129,7 +129,7 @@ told_below p y n es places sorted o tells one h =
     (λ up. let it = only_one n (spot_at y places) (numbers_at y es) (tells y) (one y) h in
     any-below n p places ∙ any_looked (λ e. is_prefix p e.0 && eqb e.1.row n) y it.0 places it.1 (and_from (is_prefix p y) _ up it.2))
 
--- a number of no row is told nowhere
+-- a number of no row stands nowhere
 not_told : (p : Path) (n : ℕ) (es : Entries) (places : Spots) → IsStrictlySortedBy path_cmp (keys_of places) → Tells places es → AllByRecursion (λ k. nat_cmp k n ≡ Less) (keys_of es) → list_any (λ m. eqb m n) (numbers_below p places) ≡ false
 not_told p n es places o tells low = false_from_ne_true _ (λ h. true≢false (told_where n p es places (true ≡ false) o tells (λ y up k. sym k ∙ none_before n y es low) h))
 

@@ -183,7 +183,7 @@ all_have pre (e ∷ es) = (
 pub stands-entries : (q : Path) (es : Entries) → stands q (values_of es) ≡ list_any (at q) es
 stands-entries q es = any_mapped (λ (e : ℕ × PlanRow). e.1) (λ row. same_path q (path_of row.action)) es
 
--- where no number is told no row stands
+-- where no number stands there is no row
 pub none_stands : (q : Path) (es : Entries) → numbers_at q es ≡ [] → stands q (values_of es) ≡ false
 none_stands q [] = λ h. refl
 none_stands q (e ∷ es) = elim (at q e) as (λ b. map (λ (f : ℕ × PlanRow). f.0) (cond b (e ∷ filter (at q) es) (filter (at q) es)) ≡ [] → (b || stands q (values_of es)) ≡ false) [

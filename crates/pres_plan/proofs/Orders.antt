@@ -37,7 +37,7 @@ rest_of x xs (n ∷ news) h = (All-tail (λ row. row_cmp row n ≡ Less) x xs h.
 
 -- ---- more rows
 
--- rows that each come after all are in order behind them
+-- rows that each come after all are in order after them
 in_order-append : (xs news : List PlanRow) → IsStrictlySortedBy row_cmp xs → IsStrictlySortedBy row_cmp news → AllByRecursion (λ n. All (λ row. row_cmp row n ≡ Less) xs) news → IsStrictlySortedBy row_cmp (xs ++ news)
 unfolding IsStrictlySortedBy
 in_order-append [] news h g last = g

@@ -163,7 +163,7 @@ less_from_lt n k l = sym (nat_cmp_is n k Less l)
 pub lower_numbers : (n : ℕ) (es : Entries) → IsStrictlySortedBy nat_cmp (keys_of es) → IsPartitionedBy (λ e. ltb e.0 n) es
 lower_numbers n es o = parted nat_cmp (λ e. ltb e.0 n) (λ x y l h. let low = lt_from_less x.0 y.0 l in let high = ltb-true y.0 n h in lt-ltb x.0 n (omega (arith, low, high))) es o
 
--- what a search by halves tells of a list, told of the same one
+-- what a binary search finds in a list, for the same list
 pub sides : (n : ℕ) (es xs : Entries) (i : ℕ) → es ≡ xs → i ≤ length es → IsPartitionPoint (λ e. ltb e.0 n ≡ true) (λ e. ltb e.0 n ≡ false) es i → AllByRecursion (λ e. ltb e.0 n ≡ true) (take i xs) × AllByRecursion (λ e. ltb e.0 n ≡ false) (drop i xs)
 sides n es xs i is le part = (
   subst (λ (l : Entries). AllByRecursion (λ e. ltb e.0 n ≡ true) (take i l)) is (front (λ (e : ℕ × PlanRow). ltb e.0 n ≡ true) es i le part.0),

@@ -60,7 +60,7 @@ tops_set p w places after sets rows top tops q = subst (λ (o : Option Spot). If
 
 -- ---- a row less
 
--- the number is told at the path no more
+-- the number stands at the path no more
 abbrev pub Forgets : ℕ → Path → Spots → Spots → Type 0
 Forgets n p old new = (q : Path) → numbers_of (spot_at q new) ≡ cond (same_path q p) (without n (numbers_of (spot_at q old))) (numbers_of (spot_at q old))
 

@@ -22,9 +22,10 @@ use std::slice::from_ref;
 /// The most rows of a plan.
 pub const MOST_ROWS: usize = 256;
 
-/// What a session leaves: the rows that its puts, updates and cancels come to, at most `MOST_ROWS`.
-/// Contracts see the list of the rows, in the order of the messages that asked for them. They are
-/// found by their paths, so a put or a cancel looks at no row but those that it meets.
+/// What a session leaves: the rows that result from its puts, updates and cancels, at most
+/// `MOST_ROWS`. Contracts see the list of the rows, in the order of the messages that asked for
+/// them. They are found by their paths, so a put or a cancel looks at no row but those that it
+/// meets.
 #[derive(Drop)]
 pub struct Plan {
     standing: Standing,

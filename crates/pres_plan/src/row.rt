@@ -1,4 +1,4 @@
-//! Actions, the rows of a plan, and what they come to.
+//! Actions, the rows of a plan, and the writes that they make.
 
 ghost use Rattle.std.specs.Prelude.{◌≡◌, IfOk};
 ghost use Rattle.pres_tree.specs.Rows.{Fits, value_at};
@@ -37,7 +37,7 @@ impl Action {
         matches!(self, Action::Put(_))
     }
 
-    // The write that it comes to on the tree at the moment.
+    // The write that it makes on the tree at the moment.
     pub(crate) fn write(
         &self,
         alloc: Global,
@@ -91,7 +91,7 @@ impl PlanRow {
         }
     }
 
-    // The write that it comes to on the tree at the moment, with the number of its message.
+    // The write that it makes on the tree at the moment, with the number of its message.
     pub(crate) fn due(
         &self,
         alloc: Global,

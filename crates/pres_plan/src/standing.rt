@@ -175,7 +175,7 @@ impl Standing {
         }
     }
 
-    // Takes the last rows away, but for so many. It takes no memory.
+    // Removes the last rows and keeps this many. It takes no memory.
     fn cut(&mut self, len: usize)
         requires tells { Tells self.old.places self.old.rows }
         ensures tells { Tells self.new.places self.new.rows }

@@ -17,7 +17,7 @@ Table = List (ClientId × List Row)
 abbrev pub rows_of : ClientId → Table → List Row
 rows_of client table = unwrap_or (find client_cmp client table) []
 
--- the table with a row behind those of the client
+-- the table with a row after those of the client
 abbrev pub with_row : ClientId → Row → Table → Table
 with_row client row table = put client_cmp client (rows_of client table ++ row ∷ []) table
 

@@ -78,7 +78,7 @@ legal_kept : (log : Log) → IsLegal log → Kept (entries log)
 legal_kept = of_legal (λ log. Kept (entries log)) (sound_start, λ s h. absurd (true≢false (sym h)))
     (λ log b k f. subst Kept (sym (entries-push log b)) (kept_further (entries log) b.moment b.entries k (follows_in_turn (entries log) b.moment b.entries f.allowed)))
 
--- ---- what a session is told by entries more
+-- ---- what further entries send to a session
 
 ended_there : (a b : Bool) → (a && not b) ≡ false → a ≡ true → b ≡ true
 ended_there true true h k = refl

@@ -28,7 +28,7 @@ same_welcome s t z n y k e = cc e
 pub told_front : (s : SessionId) (xs ys : List Down) → BeginsTranscript s (xs ++ ys) → BeginsTranscript s xs
 told_front s xs ys k = record { log = k.log; legal = k.legal; opened = k.opened; within = (ys ++ k.within.0, sym (append_assoc xs ys k.within.0) ∙ k.within.1) }
 
--- the first message told is the Welcome
+-- the first message sent is the Welcome
 pub first_told : (s : SessionId) (m : Down) (more : List Down) → BeginsTranscript s (m ∷ more) → IsWelcome s m
 first_told s m more k =
     let es = entries k.log in
@@ -37,7 +37,7 @@ first_told s m more k =
 one_welcome : (s t : SessionId) (m : Down) → IsWelcome s m → IsWelcome t m → t ≡ s
 one_welcome s t m a b = same_welcome t s b.0 b.1 a.0 a.1 (sym b.2 ∙ a.2)
 
--- what begins with the Welcome of s is told to no other
+-- a transcript that begins with the Welcome of s is no other session's
 whose : (s t : SessionId) (xs new : List Down) (m : Down) → StartsWithWelcome s ((xs ++ m ∷ []) ++ new) → BeginsTranscript t (xs ++ m ∷ []) → t ≡ s
 whose s t [] new m b k = one_welcome s t m b (first_told t m [] k)
 whose s t (x ∷ xs) new m b k = one_welcome s t x b (first_told t x (xs ++ m ∷ []) k)

@@ -51,11 +51,11 @@ head_apart s e lines h k = by (same_session s e.0) refl where
   by true q = absurd (true≢false (sym k ∙ ap is_some (ap (λ t. line_at t lines) (session_same s e.0 q) ∙ none_later e lines h)))
   by false q = refl
 
--- the line at the head, and those behind it
+-- the line at the head, and those after it
 head_line : (s : SessionId) (e : SessionId × SessionLine) (lines : Lines) (b : Bool) → same_session s e.0 ≡ b → line_at s (e ∷ lines) ≡ cond b (Some e.1) (line_at s lines)
 head_line s e lines b h = ap (λ x. cond x (Some e.1) (line_at s lines)) (same_by_cmp s e.0 ∙ h)
 
--- what holds of the line of a session holds of it behind a head
+-- what holds of the line of a session holds of it after a head
 behind : (P : SessionLine → Type 0) (s : SessionId) (e : SessionId × SessionLine) (lines : Lines) → InOrder (e ∷ lines) → IsSomeAnd (line_at s lines) P → IsSomeAnd (line_at s (e ∷ lines)) P
 behind P s e lines h k = subst (λ o. IsSomeAnd o P) (sym (head_line s e lines false (head_apart s e lines h (there (line_at s lines) k)))) k where
   there : (o : Option SessionLine) → IsSomeAnd o P → is_some o ≡ true
@@ -124,7 +124,7 @@ none_slow (e ∷ lines) h s = by (is_slow e.1) refl h (λ k. none_slow lines k s
   by true k q r = absurd (true≢false q)
   by false k q r = each_behind (λ l. is_slow l ≡ false) s e lines k (r q)
 
--- where there is none, neither the first line is slow nor one behind it
+-- where there is none, neither the first line is slow nor one after it
 none_each : (b : Bool) (s : SessionId) (o : Option SessionId) → cond b (Some s) o ≡ None → (b ≡ false) × (o ≡ None)
 none_each true s o h = absurd (true≢false (ap is_some h))
 none_each false s o h = (refl, h)

@@ -96,7 +96,7 @@ all_filtered P p (x ∷ xs) h = by (p x) refl (all_filtered P p xs h) where
 
 -- ---- of what is made for each open session, that of s
 
--- it stands behind its client, and f makes messages for it alone
+-- it is paired with its client, and f makes messages for it alone
 abbrev IsMadeBy : SessionId → (SessionId → List Down) → ClientId × SessionId → Type 0
 IsMadeBy s f x = (x.0 ≡ x.1.client) × (those_for s (f x.1) ≡ cond (same_session s x.1) (f x.1) [])
 
@@ -169,7 +169,7 @@ answers_stay now (entry.On t q path) r = refl
 answers_stay now (entry.Off t q path) r = refl
 answers_stay now (entry.Ended t q why rows) r = refl
 
--- it has the number behind the Push that the session gets of the entry
+-- it has the number after the Push that the session gets of the entry
 pub own_number : (es : List Entry) (e : Entry) → is_open (session_of e) es ≡ true
     → filter (λ m. not (is_push m)) (added (session_of e) es e) ≡ numbered_from (length (stream (session_of e) es) + push_count (session_of e) es e + 1) (own_answer (es ++ e ∷ []) e)
 own_number es e o =

@@ -1,4 +1,4 @@
--- Nothing is told behind Gone.
+-- Nothing is sent after Gone.
 use Rattle.std.proofs.Common.{refl, sym, ◌∙◌, ap, subst, ◌≡◌, ℕ, ◌+◌, List, [], ◌∷◌, ◌++◌, length, Bool, true, false, cond, ◌||◌, true≢false, append_assoc, append-nil, Option, Some, None, slice_get, ◌-◌}
 use Rattle.std.specs.List.{list_any, before_first}
 use Rattle.pres_tree.specs.Paths.{Path}
@@ -84,7 +84,7 @@ behind : (b : Bool) (xs ys : List Down) → has_gone xs ≡ false → GoneAtEnd 
 behind false xs ys x y = none_in_pair xs ys x y
 behind true xs ys x y = (xs ++ y.0, y.1, ap (λ l. xs ++ l) y.2 ∙ sym (append_assoc xs y.0 (y.1 ∷ [])), none_in_pair xs y.0 x y.3)
 
--- an end of s is answered by Gone alone, behind its Push
+-- an end of s is answered by Gone alone, after its Push
 gone_in_entry : (s : SessionId) (now : List Entry) (e : Entry) (r : ℕ) → ends s e ≡ true → GoneAtEnd true (numbered_from r (sent_for s now e))
 gone_in_entry s now (entry.Ended t q why rows) r h =
     let e = entry.Ended t q why rows in
@@ -156,7 +156,7 @@ gone_prefix : (b : Bool) (xs rest ms : List Down) → GoneAtEnd b ms → xs ++ r
 gone_prefix false xs rest ms g e h = absurd (true≢false (sym (has_gone_first xs rest h) ∙ ap has_gone e ∙ g))
 gone_prefix true xs rest ms g e h = (refl, whole xs rest g.0 g.1 (e ∙ g.2) g.3 h)
 
--- nothing is told behind the end
+-- nothing is sent after the end
 pub told_ended : (s : SessionId) (es later : List Entry) → list_any (opens s) es ≡ true → list_any (ends s) (since_open s es) ≡ true → transcript s (es ++ later) ≡ transcript s es
 told_ended s es later o e =
     told_opened s (es ++ later) (any-append (opens s) es later ∙ ap (λ b. b || list_any (opens s) later) o)

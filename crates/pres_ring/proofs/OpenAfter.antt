@@ -1,4 +1,4 @@
--- Who is open after a batch, told by its answers.
+-- Who is open after a batch, by its answers.
 use Rattle.std.proofs.Common.{refl, sym, ◌∙◌, ap, ◌≡◌, ℕ, ◌+◌, ◌-◌, List, [], ◌∷◌, ◌++◌, filter, length, Bool, true, false, not, cond, ◌||◌, ◌&&◌, true≢false, append_assoc, Option, Some, None, slice_get}
 use Rattle.std.specs.List.{list_any, flat_map}
 use Rattle.pres_ids.specs.declared.id.SessionId.{SessionId}

@@ -143,7 +143,7 @@ or_or : (a b : Bool) → (a || b) ≡ ((a || false) || b)
 or_or true b = refl
 or_or false b = refl
 
--- a beginning of what is told is told
+-- a beginning of what is sent is sent
 fewer_told : (s : SessionId) (xs ys : List Down) → BeginsTranscript s (xs ++ ys) → BeginsTranscript s xs
 fewer_told s xs ys h = record { log = h.log; legal = h.legal; opened = h.opened; within = (ys ++ h.within.0, sym (append_assoc xs ys h.within.0) ∙ h.within.1) }
 
@@ -154,7 +154,7 @@ first_told s m ms (Some l) h = by l.sent h where
   by None k = tt
   by (Some xs) k = fewer_told s (xs ++ those_for s (m ∷ [])) (those_for s ms) (subst (BeginsTranscript s) (ap (λ ys. xs ++ ys) (those_more s m ms) ∙ sym (append_assoc xs (those_for s (m ∷ [])) (those_for s ms))) k)
 
--- what was put behind xs, where all of it is told, is told with what is left
+-- what was put after xs, where all of it is sent, is sent with what is left
 told_put : (s : SessionId) (before after : Option (List Down)) (ms rest all : List Down) → all ≡ ms ++ rest → SentAfter before ms after
     → IfSome before (λ sent. BeginsTranscript s (sent ++ all)) → IfSome after (λ sent. BeginsTranscript s (sent ++ rest))
 told_put s None None ms rest all e p h = tt

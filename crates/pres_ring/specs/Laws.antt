@@ -22,7 +22,7 @@ use Rattle.pres_history.specs.Turns.{moment_of, end_of, turn}
 use Rattle.pres_ring.specs.Transcripts.{transcript, those_for, is_gone, is_gone_for, IsWelcome}
 use Rattle.pres_ring.specs.AcceptedMessages.{accepted, messages_in, is_hello, is_hello_of, HasNextNumber, IsNextMessage}
 
--- A batch tells a session those of its answers that are for it, behind what the session was told before.
+-- A batch extends a session's transcript by those of its answers that are for the session.
 abbrev pub AnswersExtendTranscripts : SessionId → Log → Batch → Type 0
 AnswersExtendTranscripts s log batch = IsLegal (log ++ batch ∷ []) → transcript s (entries (log ++ batch ∷ [])) ≡ transcript s (entries log) ++ those_for s (answers (entries log) batch.entries)
 
@@ -31,7 +31,7 @@ abbrev pub OthersAreSilent : SessionId → Log → Batch → Type 0
 OthersAreSilent s log batch =
     IsLegal (log ++ batch ∷ []) → is_open s (entries log) ≡ false → list_any (opens s) batch.entries ≡ false → those_for s (answers (entries log) batch.entries) ≡ []
 
--- Nothing is told behind Gone: a beginning that holds it is the whole, whatever entries come later.
+-- Nothing follows Gone: a beginning of a transcript that holds it is the whole transcript, whatever entries come later.
 abbrev pub GoneIsLast : SessionId → List Down → List Entry → List Entry → Type 0
 GoneIsLast s xs es later = IsPrefix xs (transcript s es) → IsTrue (list_any is_gone xs) → transcript s (es ++ later) ≡ xs
 
@@ -41,14 +41,15 @@ GoneIsLast s xs es later = IsPrefix xs (transcript s es) → IsTrue (list_any is
 abbrev pub GoneTells : SessionId → Log → Batch → Type 0
 GoneTells s log batch = IsLegal (log ++ batch ∷ []) → list_any (is_gone_for s) (answers (entries log) batch.entries) ≡ list_any (ends s) batch.entries
 
--- A session is open after a batch where it was and isn't told that it is gone, or where the batch opens it.
+-- A session is open after a batch where it was and the batch's answers hold no Gone for it, or where the batch opens
+-- it.
 abbrev pub OpenAfter : SessionId → Log → Batch → Type 0
 OpenAfter s log batch =
     IsLegal (log ++ batch ∷ []) → is_open s (entries (log ++ batch ∷ [])) ≡ ((is_open s (entries log) && not (list_any (is_gone_for s) (answers (entries log) batch.entries))) || list_any (opens s) batch.entries)
 
 -- ---- a Hello
 
--- s was closed and told nothing; of the answers the last alone is for it, and that is all that it is told
+-- s was closed and its transcript was empty; of the answers only the last is for s, and that is all that s gets
 pub record IsWelcomed (s : SessionId) (before es : List Entry) : Type 0 where
   pub closed : is_open s before ≡ false
   pub untold : transcript s before ≡ []

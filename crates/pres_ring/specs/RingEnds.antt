@@ -17,12 +17,12 @@ pub record OutboxState : Type 0 where
   pub taken : List Down
   pub ahead : List Down
 
--- the message stands behind those that were put, or it is given up with all later ones
+-- the message is appended to those that were put, or it is given up with all later ones
 abbrev pub Puts : Option (List Down) → Down → Option (List Down) → Type 0
 Puts None m after = after ≡ None
 Puts (Some sent) m after = (after ≡ Some (sent ++ m ∷ [])) ⊎ (after ≡ None)
 
--- so many fit whether or not any is taken
+-- this many fit whether or not any is taken
 abbrev pub Fits : ℕ → Option (List Down) → Down → Option (List Down) → Type 0
 Fits most None m after = Unit {0}
 Fits most (Some sent) m after = length sent < most → after ≡ Some (sent ++ m ∷ [])

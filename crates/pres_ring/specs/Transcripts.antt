@@ -1,4 +1,4 @@
--- What a session is told of a log.
+-- The transcript of a session: all that a log sends to it.
 use Rattle.std.specs.Prelude.{◌≡◌, ◌&&◌, Bool, true, false, IsTrue, List, [], ◌∷◌, ◌++◌, filter, if◌then◌else◌, Option, Some, None, ℕ}
 use Rattle.std.specs.List.{list_any, before_first}
 use mathlib.Core.List.{IsPrefix}
@@ -22,14 +22,14 @@ up_to_open s es = before_first (opens s) es ++ entry.Open s ∷ []
 abbrev pub transcript : SessionId → List Entry → List Down
 transcript s es = if list_any (opens s) es then welcome s (up_to_open s es) ∷ stream s es else []
 
--- a beginning of what s is told in some legal log in which it was opened
+-- a beginning of the transcript of s in some legal log in which it was opened
 pub record BeginsTranscript (s : SessionId) (xs : List Down) : Type 0 where
   pub log : Log
   pub legal : IsLegal log
   pub opened : IsTrue (list_any (opens s) (entries log))
   pub within : IsPrefix xs (transcript s (entries log))
 
--- the rule of every ring: with the message behind what was put, that is a beginning of what some session is told
+-- the rule of every ring: what was put, with the message appended, is a beginning of some session's transcript
 abbrev pub MayPut : List Down → Down → Type 0
 MayPut before m = (s : SessionId) × BeginsTranscript s (before ++ m ∷ [])
 

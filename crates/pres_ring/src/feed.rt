@@ -34,7 +34,7 @@ impl Model for Feed {
 }
 
 impl Feed {
-    // The end of a new ring, behind its first message.
+    // The end of a new ring, after its first message.
     pub(crate) fn new(session: SessionId, ring: Producer<Down, Global, Rule>) -> Feed
         requires { 256 ≤ known_free ring + length (sent ring) }
         ensures { result ≡ record { session = session; sent = Some (sent ring) } }
@@ -59,7 +59,7 @@ impl Feed {
         self.ring.is_none()
     }
 
-    /// Puts the message behind the earlier ones, or gives it up with all later ones where the ring
+    /// Appends the message to the earlier ones, or gives it up with all later ones where the ring
     /// is full. The first `CAPACITY` messages find room.
     pub fn put(&mut self, message: Down)
         requires told { IfSome self.old.sent

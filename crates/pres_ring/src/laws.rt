@@ -1,5 +1,4 @@
-//! Laws of what sessions are told, for who puts the answers of batches on their rings, and of what
-//! turns make.
+//! Laws of transcripts, for code that puts the answers of batches on rings, and of what turns make.
 
 ghost use Rattle.std.specs.Prelude.{List, ℕ};
 ghost use Rattle.pres_ids.specs.declared.id.SessionId.{SessionId};
@@ -13,8 +12,8 @@ ghost use Rattle.pres_server.specs.declared.input.Input.{Input};
 ghost use Rattle.pres_history.specs.ServerStates.{ServerState};
 ghost use Rattle.pres_ring.specs.Laws.{AnswersExtendTranscripts, OthersAreSilent, GoneIsLast, GoneTells, OpenAfter, HelloIsWelcomed, HelloIsNotQuiet, OnlyHelloOpens, AcceptsOne, AcceptedAdds, AcceptedIsFew, NextIsNotQuiet, MadeIsNext, LostEnds, SlowEnds, RestartEnds};
 
-/// A batch tells a session those of its answers that are for it, behind what the session was told
-/// before. That is its Welcome first, where the batch opens it.
+/// A batch extends a session's transcript by those of its answers that are for the session. The
+/// first is its Welcome, where the batch opens it.
 pub fn answers_extend_transcripts()
     ensures { (session : SessionId) (log : Log) (batch : Batch)
         → AnswersExtendTranscripts session log batch }
@@ -26,7 +25,7 @@ pub fn others_are_silent()
         → OthersAreSilent session log batch }
 {}
 
-/// Nothing is told behind Gone: a beginning of what a session is told that holds it is the whole,
+/// Nothing follows Gone: a beginning of a transcript that holds it is the whole transcript,
 /// whatever entries come later.
 pub fn gone_is_last()
     ensures { (session : SessionId) (xs : List Down) (es later : List Entry)
@@ -38,14 +37,14 @@ pub fn gone_tells()
     ensures { (session : SessionId) (log : Log) (batch : Batch) → GoneTells session log batch }
 {}
 
-/// A session is open after a batch where it was and isn't told that it is gone, or where the batch
-/// opens it.
+/// A session is open after a batch where it was and the batch's answers hold no Gone for it, or
+/// where the batch opens it.
 pub fn open_after()
     ensures { (session : SessionId) (log : Log) (batch : Batch) → OpenAfter session log batch }
 {}
 
-/// A Hello that makes anything opens a session that was never told anything. It is answered by the
-/// Welcome, last of all and alone of the answers for its session.
+/// A Hello that makes anything opens a session whose transcript was empty. It is answered by the
+/// Welcome, which is the last answer and the only one for its session.
 pub fn hello_is_welcomed()
     ensures { (state : ServerState) (session : SessionId) (now : ℕ) (es : List Entry)
         → HelloIsWelcomed state session now es }

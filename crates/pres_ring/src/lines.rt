@@ -60,9 +60,9 @@ impl Lines {
         self.by_session.contains_key(session)
     }
 
-    /// Makes a line for the session without a feed and without a mark, where it has none: whether
-    /// it is new. To be made before the session's opening is committed, since nothing behind it
-    /// takes memory. At a refusal each line is as before.
+    /// Makes a line for the session without a feed and without a mark, where it has none, and
+    /// returns whether it is new. Call it before the session's opening is committed, since nothing
+    /// after the commit may allocate. After a refusal each line is as before.
     pub fn reserve(&mut self, alloc: Global, session: &SessionId) -> Result<bool, AllocError>
         ensures new { IfOk result (λ is_new. is_new ≡ not (has_line session.now self.old)) }
         ensures line { OnOk result (ChangesAt session.now kept_or_blank self.old self.new) }
@@ -142,7 +142,7 @@ impl Lines {
         self.none_slow &= !place.is_slow();
     }
 
-    // Puts one message on the line of its session, which leaves where it is told that it is gone.
+    // Puts one message on the line of its session. Gone removes the line.
     fn send(&mut self, message: Down)
         requires told { (s : SessionId) → FitsTranscript s (message ∷ []) (line_at s self.old) }
         ensures sent { (s : SessionId)
@@ -159,9 +159,9 @@ impl Lines {
     }
 
     /// Puts each message on the line of its session, in their order. A message that finds no room
-    /// is given up with all later ones for its session, and a session that is told that it is gone
-    /// has no line any more. Messages for no session, or for one without a line, are passed over.
-    /// It takes no memory.
+    /// is given up with all later ones for its session, and a session that gets Gone has no line
+    /// any more. Messages for no session, or for one without a line, are passed over. It takes no
+    /// memory.
     pub fn deliver(&mut self, answers: Items<Down>)
         requires told { (s : SessionId) → FitsTranscript s answers (line_at s self.old) }
         ensures delivered { (s : SessionId)

@@ -34,8 +34,8 @@ impl Model for Opening {
     ghost invariant = { λ o. (o.same ≡ o.session) × IsBlank o.producer o.consumer };
 }
 
-/// An empty ring for the session, with room for `CAPACITY` messages. To be made before the opening
-/// is committed, since nothing behind it takes memory.
+/// An empty ring for the session, with room for `CAPACITY` messages. Make it before the opening is
+/// committed, since nothing after the commit may allocate.
 pub fn open(alloc: Global, session: &SessionId) -> Result<Opening, AllocError>
     ensures { IfOk result (λ opening. opening ≡ session.now) }
 {

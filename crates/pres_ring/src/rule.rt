@@ -3,7 +3,7 @@
 use pres_wire::Down;
 use rtrb::Protocol;
 
-/// So many messages wait on a ring at most.
+/// At most this many messages wait on a ring.
 pub const CAPACITY: usize = 256;
 
 /// What is put on a ring is a beginning of what some legal log tells some session.

@@ -78,7 +78,7 @@ module _ {S : Type 0} (g : Ghosts S) (old new : TableState S) where
     pub kept_left : (log : Log) → Works g new → KeepsLog g old log → KeepsLog g new log
     kept_left log works keeps = ap saved_log (same_rows works) ∙ keeps
 
-  -- ---- a row behind the last
+  -- ---- a row after the last
 
   module _ (s : RowContent) (r : Result (Unit {0}) SavedFault) (serves : Serves g new) (adds : HasCleanDisk after → OnOk r (AddsRow before after (old.last + 1) s))
       (leaves : HasCleanDisk after → OnErr r (IsLeft before after)) (last : new.last ≡ (if is_ok r then old.last + 1 else old.last)) where

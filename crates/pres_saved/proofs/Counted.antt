@@ -25,7 +25,7 @@ number_by due None moment body s e = absurd (cc)
 number_read : (due : ℕ) (row : Row) (s : RowContent) → saved_row due row ≡ Some s → unwrap_or (whole_of (column row 0)) 0 ≡ due
 number_read due row s e = number_by due (whole_of (column row 0)) (whole_of (column row 1)) (text_of (column row 2)) s e
 
--- behind so many
+-- after this many
 greatest_from : (before : ℕ) (rows : List Row) (saved : List RowContent) → saved_from (before + 1) rows ≡ Ok saved → max before (greatest_in rows) ≡ before + length saved
 greatest_from before [] saved e = let none : saved ≡ [] = cc in let many = ap length none in omega (arith, many)
 greatest_from before (row ∷ rows) saved e =

@@ -91,7 +91,7 @@ pub length_after : (rows : List RowContent) (old new : Log) → log_after old ro
 length_after [] old new e = let same = ap length (ap (λ r. result_unwrap_or r new) e) in omega (arith, same)
 length_after (row ∷ more) old new e = let now = length_by old new (batch_in (number old) row) more (λ l. length_after more l new) e in omega (arith, now)
 
--- a row behind these saves the next batch
+-- a row after these saves the next batch
 pub kept_next : (rows : List Row) (last : ℕ) (log : Log) (b : Batch) (s : RowContent) → s.moment ≤ last_moment → IsUtf8 s.body
     → saved_log (map shown_row rows) ≡ Ok log → last ≡ length log → batch_in (number log) s ≡ Some b → saved_log (map shown_row (rows ++ stored (last + 1) s ∷ [])) ≡ Ok (log ++ b ∷ [])
 kept_next rows last log b s low text kept count one =

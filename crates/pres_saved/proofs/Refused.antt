@@ -36,7 +36,7 @@ store_unread : (held : Readable) (e : SavedFault) → IsOfStore e → IsUnread h
 store_unread held e (inl is) = subst (IsUnread held) (sym is) (inl refl)
 store_unread held e (inr is) = subst (IsUnread held) (sym is) (inr refl)
 
--- a row that isn't read, behind rows that made the log
+-- a row that isn't read, after rows that made the log
 row_unread : (shown : List Row) (log : Log) (k : ℕ) → saved_rows shown ≡ Err k → log_after [] (saved_front shown) ≡ Ok log → IsFirstUnread (readable_rows shown) k
 row_unread shown log k bad made =
     let count = length_after (saved_front shown) [] log made in

@@ -21,7 +21,7 @@ pub record Made (given : List RowContent) (old : Log) (sum : Sum) : Type 0 where
   pub read : log_after old given ≡ Ok log
   pub makes : MakesSum log sum
 
--- the row's batch stands behind the log, and both lead to the sum with it
+-- the row's batch is appended to the log, and both lead to the sum with it
 made_one : (row : RowContent) (old : Log) (before after : Sum) (follows : Follows before row after) → MakesSum old before → MakesSum (old ++ follows.batch ∷ []) after
 made_one row old before after follows makes =
     subst (MakesSum (old ++ follows.batch ∷ [])) (sym follows.added) (makes_more old before follows.batch makes follows.may)
@@ -64,7 +64,7 @@ front_grows_by : (old : Log) (o : Option Batch) (more : List RowContent) → ((l
 front_grows_by old None more ih = ([], sym (append-nil old))
 front_grows_by old (Some b) more ih = let found = ih (old ++ b ∷ []) in (b ∷ found.0, found.1 ∙ append_assoc old (b ∷ []) found.0)
 
--- they stand behind what was there
+-- they are appended to what was there
 pub front_grows : (rows : List RowContent) (old : Log) → (later : Log) × (log_front old rows ≡ old ++ later)
 front_grows [] old = ([], sym (append-nil old))
 front_grows (row ∷ more) old = front_grows_by old (batch_in (number old) row) more (λ l. front_grows more l)

@@ -1,4 +1,4 @@
--- What the commit of a batch leaves, and what a look at the store leaves behind it.
+-- What the commit of a batch leaves, and what a look at the store leaves after it.
 use Rattle.sqlite.specs.Store.{Ghosts}
 use Rattle.sqlite.specs.Held.{state}
 use Rattle.sqlite.specs.State.{Survives}

@@ -10,13 +10,13 @@ use Rattle.pres_server.specs.Sums.{Sum, sum_with}
 use Rattle.pres_server.specs.SumTurns.{FollowsSum}
 use Rattle.pres_saved.specs.SavedLogs.{batch_in}
 
--- memory is refused, or no number is left for one more behind so many
+-- memory is refused, or after this many no number is left for one more
 abbrev pub HasNoRoom : ℕ → SavedFault → Type 0
 HasNoRoom before e = (e ≡ Memory) ⊎ ((e ≡ Database) × (greatest_number ≤ before))
 
 -- ---- by the log
 
--- the row's batch stands behind the log
+-- the row's batch is appended to the log
 pub record Extends (old : Log) (row : RowContent) (new : Log) : Type 0 where
   pub batch : Batch
   pub read : batch_in (number old) row ≡ Some batch

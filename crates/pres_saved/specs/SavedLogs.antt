@@ -12,7 +12,7 @@ use Rattle.pres_keeper.specs.Keepers.{Readable, whole}
 abbrev pub batch_of : ℕ → ℕ → List Entry → Option Batch
 batch_of first moment es = if nat_le first greatest_number then Some (record { first = first; moment = moment; entries = es }) else None
 
--- the batch that a row saves behind so many entries
+-- the batch that a row saves after this many entries
 abbrev pub batch_in : ℕ → RowContent → Option Batch
 batch_in before row = option_and_then (batch_of (before + 1) row.moment) (entries_in row.body)
 
@@ -20,7 +20,7 @@ abbrev pub log_then : Log → Option Batch → (Log → Result Log ℕ) → Resu
 log_then log None more = Err (length log + 1)
 log_then log (Some b) more = more (log ++ b ∷ [])
 
--- the log with the batches of these rows behind it, or the number of the first row that saves none
+-- the log with the batches of these rows appended, or the number of the first row that saves none
 abbrev pub log_after : Log → List RowContent → Result Log ℕ
 log_after log [] = Ok log
 log_after log (row ∷ later) = log_then log (batch_in (number log) row) (λ more. log_after more later)

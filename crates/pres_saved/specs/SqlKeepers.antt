@@ -25,7 +25,7 @@ pub record WasShut {S : Type 0} (g : Ghosts S) (old new : TableState S) : Type 0
   pub clean : HasCleanDisk (state g new.connection)
   pub was_shut : IsTrue (state g old.connection).is_open → ⊥
 
--- no transaction is open, and the next row comes behind the last
+-- no transaction is open, and the next row comes after the last
 pub record IsReady {S : Type 0} (g : Ghosts S) (t : TableState S) : Type 0 where
   pub serves : Serves g t
   pub last : Works g t → t.last ≡ greatest_in (shown_rows (state g t.connection))
@@ -42,7 +42,7 @@ readable_in g t = readable_rows (shown_rows (state g t.connection))
 abbrev pub saved_batch : Batch → RowContent
 saved_batch batch = record { moment = batch.moment; body = compact_text (entries_json batch.entries) }
 
--- the batch is saved in one more row, numbered behind the last, which is committed
+-- the batch is saved in one more row, numbered one after the last, which is committed
 abbrev pub SavesBatch : {S : Type 0} → Ghosts S → TableState S → Batch → TableState S → Type 0
 SavesBatch g old batch new = AddsRow (state g old.connection) (state g new.connection) (old.last + 1) (saved_batch batch)
 

@@ -1,4 +1,4 @@
-//! Saved rows, taken one at a time: as batches, and by a server that is made anew.
+//! Saved rows, taken one at a time: as batches, and into a server that is rebuilt.
 
 ghost use Rattle.std.specs.Prelude.{◌≡◌, ◌⊎◌, ◌+◌, ◌≤◌, IfOk};
 ghost use Rattle.std.specs.Option.{SomeIff};
@@ -18,14 +18,14 @@ use pres_server::{Replay, Server};
 use std::alloc::{AllocError, Global};
 use std::marker::Model;
 
-// The number after so many.
+// The number this many after it.
 fn number_after(before: u64) -> Option<Number>
     ensures { SomeIff result (before + 1 ≤ greatest_number) (before + 1) }
 {
     Count::new(before)?.next()
 }
 
-// The batch that the row saves behind so many entries, none where it saves none.
+// The batch that the row saves after this many entries, none where it saves none.
 fn read_batch(alloc: Global, before: u64, row: &SavedRow) -> Result<Option<Batch>, AllocError>
     ensures { IfOk result (λ found. found ≡ batch_in before (saved_of row.now)) }
 {
@@ -38,7 +38,7 @@ fn read_batch(alloc: Global, before: u64, row: &SavedRow) -> Result<Option<Batch
     }
 }
 
-// The refusal of the row behind so many batches.
+// The refusal of the row after this many batches.
 fn bad_row(before: u64) -> SavedFault
     ensures { (result ≡ SavedFault.BadRow (before + 1))
         ⊎ ((result ≡ SavedFault.Database) × (greatest_number ≤ before)) }
@@ -74,7 +74,7 @@ impl Take for Batches {
     }
 }
 
-/// A server that is made anew of the rows so far. Contracts see it as their sum.
+/// A server that is rebuilt from the rows so far. Contracts see it as their sum.
 #[derive(Drop)]
 pub(crate) struct Replaying {
     alloc: Global,

@@ -1,4 +1,4 @@
-//! A keeper over a database whose commits are told to who watches them.
+//! A keeper over a database that reports its commits to a watcher.
 
 ghost use Rattle.std.specs.Prelude.{◌≡◌, ◌≤◌};
 ghost use Rattle.sqlite.specs.Held.{state};
@@ -26,7 +26,7 @@ pub enum Commit {
     Shut,
 }
 
-/// Who is told of each commit.
+/// The watcher of the commits.
 pub trait Watch {
     /// Takes note of it. The store's other callers wait meanwhile.
     fn note(&self, commit: Commit);

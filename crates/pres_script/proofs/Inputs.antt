@@ -19,7 +19,7 @@ by_test bytes false e h = refl
 pub no_text : (bytes : List ℕ) → (IsUtf8 bytes → ⊥) → None ≡ line_of_bytes bytes
 no_text bytes h = by_test bytes (is_utf8 bytes) refl h
 
--- the first line behind good ones that says nothing
+-- the first line after good ones that says nothing
 pub first_bad-behind : (n : ℕ) (good : List Line) (rest : List (Option ParsedLine)) → first_bad n (map (λ line. Some (as_parsed line)) good ++ None ∷ rest) ≡ Some (n + length good)
 first_bad-behind n [] rest = ap Some (omega arith)
 first_bad-behind n (line ∷ good) rest = first_bad-behind (n + 1) good rest ∙ ap Some (omega arith)

@@ -1,4 +1,4 @@
--- What reading a line of a client's input, or a part of it, comes to.
+-- The result of reading a line of a client's input, or a part of it.
 use Rattle.std.specs.Prelude.{◌≡◌, ◌⊎◌, ⊤, ℕ, Option, Some, None, Result, Ok, Err}
 use Rattle.pres_tree.specs.declared.fault.TreeFault.{TreeFault}
 use Rattle.pres_tree.specs.declared.fault.TreeFault.TheVariants as tree

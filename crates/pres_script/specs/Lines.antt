@@ -25,7 +25,7 @@ Text = List ℕ
 
 -- ---- what a line says
 
--- a wait for so many messages, a call that is refused, a call, or one of the two updates with its places
+-- a wait for this many messages, a call that is refused, a call, or one of the two updates with its places
 pub data ParsedLine : Type 0 where
   waits : ℕ → ParsedLine
   refused : ParsedLine
@@ -45,7 +45,7 @@ as_parsed (line.Call c) = calls c
 abbrev pub is_space : ℕ → Bool
 is_space b = b == 32
 
--- what stands before the first space, and what behind it
+-- the texts before and after the first space
 abbrev pub halves : Text → Option (Text × Text)
 halves text = if nat_lt (position_or_len is_space text) (length text) then Some (before_first is_space text, after_first is_space text) else None
 
@@ -82,7 +82,7 @@ places_read json = option_and_then places_in (read json)
 
 -- ---- lines
 
--- what is refused, its path or its JSON, is told as such
+-- which of the two is refused: the path or the JSON
 abbrev pub or_refused : Option ParsedLine → ParsedLine
 or_refused None = refused
 or_refused (Some s) = s

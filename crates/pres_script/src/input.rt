@@ -56,7 +56,7 @@ fn without_last_feed(input: &[u8]) -> &[u8]
     }
 }
 
-// The fault of the input's error, with want of memory apart.
+// The fault of the input's error; a failed allocation is a fault of its own.
 fn input_fault(error: &io::Error) -> ScriptFault
     ensures { (result ≡ fault.Memory) ⊎ (result ≡ fault.Input) }
 {

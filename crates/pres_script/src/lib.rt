@@ -1,5 +1,5 @@
-//! The lines of scripts: what a line of a client says, what its notices are told as, and how the lines of
-//! an input are read.
+//! The lines of scripts: what a line of a client says, how its notices are printed, and how the
+//! lines of an input are read.
 #![tactic(auto)]
 
 mod fault;

@@ -9,6 +9,6 @@ pub enum Line {
     Call(Call),
     /// It makes none, since the call's JSON or its path was refused.
     Refused,
-    /// It reads so many messages.
+    /// It waits for this many messages.
     Wait(u64),
 }

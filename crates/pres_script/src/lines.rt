@@ -133,7 +133,7 @@ fn at_path(alloc: Global, word: &str, path: &str) -> Result<Line, LineFault>
     Ok(Line::Call(call))
 }
 
-// A wait for so many messages.
+// A wait for this many messages.
 fn waiting(count: &str) -> Result<Line, LineFault>
     ensures { IsRead as_parsed (waiting count.now) result }
 {

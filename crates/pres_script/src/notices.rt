@@ -1,4 +1,4 @@
-//! What a client's notices are told as.
+//! How a client's notices are printed.
 
 ghost use Rattle.std.specs.Prelude.{◌≡◌, IfOk, option_map, string_bytes};
 ghost use Rattle.pres_script.specs.NoticeTexts.{place_text, words_of, value_in, notice_text, line_of};
@@ -8,8 +8,8 @@ use pres_tree::{Path, Tree, TreeJson};
 use pres_wire::Number;
 use std::alloc::{AllocError, Global};
 
-/// The line that a client's notice is told as, with what ends it: its word, what it tells, and the
-/// JSON of the value that it shows.
+/// The line that a client's notice prints as, with its line end: a word, the notice's contents, and
+/// the JSON of the value that it shows.
 pub fn notice_line(alloc: Global, notice: &Notice) -> Result<Vec<u8>, AllocError>
     ensures { IfOk result (λ line. line.items ≡ line_of (notice_text notice.now)) }
 {

@@ -17,7 +17,7 @@ use Rattle.pres_server.specs.SumTurns.{FollowAll}
 
 -- ---- what holds of every server's sum
 
--- what holds of an open session after so many entries
+-- what holds of an open session after this many entries
 pub record IsOpenSession (number : ℕ) (session : OpenSession) : Type 0 where
   -- each of its messages made an entry
   pub count : session.count ≤ number

@@ -23,7 +23,7 @@ use Rattle.pres_server.specs.InternalIndex.{part_at, paths_at}
 
 -- ---- one entry
 
--- q comes after so many messages of an open session
+-- q comes after this many messages of an open session
 abbrev pub IsNextIn : Option ℕ → ℕ → Type 0
 IsNextIn None q = ⊥
 IsNextIn (Some count) q = q ≡ count + 1
@@ -56,7 +56,7 @@ MayComeBy p paths sessions tree moment (entry.Ended s q why rows) = IsTrue (is_l
 
 -- ---- a batch
 
--- the opening of a session that is newer than its client's last one, while so many are open
+-- the opening of a session that is newer than its client's last one, while this many are open
 abbrev pub IsNewerBy : (ClientId → Part) → ℕ → Entry → Type 0
 IsNewerBy part sessions (entry.Open s) = IsTrue (comes_after (part s.client).last (stamp_of s)) × (sessions ≤ 1024)
 IsNewerBy part sessions _ = ⊥
@@ -67,7 +67,7 @@ MayComeTogetherBy part paths sessions tree moment (e ∷ []) = IsPlain e × MayC
 MayComeTogetherBy part paths sessions tree moment (e ∷ f ∷ []) = Supersedes e f × IsNewerBy part sessions f × MayComeBy (part (session_of e).client) (paths (session_of e)) sessions tree moment e
 MayComeTogetherBy part paths sessions tree moment _ = ⊥
 
--- there is a number left for the end of each open session, behind so many entries
+-- there is a number left for the end of each open session, after this many entries
 abbrev pub LeavesRoomBy : ℕ → ℕ → List Entry → Type 0
 LeavesRoomBy number sessions es = number + length es + open_steps es sessions ≤ 2 ^ 52 - 1
 

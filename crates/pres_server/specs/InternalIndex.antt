@@ -75,7 +75,7 @@ listeners_after (entry.Off s q path) listeners = without s path listeners
 listeners_after (entry.Ended s q why rows) listeners = without_session s listeners
 listeners_after _ listeners = listeners
 
--- what is made, where it is within the limits; so many entries were made before
+-- what is made, where it is within the limits; this many entries were made before
 abbrev pub limited_on : Index → ℕ → Decision → Decision
 limited_on index number decision = limited_by number (open_count index.places) decision
 

@@ -54,7 +54,7 @@ open_step (entry.Open s) n = n + 1
 open_step (entry.Ended s q why rows) n = n - 1
 open_step _ n = n
 
--- the next message to a session to which so many were sent
+-- the next message to a session to which this many were sent
 abbrev pub message_next : Option ℕ → Unnumbered → List Down
 message_next None m = []
 message_next (Some sent) m = m (sent + 1) ∷ []
@@ -178,7 +178,7 @@ abbrev pub within : ℕ → ℕ → Decision → Decision
 within number count decision =
     if nat_lt (2 ^ 52 - 1) (number + count) then refused fault.Spent else (if nat_lt 1024 count then refused fault.Full else decision)
 
--- what is made, where it is within the limits: so many entries there are, and so many open sessions
+-- what is made, where it is within the limits, given the numbers of entries and of open sessions
 abbrev pub limited_by : ℕ → ℕ → Decision → Decision
 limited_by number count (makes es) = within (number + length es) (open_steps es count) (makes es)
 limited_by number count other = other

@@ -33,7 +33,7 @@ is_gone index client = not (is_some (session_at index client))
 abbrev pub gone_in : Index → List (ClientId × Stamp)
 gone_in index = where_key client_cmp (is_gone index) index.places.gone.entries
 
--- the sum of an index with so many batches and entries, of which the last was made at the moment
+-- the sum of an index with this many batches and entries, of which the last was made at the moment
 abbrev pub sum_in : ℕ → ℕ → ℕ → Index → Sum
 sum_in batches moment number index = record {
   batches = batches;

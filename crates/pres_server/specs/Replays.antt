@@ -1,4 +1,4 @@
--- Servers that are made anew from their batches.
+-- Servers that are rebuilt from their batches.
 use Rattle.std.specs.Prelude.{ℕ, ◌+◌, ◌≡◌, List, ◌∷◌, ◌++◌, map, length}
 use Rattle.pres_log.specs.declared.entry.Batch.{Batch}
 use Rattle.pres_log.specs.Logs.{Log}

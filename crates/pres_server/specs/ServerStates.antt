@@ -10,7 +10,7 @@ use Rattle.pres_log.specs.declared.entry.Entry.TheVariants as entry
 use Rattle.pres_server.specs.declared.input.Input.{Input}
 use Rattle.pres_server.specs.declared.input.Input.TheVariants as input
 
--- the moments behind the clients, in byte order of clients
+-- the clients with their moments, in byte order of clients
 abbrev pub Heard : Type 0
 Heard = List (ClientId × ℕ)
 

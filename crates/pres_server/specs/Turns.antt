@@ -25,11 +25,11 @@ pub data Decision : Type 0 where
   quiet : Decision
   makes : List Entry → Decision
 
--- the entry of message q of the session, or a denial where so many rows would then be left
+-- the entry of message q of the session, or a denial where this many rows would then be left
 abbrev pub within_rows : ℕ → Entry → SessionId → ℕ → Decision
 within_rows rows e s q = makes ((if nat_le rows most_rows then e else entry.Denied s q limit.Plan) ∷ [])
 
--- the On with message q of the session, or a denial where the session would then listen to so many paths
+-- the On with message q of the session, or a denial where the session would then listen to this many paths
 abbrev pub within_paths : ℕ → SessionId → ℕ → Path → Decision
 within_paths paths s q path = makes ((if nat_le paths most_paths then entry.On s q path else entry.Denied s q limit.Listens) ∷ [])
 
@@ -46,7 +46,7 @@ abbrev pub is_made : Decision → Bool
 is_made (makes es) = true
 is_made _ = false
 
--- the refusal that an input meets, or want of memory where it would make something
+-- the refusal that an input meets, or lack of memory where it would make something
 abbrev pub IsRefusal : Decision → Fault → Type 0
 IsRefusal decision f = (decision ≡ refused f) ⊎ ((f ≡ fault.Busy) × (is_made decision ≡ true))
 

@@ -26,7 +26,7 @@ use pres_wire::{ClientId, Limit, Number, SessionId, Up, Why};
 use pres_write::{Items, Moment, Op, Puts, Unconditional};
 use std::alloc::Global;
 
-// So many sessions may be open at a time.
+// At most this many sessions may be open at a time.
 pub(crate) const MOST_SESSIONS: u64 = 1024;
 
 // 2^52 - 1: the number of the last entry and the open sessions together stay at or below it, so
@@ -42,7 +42,7 @@ pub(crate) enum TurnEffect {
     Makes(Items<Entry>),
 }
 
-/// When a turn is: after so many entries, at the moment.
+/// When a turn happens: after this many entries, at the moment.
 #[derive(Clone, Copy)]
 pub(crate) struct TurnTime {
     pub(crate) number: u64,

@@ -1,4 +1,4 @@
--- Why a server or a client ended early: as what a fault below is told, and the exit status.
+-- Why a server or a client ended early: the words for each fault, and the exit status.
 use Rattle.std.specs.Prelude.{ℕ, Bool, true, false}
 use Rattle.pres_faults.specs.declared.saved_fault.SavedFault.{SavedFault}
 use Rattle.pres_faults.specs.declared.saved_fault.SavedFault.TheVariants as saved

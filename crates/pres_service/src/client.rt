@@ -33,8 +33,8 @@ pub struct ClientOptions<'a> {
 }
 
 /// Takes a client online at the address, does what the lines of the input say, and takes it
-/// offline; what it is told goes to the output. All lines are read first: the first that is none is
-/// told there as `bad line` and its number, and refused as Input before there is a connection.
+/// offline; its notices go to the output. All lines are read first: for the first bad one it prints
+/// `bad line` and its number, and refuses it as Input before it connects.
 pub fn client_run<
     R: Net<Listener = TcpListener, Stream = TcpStream> + RandomSource + Copy,
     I: Read,
@@ -57,7 +57,7 @@ pub fn client_run<
     follow(rt, alloc, visit, lines, output)
 }
 
-// Reads the lines of the input. The first that is none is told.
+// Reads the lines of the input. The first bad one is printed.
 fn lines_from<I: Read, W: Write>(
     alloc: Global,
     input: &mut I,

@@ -31,7 +31,7 @@ pub enum ServiceFault {
     /// The file failed while it was served.
     #[error("store refused 2")]
     Shut,
-    /// An allocation was refused behind a commit while the file was served.
+    /// An allocation was refused after a commit while the file was served.
     #[error("out of memory")]
     Down,
 }

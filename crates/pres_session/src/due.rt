@@ -10,8 +10,9 @@ use pres_ids::Why;
 use pres_write::Basic;
 use std::marker::Model;
 
-/// A session that ended, with its plan still to be paid. It may not be let go: it is spent with
-/// the rows that its plan owes, or put back. Contracts see the session as it was, and why it ended.
+/// A session that ended, with its plan still to be carried out. It must not be dropped: it is spent
+/// with the rows that its plan owes, or put back. Contracts see the session as it was, and why it
+/// ended.
 pub struct Due<P> {
     session: Live<P>,
     why: Why,

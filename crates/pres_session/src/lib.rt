@@ -1,7 +1,7 @@
 //! The life of a session: asked for, open, ended and paid for.
 //!
-//! The types keep the steps in their order. A session that ended is a `Due`, which may not be let
-//! go: what its plan owes is written and the value spent, or the session is put back.
+//! The types keep the steps in their order. A session that ended is a `Due`, which must not be
+//! dropped: either what its plan owes is written and the value spent, or the session is put back.
 #![tactic(auto)]
 
 mod due;

@@ -123,8 +123,8 @@ impl<P> Live<P> {
         self.heard = self.heard.max(now);
     }
 
-    /// The client counts as heard of at this moment, also where it was heard of later: who makes a
-    /// server anew doesn't know when that was.
+    /// The client counts as heard of at this moment, also where it was heard of later: whoever
+    /// rebuilds a server doesn't know when that was.
     pub fn set_heard(&mut self, moment: Moment)
         ensures { self.new ≡ record self.old { heard = moment } }
     {

@@ -27,7 +27,7 @@ pub one_by_one : (texts : List (Bor (List ℕ))) → map script_bytes (map (λ t
 one_by_one [] = refl
 one_by_one (text ∷ texts) = ap (λ ls. script_bytes text.now ∷ ls) (one_by_one texts)
 
--- the lines of a known input behind the first
+-- the lines of a known input after the first
 pub is_script : (input : Option (List ℕ)) (seen text : List ℕ) (first : Bor (List ℕ)) (rest : List (Bor (List ℕ))) → IfSome input (λ bytes. seen ≡ bytes) → text ≡ seen → map (λ t. t.now) (first ∷ rest) ≡ lines_of text → AreSteps (map (λ t. t.now) rest) → IfSome input IsScript
 is_script None seen text first rest h same lines none = tt
 is_script (Some bytes) seen text first rest h same lines none = ap (λ b. first_bad 2 (map script_bytes (drop 1 (lines_of b)))) (sym (same ∙ h)) ∙ ap (λ ls. first_bad 2 (map script_bytes (drop 1 ls))) (sym lines) ∙ none

@@ -77,7 +77,7 @@ word_line word given =
     else (if is_word word (codes "restart-client") then client_start_line given
     else (if is_word word (codes "restart-server") then server_start_line given else None))))))))
 
--- what a line says: none where it is no line of a script behind the first
+-- what a line says: none where it is no line of a script after the first
 abbrev pub script_line : Text → Option Scripted
 script_line text = option_and_then (λ h. word_line h.0 h.1) (halves text)
 
@@ -88,6 +88,6 @@ script_bytes bytes = if is_utf8 bytes then script_line bytes else None
 abbrev pub AreSteps : List Text → Type 0
 AreSteps lines = first_bad 2 (map script_bytes lines) ≡ None
 
--- each line of the input behind the first, which names the clients, says something
+-- each line of the input after the first, which names the clients, says something
 abbrev pub IsScript : List ℕ → Type 0
 IsScript input = AreSteps (drop 1 (lines_of input))

@@ -91,7 +91,7 @@ fn moment_of(text: &str) -> Option<Moment>
     Some(Moment::at(number_of(text)?))
 }
 
-// A packet of a client comes to the server.
+// A packet from a client arrives at the server.
 fn arrival(given: &str, ending: Ending) -> Option<ScriptStep>
     ensures { option_map scripted result ≡ arrival_line ending given.now }
 {
@@ -105,7 +105,7 @@ fn arrival(given: &str, ending: Ending) -> Option<ScriptStep>
     }))
 }
 
-// A packet of the server comes to its client.
+// A packet from the server arrives at its client.
 fn delivery(given: &str) -> Option<ScriptStep>
     ensures { option_map scripted result ≡ delivery_line given.now }
 {

@@ -16,15 +16,15 @@ use std::alloc::{AllocError, Global};
 use std::collections::BTreeSet;
 use std::io::{Read, Write};
 
-// The number of the first line behind the one that names the clients.
+// The number of the first line after the one that names the clients.
 const FIRST_STEP: u64 = 2;
 
 /// Makes a world of the clients that the first line of the input names, and does what each further
-/// line says. What each makes goes to the output: the packets that clients and the server sent, each
-/// with its number, and what clients note; or why it is refused. At the end go the server's number
-/// and its tree, or `stopped`, and what each client shows. The first line that says nothing is told
-/// as `bad line` and its number, and ends the run, refused as Input, as an output does that can't be
-/// written.
+/// line says. What each makes goes to the output: the packets that clients and the server sent,
+/// each with its number, and what clients note; or why it is refused. At the end go the server's
+/// number and its tree, or `stopped`, and what each client shows. The first line that says nothing
+/// prints as `bad line` and its number, and ends the run, refused as Input; an output that can't be
+/// written ends it too.
 pub fn sim_run<I: Read, W: Write>(
     alloc: Global,
     input: &mut I,
@@ -132,7 +132,7 @@ fn steps_of(alloc: Global, texts: &[&[u8]]) -> Result<(Vec<ScriptStep>, Option<u
 }
 
 // A world while its script runs: its clients, the paths that were listened to, and how many packets
-// were told of.
+// were printed.
 #[derive(Drop)]
 struct Play {
     alloc: Global,

@@ -12,7 +12,7 @@ use Rattle.pres_log.specs.Faults.{code_of as code_of_server}
 use Rattle.pres_faults.specs.declared.hub_fault.HubFault.{HubFault}
 use Rattle.pres_faults.specs.declared.hub_fault.HubFault.TheVariants as hub
 
--- the code of a fault message; none where the hub has less than the seat was told of, or more of its session
+-- the code of a fault message; none where the hub has less than was sent to the seat, or more of its session
 abbrev pub code_of : HubFault → Option Code
 code_of hub.Memory = Some code.Busy
 code_of (hub.Refused e) = Some (code_of_server e)
@@ -39,7 +39,7 @@ IsHelloRefusal (Ok session) (down.Fault named code) = named ≡ Some session
 IsHelloRefusal (Err bad) message = message ≡ down.Fault None bad
 IsHelloRefusal asked message = ⊥
 
--- the connection ends behind it: before a session is open, what is no Hello ends it
+-- the connection ends after it: before a session is open, anything but a Hello ends it
 abbrev pub is_last : Down → Bool
 is_last (down.Fault None code.Bad) = true
 is_last message = false

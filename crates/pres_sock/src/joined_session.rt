@@ -131,7 +131,7 @@ impl<L: Ledger> JoinedSession<L> {
     }
 }
 
-/// The code of a refusal. A seat that is behind or apart can't be told so.
+/// The code of a refusal. The faults Behind and Apart have none.
 pub(crate) fn code_of(fault: HubFault) -> Result<Code, SockFault>
     ensures code { IfOk result (λ code. refusal.code_of fault ≡ Some code) }
     ensures none { IfErr result (λ _. refusal.code_of fault ≡ None) }

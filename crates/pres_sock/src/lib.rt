@@ -1,4 +1,4 @@
-//! Connections over WebSocket (RFC 6455), over any stream: the server's side, with a hub behind it.
+//! Connections over WebSocket (RFC 6455), over any stream: the server's side, which serves a hub.
 #![tactic(auto)]
 
 mod joined_session;

@@ -85,7 +85,7 @@ impl<L: Ledger, B, S: Read + Write + Drop> Served<L, B, S> {
     }
 }
 
-// The most messages that are taken between two reads: a ring has room for so many.
+// The most messages that are taken between two reads, which is what a ring has room for.
 const BURST: usize = 256;
 
 // How many reads in a row give nothing before a connection rests.
@@ -161,7 +161,7 @@ pub fn serve_stream<
 trait Task {
     type Output;
 
-    // Holds of the work and what it comes to.
+    // Holds of the work and its result.
     ghost gives: { Self → Self.Output → Type 0 } = { λ _ _. ⊤ };
 
     fn run(self) -> Self::Output
@@ -210,8 +210,8 @@ impl<
     }
 }
 
-// What the first work for a connection comes to: the session that was opened, where one was, and the
-// bell, where that wasn't taken. None where the connection is over before a session.
+// The result of the first work for a connection: the session that was opened, where one was, and
+// the bell, where that wasn't taken. None where the connection is over before a session.
 struct Begun<L: Ledger, B, S> {
     served: Result<Option<Served<L, B, S>>, SockFault>,
     bell: Option<B>,
@@ -369,7 +369,7 @@ fn put<S: Read + Write + Drop>(
     write(alloc, socket, text.as_str())
 }
 
-// Whether the connection ends behind it: before a session is open, what is no Hello ends it.
+// Whether the connection ends after it: before a session is open, anything but a Hello ends it.
 fn is_last(fault: &Down) -> bool
     ensures { result ≡ is_last fault.now }
 {
@@ -426,7 +426,7 @@ fn serve<
     served.stop(SockFault::Turns);
 }
 
-// The work for a connection that rested: what came is answered, and what comes behind it.
+// The work for a connection that rested: what came is answered, and then what follows.
 #[derive(Drop)]
 struct Waking<'a, L: Ledger, K: Keeper + Drop, B, G: Gate, R, S, C> {
     visit: &'a HubAccess<'a, L, K, B, G, R>,
@@ -458,7 +458,7 @@ impl<
     }
 }
 
-// One turn after the other, until so many reads in a row gave nothing, or the connection is over.
+// One turn after the other, until this many reads in a row gave nothing, or the connection is over.
 fn turns<
     L: Ledger,
     K: Keeper + Drop,
@@ -563,7 +563,7 @@ fn put_answer<S: Read + Write + Drop>(
     }
 }
 
-// Sends what waits. Behind Gone the connection is to be closed.
+// Sends what waits. After Gone the connection is to be closed.
 fn send_all<L: Ledger, S: Read + Write + Drop>(
     alloc: Global,
     socket: &mut Socket<S, NoMask>,

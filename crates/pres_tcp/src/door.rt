@@ -14,10 +14,11 @@ const LISTENER: Token = Token(0);
 // How long a wait for a connection takes at most, in milliseconds.
 const WAIT_MILLIS: u64 = 200;
 
-// How long nothing is accepted behind a connection that could not be, as where no descriptor is left.
+// How long nothing is accepted after a connection that could not be, as where no descriptor is
+// left.
 const REFUSED_MILLIS: u64 = 50;
 
-// What waits for connections, and what it is told.
+// Waits for connections, and reports what happens to them.
 #[derive(Drop)]
 struct Watch {
     poll: Poll,
@@ -35,7 +36,7 @@ impl Watch {
     }
 }
 
-/// Gives the connections that come to a listener, and waits for none longer than a set time.
+/// Yields the connections of a listener, and waits for none longer than a set time.
 #[derive(Drop)]
 pub(crate) struct Door<'a> {
     listener: &'a TcpListener,
@@ -63,7 +64,7 @@ impl<'a> Door<'a> {
         }
     }
 
-    // Waits until a connection may be accepted, behind one that could not be for this reason.
+    // Waits until a connection may be accepted, after one that could not be for this reason.
     fn rest(&mut self, clock: &impl Clock, refusal: ErrorKind) {
         if let (Some(watch), ErrorKind::WouldBlock) = (&mut self.watch, refusal) {
             let wait = Duration::from_millis(WAIT_MILLIS);

@@ -7,7 +7,7 @@ use std::sync::atomic::{AtomicBool, AtomicUsize, Ordering};
 pub enum Halt {
     /// The store was shut, and refuses everything from then on.
     Shut,
-    /// Memory was refused behind a commit, so the hub is down.
+    /// Memory was refused after a commit, so the hub is down.
     Down,
 }
 
@@ -63,7 +63,7 @@ impl Health {
     }
 }
 
-/// Whether commits are refused behind so many changes.
+/// Whether commits are refused after this many changes.
 pub(crate) fn is_odd(changes: usize) -> bool {
     changes % 2 == 1
 }

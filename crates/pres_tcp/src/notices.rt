@@ -6,7 +6,7 @@ use std::io::Write;
 /// Says when commits begin to be refused, and when they are taken again.
 #[derive(Drop)]
 pub(crate) struct CommitNotices {
-    // How many changes of the fate of commits were told.
+    // How many changes of the fate of commits were reported.
     told: usize,
 }
 

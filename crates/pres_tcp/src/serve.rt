@@ -65,11 +65,11 @@ impl<R: Clock> pres_sock::Clock for WallClock<'_, R> {
     }
 }
 
-/// Serves each connection that comes in a thread of its own, and ends the sessions that are to end
-/// each second in a further one. With a count it returns once so many connections have ended; else it
-/// goes on. It ends early where the server can't go on: then no connection is accepted any more, those
-/// that are open are closed, and it says why. It says on the stream for faults when commits begin to be
-/// refused, and when they are taken again.
+/// Serves each connection that comes in a thread of its own, and each second, in a further one,
+/// ends the sessions that are to end. With a count it returns once that many connections have
+/// ended; else it goes on. It ends early where the server can't go on: then no connection is
+/// accepted any more, those that are open are closed, and it prints why. It prints on the stream
+/// for faults when commits begin to be refused, and when they are taken again.
 ///
 /// A push ends the wait of its connection at once; where the system has no descriptors for that, it
 /// goes out within 50 ms.
@@ -115,8 +115,8 @@ pub fn serve_connections<
     }
 }
 
-// Accepts connections, each of which has a thread of its own, until all of so many have ended, or the
-// server can't go on. It says what becomes of commits.
+// Accepts connections, each of which has a thread of its own, until the given number of them have
+// ended, or the server can't go on. It prints what becomes of commits.
 #[inline(never)]
 fn accept_all<
     L: Ledger + Send + Sync,
@@ -193,7 +193,7 @@ fn connection<
     crowd.end_one();
 }
 
-// Serves the connection. A peer that opened no WebSocket is told what is served here.
+// Serves the connection. A peer that opens no WebSocket gets a text that says what is served here.
 fn attend<
     L: Ledger + Send + Sync,
     K: Keeper + Drop + Send,

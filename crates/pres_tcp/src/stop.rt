@@ -3,7 +3,7 @@
 use std::sync::{Condvar, Mutex, Wait};
 use std::time::{Clock, Duration};
 
-/// Whether a thread is to end, and who is told.
+/// Whether a thread is to end, and whom to notify.
 #[derive(Drop)]
 pub(crate) struct Stop {
     over: Mutex<bool>,

@@ -37,7 +37,7 @@ pub(crate) enum Store<V> {
     Many(BTreeMap<Key, V>),
 }
 
-// By hand, so that letting go of children is one step of a proof, however they are kept.
+// Written out so that dropping children is one step of a proof, however they are kept.
 impl<V: Drop> Drop for Children<V> {
     fn drop(self) {
         let Children { store } = self;
@@ -133,7 +133,7 @@ fn spill<V: Drop>(few: &mut Vec<(Key, V)>, many: &mut BTreeMap<Key, V>) -> Resul
     Ok(())
 }
 
-// Puts the entries of a map behind those of a list.
+// Appends the entries of a map to those of a list.
 fn refill<V: Drop>(few: &mut Vec<(Key, V)>, many: BTreeMap<Key, V>)
     requires { length (few.old.items ++ many.entries) ≤ vec_capacity few.old }
     ensures { few.new.items ≡ few.old.items ++ many.entries }

@@ -46,7 +46,7 @@ pub(crate) enum Node<L> {
     Object(Children<Nested<L>>),
 }
 
-// By hand, so that letting go of a value is one step of a proof, whatever it holds.
+// Written out so that dropping a value is one step of a proof, whatever it holds.
 impl<L: Drop> Drop for Nested<L> {
     #[cycle(dropped)]
     fn drop(self) {
@@ -163,7 +163,7 @@ fn deepest<L>(children: &Children<Nested<L>>) -> usize
     deepest
 }
 
-// The first keys, so many or all.
+// The first keys: the given number of them, or all.
 fn first(keys: &[Key], count: usize) -> &[Key]
     ensures { result.now ≡ take count keys.now }
 {
@@ -222,8 +222,8 @@ impl<L: Drop> Nested<L> {
         self.clear(keys);
     }
 
-    /// Puts a value that isn't null, as `set` does, and answers what it took the place of: all
-    /// that stood at so many first keys of the path.
+    /// Puts a value that isn't null, as `set` does, and returns what it replaced: all that was at
+    /// this many first keys of the path.
     pub fn replace(
         &mut self,
         alloc: Global,
@@ -242,7 +242,7 @@ impl<L: Drop> Nested<L> {
         Ok(self.put(alloc, path.keys(), value)?)
     }
 
-    /// Puts a value where something stands, at so many first keys of the path. It takes no
+    /// Puts a value where something stands, at this many first keys of the path. It takes no
     /// memory.
     pub fn put_back(&mut self, path: &Path, depth: usize, value: Nested<L>)
         requires stands { is_null (value_at (take depth path.now) self.old) ≡ false }
@@ -298,8 +298,8 @@ impl<L: Drop> Nested<L> {
         }
     }
 
-    // Puts a value that is not null, and answers what it took the place of: all that stood at so
-    // many first keys.
+    // Puts a value that is not null, and returns what it replaced: all that was at this many first
+    // keys.
     fn put(
         &mut self,
         alloc: Global,

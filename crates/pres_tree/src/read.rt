@@ -75,7 +75,7 @@ pub fn from_value_below<L: Drop, F: LeafForm<L>>(
     read_at::<L, F>(alloc, value, LEVELS - path.len())
 }
 
-/// The same for a value that is to stand below so many keys.
+/// The same for a value that is to stand below this many keys.
 pub fn from_value_under<L: Drop, F: LeafForm<L>>(
     alloc: Global,
     value: &Value,
@@ -92,7 +92,7 @@ pub fn from_value_under<L: Drop, F: LeafForm<L>>(
     read_at::<L, F>(alloc, value, LEVELS - depth)
 }
 
-// The value, with so many levels left for its leaves.
+// The value, with this many levels left for its leaves.
 #[cycle(read)]
 fn read_at<L: Drop, F: LeafForm<L>>(
     alloc: Global,

@@ -34,7 +34,7 @@ impl Model for Text {
     ghost view = { λ a. bytes_in a.room };
 }
 
-// By hand, so that letting go of a text is one step of a proof, whichever room it has.
+// Written out so that dropping a text is one step of a proof, whichever room it has.
 impl Drop for Text {
     fn drop(self) {
         let Text { room } = self;

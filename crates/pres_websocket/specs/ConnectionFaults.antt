@@ -28,7 +28,7 @@ abbrev pub of_shake : Error → SockFault
 of_shake error.OutOfMemory = fault.Memory
 of_shake e = fault.Handshake e
 
--- the fault of an error behind the handshake
+-- the fault of an error after the handshake
 abbrev pub of_stream : Error → SockFault
 of_stream error.OutOfMemory = fault.Memory
 of_stream e = fault.Stream e

@@ -1,4 +1,4 @@
--- What a WebSocket (RFC 6455) gave, as it is told.
+-- What a read of a WebSocket (RFC 6455) returns.
 use Rattle.std.specs.Prelude.{◌≡◌, ◌≢◌, ◌⊎◌, ⊤, Bool, true, false, Result, Ok, Err}
 use Rattle.std.specs.IoError.{error_kind}
 use Rattle.std.specs.declared.io.ErrorKind.TheVariants.{WouldBlock}
@@ -19,8 +19,8 @@ blocked true = Err fault.Turns
 blocked false = Ok came.Nothing
 
 module _ {S : Type 0} where
-  -- what the socket gave, told as this: a text is told with its words, of a ping and a pong there is nothing to tell, a
-  -- close is the peer's, and of a stream that would block there is nothing to tell while there are turns
+  -- what a read returns: a text gives its words, a ping and a pong give nothing, a close is the peer's, and a stream
+  -- that would block gives nothing while there are turns
   abbrev pub IsReadAs : Meter S → Result Message Error → Result Received SockFault → Type 0
   IsReadAs meter (Ok (message.Text text)) told = told ≡ Ok (came.Text text)
   IsReadAs meter (Ok (message.Binary bytes)) told = told ≡ Ok came.Binary

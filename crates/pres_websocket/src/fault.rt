@@ -43,7 +43,7 @@ impl SockFault {
     }
 }
 
-/// The fault of a stream's error, with want of memory apart.
+/// The fault of a stream's error; a failed allocation is a fault of its own.
 pub(crate) fn stream_fault(error: Error) -> SockFault
     ensures fault { result ≡ of_stream error }
     ensures behind { is_handshake result ≡ false }

@@ -13,9 +13,9 @@ pub const MAX_IDLE_READS: u32 = 2_000;
 /// The greatest number of reads in all.
 pub const MAX_READS: u32 = u32::MAX;
 
-/// A stream that refuses to read once its turns are spent. A read that gives nothing answers
-/// `WouldBlock`, whichever of three words the stream has for it; a write begins the count of those
-/// anew, so that a listener that only hears is not out of turns.
+/// A stream that refuses to read once its turns are spent. A read that gives nothing returns
+/// `WouldBlock`, whichever of three words the stream has for it; a write restarts their count, so
+/// that a client that only listens does not run out of turns.
 #[derive(Drop)]
 pub struct Metered<S> {
     stream: S,

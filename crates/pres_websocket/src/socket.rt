@@ -63,7 +63,7 @@ pub fn accept<S: Read + Write + Drop>(
     Err(SockFault::Turns)
 }
 
-// The fault of a handshake's error, with want of memory apart.
+// The fault of a handshake's error; a failed allocation is a fault of its own.
 fn shake_fault(error: Error) -> SockFault
     ensures { result ≡ of_shake error }
 {
@@ -125,7 +125,7 @@ pub enum Received {
     Nothing,
 }
 
-// What an error of a read is told as: the peer's close, or nothing where the stream would block.
+// What an error of a read means: the peer's close, or nothing where the stream would block.
 fn told<S>(stream: &Metered<S>, error: Error) -> Result<Received, SockFault>
     ensures told { IsReadAs stream.now (Err error) result }
     ensures shaken { IfErr result (λ e. is_handshake e ≡ false) }

@@ -1,4 +1,4 @@
--- Values at paths, as a listener is told them.
+-- Values at paths, as a listener gets them.
 use Rattle.std.specs.Prelude.{Bool, true, ◌&&◌, IsTrue, List, [], ◌∷◌, map}
 use Rattle.std.specs.Ordering.{is_lt}
 use Rattle.pres_tree.specs.Paths.{Path, path_cmp}

@@ -24,6 +24,6 @@ abbrev pub seen : Option Down → Option (Rows Scalar) → Option (ℕ × Rows S
 seen (Some m) (Some value) = Some (number_in m, value)
 seen _ _ = None
 
--- what is seen of the path: the number of the last message, and the value that was told last
+-- what is seen of the path: the number of the last message, and the value that was sent last
 abbrev pub seen_in : Path → List Down → Option (ℕ × Rows Scalar)
 seen_in p messages = seen (last_or None messages) (last_or None (filter_map (value_told p) messages))

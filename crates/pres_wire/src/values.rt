@@ -1,4 +1,4 @@
-//! Values at paths, as a listener is told them.
+//! Values at paths, as a listener gets them.
 
 ghost use Rattle.std.specs.Prelude.{◌≡◌, ◌≤◌, ◌++◌, IfOk, OnOk, Some};
 ghost use Rattle.std.specs.Option.{SomeIff, option_map};

@@ -55,11 +55,11 @@ on_not_off p (up.Beat s) h = refl
 on_not_off p (up.On s q x) h = refl
 on_not_off p (up.Off s q x) h = absurd (true≢false (sym h))
 
--- each of the list that listens no more has one behind it that listens
+-- each of the list that listens no more has one after it that listens
 abbrev pub Asked : List Up → Path → Type 0
 Asked ms p = (k : ℕ) (m : Up) → slice_get ms k ≡ Some m → offs p m ≡ true → (j : ℕ) × (n : Up) × (k < j) × (slice_get ms j ≡ Some n) × (ons p n ≡ true)
 
--- none behind message q names the path
+-- none after message q names the path
 abbrev pub Last : List Up → Path → ℕ → Type 0
 Last ms p q = (k : ℕ) (m : Up) → slice_get ms k ≡ Some m → q ≤ k → (ons p m ≡ false) × (offs p m ≡ false)
 
@@ -71,7 +71,8 @@ Fewer p c d = is_some (watch_of p d.watches) ≡ true → is_some (watch_of p c.
 abbrev More : SendList → SendList → Unnumbered → Type 0
 More t u f = u.messages ≡ t.messages ++ f (length t.messages + 1) ∷ []
 
--- the list stays, or has one more: that has nothing to do with the path, or listens to it anew; or it is listened to no more
+-- the list stays, or has one more: that has nothing to do with the path, or listens to it again; or it is listened to
+-- no more
 abbrev Asks : Path → ClientState → ClientState → SendList → SendList → Type 0
 Asks p c d t u =
     ((u.messages ≡ t.messages) × Fewer p c d)
@@ -79,7 +80,7 @@ Asks p c d t u =
     ⊎ (((f : Unnumbered) × More t u f × ((q : ℕ) → ons p (f q) ≡ true) × (is_some (watch_of p c.watches) ≡ false))
     ⊎ (is_some (watch_of p d.watches) ≡ false)))
 
--- and so many messages were taken
+-- and this many messages were taken
 pub record Steps (p : Path) (c d : ClientState) (t u : SendList) (n : ℕ) : Type 0 where
   pub asks : Asks p c d t u
   pub taken : d.taken ≡ n
@@ -166,7 +167,7 @@ call_steps p c t call.Lost on still = absurd (no_more c _ _ (is_online c.phase) 
 call_steps p c t call.Beat on still = same p c _ t refl refl
 call_steps p c t call.Resend on still = same p c _ t refl refl
 
--- how many messages were taken behind a step
+-- how many messages were taken after a step
 abbrev pub count_after : ClientState → ClientStep → ℕ
 count_after c (receives m) = if takes c m then c.taken + 1 else c.taken
 count_after c (calls k) = c.taken
@@ -182,7 +183,7 @@ step_steps p c t (receives m) on still = let h = receive_hears c m on in record 
 step_steps p c t hands_out_sends on still = same p c _ t refl refl
 step_steps p c t hands_out_notices on still = same p c _ t refl refl
 
--- ---- the list behind the step
+-- ---- the list after the step
 
 up_is : (x y : Up) → Some x ≡ Some y → x ≡ y
 up_is x y e = ap (λ o. unwrap_or o x) e
@@ -247,7 +248,7 @@ on_waits p s q n (x ∷ ms) (suc j) m get h = or_true (is_on p x) (on_waits p s 
   or_true true e = refl
   or_true false e = e
 
--- behind a message whose answer is the next, and that no other listen to the path waits behind, none names the path
+-- after a message whose answer is the next, and after which no other listen to the path waits, none names the path
 pub accepted_last : (p : Path) (c : ClientState) (ms : List Up) → drop c.heard ms ≡ outstanding c → is_last p (drop 1 c.queue) ≡ true → Asked ms p → Last ms p (c.heard + 1)
 accepted_last p c ms waits last asked k m get late = (listens, listens_no_more) where
   waiting : (k : ℕ) (m : Up) → slice_get ms k ≡ Some m → c.heard + 1 ≤ k → ons p m ≡ true → ⊥

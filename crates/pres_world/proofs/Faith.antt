@@ -139,7 +139,7 @@ count_grows s es (y ∷ more) o =
 pub stream_longer : (s : SessionId) (es more : List Entry) → length (stream s es) ≤ length (stream s (es ++ more))
 stream_longer s es more = let grown = stream_grows s es more in let a = ap length grown.1 in let b = length-append (stream s es) grown.0 in omega (arith, a, b)
 
--- an entry of the session behind its On has a later number
+-- an entry of the session after its On has a later number
 later_number : (es : List Entry) → StandsMay es → (s : SessionId) (q : ℕ) (p : Path) (before later : List Entry) → es ≡ before ++ entry.On s q p ∷ later → IsTrue (is_open s before) → q ≡ count s before + 1
     → (k k' : ℕ) (e : Entry) → slice_get later k ≡ Some e → ((old : List Entry) (m : ℕ) → MayCome old m e → k' ≡ count s old + 1) → q + 1 ≤ k'
 later_number es may s q p before later is opened first k number e get next =
@@ -227,7 +227,7 @@ front (x ∷ xs) (y ∷ ys) us vs e h = let rest = front xs ys us vs (ap (drop 1
   head_is : x ≡ y
   head_is = ap (λ l. unwrap_or (slice_get l 0) x) e
 
--- a Snap of the path that stands behind another answers a later On
+-- a Snap of the path that comes after another answers a later On
 pub later_snap : (log : Log) → IsLegal log → (s : SessionId) (ms : List Up) → Listed (entries log) s ms → (t t' : SessionId) (place place' q r z q' r' z' : ℕ) (p : Path) (v v' : Rows Scalar)
     → slice_get (stream s (entries log)) place ≡ Some (down.Snap t r z q p v) → slice_get (stream s (entries log)) place' ≡ Some (down.Snap t' r' z' q' p v') → place < place' → Last ms p q → ⊥
 later_snap log legal s ms listed t t' place place' q r z q' r' z' p v v' get get' less last = true≢false (sym (itself p) ∙ (last here.0 (up.On s q' p) here.2 late).0) where

@@ -55,7 +55,7 @@ pub record Faith (es : List Entry) (c : ClientState) (ms : List Up) (p : Path) (
   pub live : t.counts ≡ true → Live es c ms p t.messages
   pub asked : is_online c.phase ≡ true → is_some (watch_of p c.watches) ≡ true → Asked ms p
 
--- before what is of no more use is let go
+-- before what is of no more use is dropped
 pub record Raw (es : List Entry) (d : ClientState) (ms : List Up) (p : Path) (t : Trail) : Type 0 where
   pub seen : is_some (watch_of p d.watches) ≡ true → SeenTrue es p t.messages
   pub live : t.counts ≡ true → is_online d.phase ≡ true → is_some (watch_of p d.watches) ≡ true → Live es d ms p t.messages

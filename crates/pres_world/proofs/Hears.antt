@@ -29,7 +29,7 @@ use Rattle.pres_client.specs.ReceivedMessages.{write_outcome, try_outcome, is_ne
 use Rattle.pres_client.specs.Views.{takes}
 use Rattle.pres_client.proofs.Found.{watch_of-without, watch_of-frozen, left, told_elsewhere}
 
--- no path more is listened to, and so many messages were taken
+-- no path more is listened to, and this many messages were taken
 pub record Hears (c : ClientState) (n : ℕ) (d : ClientState) : Type 0 where
   pub fewer : (p : Path) → is_some (watch_of p d.watches) ≡ true → is_some (watch_of p c.watches) ≡ true
   pub taken : is_online d.phase ≡ true → d.taken ≡ n

@@ -100,7 +100,7 @@ commits log s m es legal same follows = record {
   may : MayFollow log (batch_of log m es)
   may = subst (MayFollow log) here ((says.follows (batch_by s.sum m es)).0 (subst (λ x. FollowsSum x (batch_by s.sum m es)) same follows))
 
--- the batch of a turn was kept behind the log
+-- the batch of a turn was kept after the log
 pub record IsKept (log new : Log) (busy : PendingTurn) : Type 0 where
   pub commit : Commits log busy.state busy.moment busy.made
   pub grown : new ≡ log_with log busy
@@ -119,7 +119,7 @@ none_inside log (Some s) h = absurd (true≢false (ap is_some h))
 pub none_holds : (log new : Log) (busy : PendingTurn) (server : Option SumState) → IsKept log new busy → server ≡ None → HoldsSum new server
 none_holds log new busy server k none = record { legal = subst IsLegal (sym k.grown) k.commit.legal; summed = subst (λ o. MatchOption o ⊤ (λ s. s.sum ≡ sum_of new)) (sym none) tt }
 
--- the server stopped behind the commit
+-- the server stopped after the commit
 pub stops_is : (log new : Log) (busy : PendingTurn) (server : Option SumState) (downs told : List Down) (i : Input) → IsKept log new busy → server ≡ None → downs ≡ told
     → viewed new server downs ≡ turned ending.Stopped told (makes busy.made) (of_log log busy.state) busy.moment i
 stops_is log new busy server downs told i k none d = λ x. viewed (k.grown x) (none x) (d x)
@@ -156,7 +156,7 @@ module _ (w : ServerSideState) (log : Log) (downs : List Down) (s : SumState) (b
   pub makes_so : (e : Ending) (busy : PendingTurn) → IsTurn s i now (turn_of.Busy busy) → turned e downs (makes busy.made) (of_log log busy.state) busy.moment i ≡ served w i now e
   makes_so e busy t = ap (λ x. turned e downs (makes busy.made) (of_log log x) busy.moment i) t.1 ∙ served_so busy.moment e (makes busy.made) t.0 t.2
 
-  -- the server stopped behind the commit
+  -- the server stopped after the commit
   pub stops_so : (busy : PendingTurn) (taken : Option SumState) → IsTurn s i now (turn_of.Busy busy) → taken ≡ None
       → let now_is : ServerSideState = record { server = option_map (of_log log) taken; history = log_with log busy; downs = downs } in
       now_is ≡ served w i now ending.Stopped

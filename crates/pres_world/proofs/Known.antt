@@ -144,7 +144,7 @@ its_step log hands_out_notices h = tt
 number_is : (x y : ℕ) → Some x ≡ Some y → x ≡ y
 number_is x y e = ap (λ o. unwrap_or o x) e
 
--- it comes to be Online with the step, or not
+-- it goes Online with the step, or not
 abbrev Arrives : Client → Client → Type 0
 Arrives c d = (is_online d.phase ≡ true → is_online c.phase ≡ true) ⊎ ((is_online d.phase ≡ true) × (is_online c.phase ≡ false))
 
@@ -160,7 +160,7 @@ kept_writes c d t = by (is_online d.phase) (is_online c.phase) where
   by true true = refl
   by true false = refl
 
--- what the writes are counted on from, where the client comes to be Online
+-- what the writes are counted on from, where the client goes Online
 record NewBase (es : List Entry) (id : ClientId) (incarnation : ℕ) (c d : Client) : Type 0 where
   pub count : ℕ
   pub base : d.base ≡ Some (unwrap_or c.base count)

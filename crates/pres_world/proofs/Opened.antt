@@ -1,4 +1,4 @@
--- How a client comes to be Online.
+-- How a client goes Online.
 use Rattle.std.proofs.Common.{if◌then◌else◌, refl, sym, ◌∙◌, ap, ◌≡◌, ◌&&◌, ◌+◌, ◌++◌, ℕ, Bool, true, false, Option, Some, None, true≢false, unwrap_or}
 use Rattle.std.specs.Option.{is_some, is_none}
 use Rattle.std.proofs.lemmas.Bool.{and_parts}
@@ -26,7 +26,7 @@ use Rattle.pres_client.specs.Calls.{refusal, enqueue, after_answer, after_listen
 use Rattle.pres_client.specs.ReceivedMessages.{is_next, is_fit, opened, own_fault, after_fault, after_welcome, after_receive}
 use Rattle.pres_client.specs.Steps.{ClientStep, calls, receives, hands_out_sends, hands_out_notices, after}
 
--- where the client comes to be Online, W holds
+-- where the client goes Online, W holds
 record Opened (W : Type 0) (c d : ClientState) : Type 0 where
   pub none : is_online d.phase ≡ true → is_online c.phase ≡ false → W
 
@@ -90,8 +90,8 @@ faulted_opened : (W : Type 0) (c : ClientState) (s : Option SessionId) (reason :
 faulted_opened W c None reason = same W c _ refl
 faulted_opened W c (Some s) reason = choose W c (same_session s c.session) (own_fault c reason) c (λ _. fault_opened W c reason) (λ _. same W c c refl)
 
--- a client comes to be Online by the Welcome of its session alone: it has taken nothing of the stream, and counts its
--- writes on from where it did, or from what the Welcome says
+-- a client goes Online by the Welcome of its session alone: it has taken nothing of the stream, and counts its writes
+-- on from where it did, or from what the Welcome says
 pub record Begun (c : ClientState) (s : SessionId) (ops : ℕ) (d : ClientState) : Type 0 where
   pub session : s ≡ c.session
   pub none : d.taken ≡ 0

@@ -4,7 +4,7 @@ use Rattle.pres_world.specs.declared.event.Event.{Event}
 use Rattle.pres_world.specs.declared.fault.WorldFault.{WorldFault}
 use Rattle.pres_world.specs.Worlds.{World, IsStep, IsRefused, RunsTo, IsCutShort}
 
--- one more behind them
+-- one more after them
 reaches_more : (w u v : World) (done : List Event) (e : Event) → RunsTo w done u → IsStep u e v → RunsTo w (done ++ e ∷ []) v
 reaches_more w u v [] e h k = (v, subst (λ x. IsStep x e v) h k, refl)
 reaches_more w u v (d ∷ done) e h k = (h.0, h.1, reaches_more h.0 u v done e h.2 k)

@@ -28,7 +28,7 @@ use Rattle.pres_history.proofs.StreamSteps.{stream-append, stream_ended, stream_
 use Rattle.pres_world.proofs.Stands.{none_or_some, entries_rule}
 use Rattle.pres_world.proofs.Backed.{all_front}
 
--- a Snap of the stream of s, there behind so many, is the answer to an On
+-- a Snap of the stream of s, there after this many, is the answer to an On
 abbrev pub SnapFrom : SessionId → List Entry → ℕ → Down → Type 0
 SnapFrom s es i (down.Snap t r z q p v) = (before : List Entry) × (later : List Entry) × (es ≡ before ++ entry.On s q p ∷ later) × (length (stream s before) ≡ i) × IsTrue (is_open s before) × (q ≡ count s before + 1)
 SnapFrom s es i _ = Unit {0}

@@ -107,7 +107,7 @@ get_taken (y ∷ xs) i zero x get less = absurd (omega (arith, less))
 get_taken (y ∷ xs) zero (suc j) x get less = get
 get_taken (y ∷ xs) (suc i) (suc j) x get less = get_taken xs i j x get (omega (arith, less))
 
--- an item of what is left behind the first h
+-- an item of what is left after the first h
 pub get_dropped : {A : Type 0} (h : ℕ) (xs : List A) (j : ℕ) → slice_get (drop h xs) j ≡ slice_get xs (h + j)
 get_dropped zero xs j = let e : j ≡ 0 + j = omega arith in ap (slice_get xs) e
 get_dropped (suc h) [] j = refl

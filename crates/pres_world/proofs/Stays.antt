@@ -197,7 +197,7 @@ receive_stays c (down.Snap s r z q p v) = taken_stays c s r _ (snap_stays c z (d
 receive_stays c (down.Push s r z vs) = taken_stays c s r _ (keeps c _ refl refl refl refl)
 receive_stays c (down.OffDone s r z q) = taken_stays c s r _ (choose c (fits (bring c z) q && first_is_off c.queue) _ _ (λ _. keeps c _ refl refl refl refl) (λ _. leaves c _ refl refl refl refl))
 
--- a client that doesn't come to be Online counts its writes on from where it did
+-- a client that doesn't go Online counts its writes on from where it did
 pub moves_base : (c d : ClientState) → Moves c d → (is_online d.phase ≡ true → is_online c.phase ≡ true) → d.base ≡ c.base
 moves_base c d (inl x) h = x.base h
 moves_base c d (inr x) h = x.base

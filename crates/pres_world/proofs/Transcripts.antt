@@ -22,7 +22,7 @@ use Rattle.pres_world.specs.Safe.{IsInTranscript}
 use Rattle.pres_world.proofs.Stands.{none_or_some}
 use Rattle.pres_world.proofs.Backed.{Sure, Backed, backed_front, answers_backed, item_front, all_front, all_into, all_dropped, all_filtered, all_flat}
 
--- under its number in the stream of s it is told to its session
+-- under its number in the stream of s it is sent to its session
 abbrev SaysSo : SessionId → Unnumbered → Type 0
 SaysSo s u = (r : ℕ) (es : List Entry) → item_at (stream s es) r ≡ Some (u r) → IsInTranscript es (u r)
 
@@ -107,7 +107,7 @@ answer_told es e =
     (all_flat (IsInTranscript (es ++ e ∷ [])) (λ s. filter is_push (added s es e)) (open_sessions es) (λ s. added_told es e s is_push))
     (own_told es e)
 
--- what was told stays told
+-- what was sent stays sent
 item_told : (s : SessionId) (es more : List Entry) (r : ℕ) (m : Down) → item_at (stream s es) r ≡ Some m → item_at (stream s (es ++ more)) r ≡ Some m
 item_told s es more r m h = let grown = stream_grows s es more in subst (λ l. item_at l r ≡ Some m) grown.1 (item_front (stream s es) grown.0 r m h)
 

@@ -34,7 +34,7 @@ nth_once b ws n o p h k =
     let place : h.place ≡ k.place = omega (arith, same, first, second) in
     op_is o p (sym h.write ∙ ap (slice_get ws) place ∙ k.write)
 
--- the base is known, or it comes to be, and there may be more writes
+-- the base is known, or is set now, and there may be more writes
 pub nth_on : (b c : Option ℕ) (ws more : List Op) (n : ℕ) (o : Op) → ((x : ℕ) → b ≡ Some x → c ≡ Some x) → IsNth b ws n o → IsNth c (ws ++ more) n o
 nth_on b c ws more n o f h = record { base = h.base; known = f h.base h.known; place = h.place; count = h.count; write = get_front ws more h.place o h.write }
 

@@ -25,7 +25,7 @@ use Rattle.pres_world.proofs.Writes.{IsNth}
 
 -- ---- where the count begins
 
--- a session of this start of the client was opened behind x writes of the client
+-- a session of this start of the client was opened after x writes of the client
 pub record IsBase (es : List Entry) (id : ClientId) (start x : ℕ) : Type 0 where
   pub session : SessionId
   pub before : List Entry

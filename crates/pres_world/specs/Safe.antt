@@ -101,7 +101,8 @@ SameNumberSameMessage ups = (m k : Up) (q : ℕ) → WasSent ups m → WasSent u
 abbrev pub SameNumberSameOp : List Up → Type 0
 SameNumberSameOp ups = (s t : SessionId) (q p n : ℕ) (o x : Op) → WasSent ups (up.Op s q n o) → WasSent ups (up.Op t p n x) → s.client ≡ t.client → s.incarnation ≡ t.incarnation → o ≡ x
 
--- the entries tell it to its session: the Welcome behind the session's opening, or the message of its stream with this number
+-- the entries send it to its session: the Welcome of the session's opening, or the message of its stream with this
+-- number
 abbrev pub IsInTranscript : List Entry → Down → Type 0
 IsInTranscript es (Welcome s z ops) = (before : List Entry) × (later : List Entry) × (es ≡ before ++ entry.Open s ∷ later) × (Welcome s z ops ≡ welcome s (before ++ entry.Open s ∷ []))
 IsInTranscript es (Reply s r z q n done out) = item_at (stream s es) r ≡ Some (Reply s r z q n done out)

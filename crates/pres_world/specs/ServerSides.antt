@@ -114,7 +114,7 @@ abbrev pub lost : List SessionId → ServerSideState → ℕ → Ending → Serv
 lost [] w now e = w
 lost (s ∷ more) w now e = served w (input.Lost s) now e
 
--- a session of the client ends, and the batch of that stands behind those before
+-- a session of the client ends, and its batch is appended to those before
 abbrev pub IsEndOf : ServerState → ClientId → ℕ → ServerState → Log → Log → Type 0
 IsEndOf s c now t old new = (es : List Entry) × (turn s (input.Restart c) now ≡ makes es) × (t ≡ state_after s (moment_of s.log now) es) × (new ≡ old ++ batch_of s.log (moment_of s.log now) es ∷ [])
 

@@ -24,7 +24,7 @@ use Rattle.pres_world.specs.declared.fault.WorldFault.TheVariants as fault
 use Rattle.pres_world.specs.WorldClients.{handed_out, acknowledged, started_again}
 use Rattle.pres_world.specs.ServerSides.{ServerSideState, served, lost, open_on, IsRestarted}
 
--- the clients behind their ids, in byte order
+-- the clients with their ids, in byte order
 abbrev pub Clients : Type 0
 Clients = List (ClientId × Client)
 
@@ -58,7 +58,7 @@ pub record IsCall (w : World) (id : ClientId) (k : Call) (v : World) : Type 0 wh
   pub accepted : refusal client k ≡ None
   pub after : v ≡ becomes w id (after_call client k)
 
--- the packet comes to the client that it is for
+-- the packet arrives at the client that it is for
 pub record IsDelivery (w : World) (packet : ℕ) (v : World) : Type 0 where
   pub message : Down
   pub session : SessionId
@@ -74,7 +74,7 @@ pub record IsStart (w : World) (id : ClientId) (v : World) : Type 0 where
   pub there : IsClient w id client
   pub after : v ≡ record w { clients = put client_cmp id (started_again id client) w.clients }
 
--- the packet comes to the server at the moment
+-- the packet arrives at the server at the moment
 abbrev pub IsArrival : World → ℕ → ℕ → Ending → World → Type 0
 IsArrival w packet now e v = (m : Up) × (item_at w.ups packet ≡ Some m) × (v ≡ record w { serving = served w.serving (input.Up m) now e })
 
@@ -111,14 +111,14 @@ abbrev pub Refuses : World → Event → ClientFault → Type 0
 Refuses w (event.Call id k) f = (c : Client) × IsClient w id c × (refusal c k ≡ Some f)
 Refuses w _ f = ⊥
 
--- the server stops with its turn, as where it is stopped behind the commit
+-- the server stops with its turn, as where it is stopped after the commit
 abbrev pub IsStop : World → Event → World → Type 0
 IsStop w (event.Up packet now e) v = IsArrival w packet now ending.Stopped v
 IsStop w (event.Loss id now) v = IsLoss w id now ending.Stopped v
 IsStop w (event.Tick now) v = v ≡ record w { serving = served w.serving input.Tick now ending.Stopped }
 IsStop w _ v = ⊥
 
--- A refused event changes nothing, but where memory is refused behind the commit: then the server has stopped.
+-- A refused event changes nothing, except where memory is refused after the commit: then the server has stopped.
 abbrev pub IsRefused : World → Event → World → WorldFault → Type 0
 IsRefused w e v fault.Memory = (v ≡ w) ⊎ IsStop w e v
 IsRefused w e v fault.NoSuch = (v ≡ w) × Lacks w e

@@ -8,7 +8,7 @@ use pres_server::{ClientId, Moment};
 pub enum Ending {
     /// It is committed, and its answers go out.
     Answered,
-    /// The server stops behind the commit: its answers are lost.
+    /// The server stops after the commit: its answers are lost.
     Stopped,
     /// The commit is refused: the server is as before, and answers that it is busy.
     Refused,
@@ -23,13 +23,13 @@ pub enum Event {
         client: ClientId,
         call: Call,
     },
-    /// The packet comes to the server.
+    /// The packet arrives at the server.
     Up {
         packet: usize,
         now: Moment,
         ending: Ending,
     },
-    /// The packet comes to the client that it is for.
+    /// The packet arrives at the client that it is for.
     Down {
         packet: usize,
     },

@@ -64,7 +64,7 @@ impl Member {
         self.client.take_notices()
     }
 
-    /// Makes the call. What it has to send goes behind the packets.
+    /// Makes the call. What it has to send is appended to the packets.
     pub(crate) fn make(&mut self, call: Call, ups: &mut Vec<Up>) -> Result<(), WorldFault>
         ensures ok { OnOk result ((refusal self.old call ≡ None)
             × (self.new ≡ handed_out (after_call self.old call))
@@ -93,8 +93,8 @@ impl Member {
         Ok(acks)
     }
 
-    /// The message comes. What the client has to send goes behind the packets, and the message
-    /// behind those that were taken, where it is.
+    /// The message arrives. What the client has to send is appended to the packets, and the message
+    /// to those that were taken, where it is.
     pub(crate) fn receive(
         &mut self,
         alloc: Global,

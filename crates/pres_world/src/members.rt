@@ -85,7 +85,7 @@ impl Members {
         member.take_notices()
     }
 
-    /// The client makes the call. What it has to send goes behind the packets.
+    /// The client makes the call. What it has to send is appended to the packets.
     pub(crate) fn make(
         &mut self,
         id: &ClientId,
@@ -109,8 +109,8 @@ impl Members {
         member.make(call, ups)
     }
 
-    /// The message comes to the client. What it has to send goes behind the packets, and the
-    /// message behind those that were taken, where it is.
+    /// The message arrives at the client. What it has to send is appended to the packets, and the
+    /// message to those that were taken, where it is.
     pub(crate) fn receive(
         &mut self,
         id: &ClientId,

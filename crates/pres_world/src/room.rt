@@ -3,7 +3,7 @@
 ghost use Rattle.std.specs.Prelude.{◌≡◌, ◌-◌, ◌≤◌, ◌++◌, length};
 ghost use Rattle.std.specs.Vec.{vec_capacity, vec_len};
 
-// The items go behind those of the list, in room that was made for them.
+// Appends the items to the list, in room that was made for them.
 pub(crate) fn put_out<T: Drop>(list: &mut Vec<T>, mut more: Vec<T>)
     requires { length more.items ≤ vec_capacity list.old - vec_len list.old }
     ensures { list.new.items ≡ list.old.items ++ more.items }

@@ -75,7 +75,7 @@ fn first_open(alloc: Global, server: &Server) -> Result<Option<ClientId>, AllocE
     }
 }
 
-// The client's open session ends, with its batch behind those that ended before.
+// The client's open session ends, with its batch after those that ended before.
 fn end_one(
     alloc: Global,
     server: Server,
@@ -93,7 +93,7 @@ fn end_one(
     let busy = match server.prepare(Input::Restart(client), now) {
         Ok(Turn::Busy(busy)) => busy,
         Ok(Turn::Quiet(..)) => unreachable!(),
-        // the end of an open session is refused for want of memory alone
+        // the end of an open session is refused for lack of memory alone
         Err((_, server)) => {
             drop(server);
             return Err(WorldFault::Memory);
@@ -112,7 +112,7 @@ fn end_one(
     }
 }
 
-// The batch goes behind the others, unless memory is refused.
+// Appends the batch to the others, unless memory is refused.
 fn keep(alloc: Global, batch: &Batch, batches: &mut Vec<Batch>) -> bool
     ensures kept { result ≡ true → batches.new.items ≡ batches.old.items ++ batch.now ∷ [] }
     ensures stays { result ≡ false → batches.new.items ≡ batches.old.items }
@@ -135,7 +135,7 @@ fn end_all(alloc: Global, server: Server, now: Moment) -> Result<(Server, Vec<Ba
     while let Some(client) = first_open(alloc, &server)? {
         let next = end_one(alloc, server, client, now, &mut ended)?;
         server = next;
-        // it ensures that so many entries are within the limit
+        // it ensures that this many entries are within the limit
         let _ = server.number();
     }
     Ok((server, ended))
@@ -177,7 +177,7 @@ impl ServerSide {
         self.downs.as_slice()
     }
 
-    // The server runs on behind a turn that makes nothing, unless it stops.
+    // The server runs on after a turn that makes nothing, unless it stops.
     fn run_on(&mut self, server: Server, ending: Ending)
         requires waits { self.old.server ≡ None }
         requires sum { server.sum ≡ sum_of self.old.history }

@@ -34,7 +34,7 @@ pub struct World {
     acks: Vec<Down>,
 }
 
-// By hand, so that letting go of a world is one step of a proof, in the crates above too.
+// Written out so that dropping a world is one step of a proof, in the crates above too.
 impl Drop for World {
     fn drop(self) {
         let World {
@@ -145,7 +145,7 @@ impl World {
         self.members.take_notices(id)
     }
 
-    // The packet comes to the server.
+    // The packet arrives at the server.
     fn arrive(&mut self, packet: usize, now: Moment, ending: Ending) -> Result<(), WorldFault>
         ensures ok { OnOk result (IsArrival self.old packet now ending self.new) }
         ensures err { IfErr result (IsRefused self.old (event.Up packet now ending) self.new) }
@@ -157,7 +157,7 @@ impl World {
         self.serving.turn(Input::Up(message), now, ending)
     }
 
-    // The packet comes to the client that it is for.
+    // The packet arrives at the client that it is for.
     fn deliver(&mut self, packet: usize) -> Result<(), WorldFault>
         ensures ok { OnOk result (IsDelivery self.old packet self.new) }
         ensures err { IfErr result (IsRefused self.old (event.Down packet) self.new) }
@@ -206,11 +206,12 @@ impl World {
 
     /// The events, one after the other, up to the first that is refused. Whatever happened to a new
     /// world before, it is safe then: what a client shows of a path at a number is what stood there
-    /// after so many entries, so two clients' values of one path with the same number are equal; each
-    /// write whose reply a client took stands in the history, once, where the reply says, in its
-    /// client's order, and came out as it says; each action for a session's end that was acknowledged
-    /// stands there as it was sent; and each session that ended did so once, by all that was due and
-    /// nothing that was cancelled, before any entry of a later session of its client.
+    /// after that many entries, so two clients' values of one path with the same number are equal;
+    /// each write whose reply a client took stands in the history, once, where the reply says, in
+    /// its client's order, and with the outcome that it says; each action for a session's end that
+    /// was acknowledged stands there as it was sent; and each session that ended did so once, by
+    /// all that was due and nothing that was cancelled, before any entry of a later session of its
+    /// client.
     pub fn run(&mut self, events: Vec<Event>) -> Result<(), WorldFault>
         ensures ok { OnOk result (RunsTo self.old events.items self.new) }
         ensures err { IfErr result (IsCutShort self.old events.items self.new) }

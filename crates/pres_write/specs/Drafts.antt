@@ -1,4 +1,4 @@
--- What a JSON value is to a draft, and what a draft comes to at a moment. An object with the name `.sv` is a
+-- How a JSON value reads as a draft, and the value of a draft at a moment. An object with the name `.sv` is a
 -- placeholder, as in Firebase Realtime Database's server values, or refused.
 use Rattle.std.specs.Prelude.{◌==◌, ◌&&◌, ℕ, Bool, true, false, if◌then◌else◌, codes, pos, Option, Some, None}
 use Rattle.std.specs.Cmp.Lexicographic.{pointwise}
@@ -18,7 +18,7 @@ abbrev pub settled_slot : ℕ → DraftLeaf → Scalar
 settled_slot moment (Fixed s) = s
 settled_slot moment Timestamp = Int (pos moment)
 
--- what a draft comes to
+-- the value of a draft
 abbrev pub settled : ℕ → Rows DraftLeaf → Rows Scalar
 settled moment draft = with_leaves (settled_slot moment) draft
 

@@ -24,7 +24,7 @@ pub struct Basic {
     value: Option<Tree>,
 }
 
-// By hand, so that letting go of a write is one step of a proof, in the crates above too.
+// Written out so that dropping a write is one step of a proof, in the crates above too.
 impl Drop for Basic {
     fn drop(self) {
         let Basic { path: _, value: _ } = self;

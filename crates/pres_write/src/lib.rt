@@ -1,4 +1,4 @@
-//! Operations on the tree: what they ask for, and the writes that they come to.
+//! Operations on the tree: what they ask for, and the writes that they make.
 #![tactic(auto)]
 
 mod as_json;

@@ -28,7 +28,7 @@ impl Model for Moment {
 }
 
 impl Moment {
-    /// The moment of so many milliseconds; more than 2^53 - 1 count as 2^53 - 1.
+    /// The moment of this many milliseconds; more than 2^53 - 1 count as 2^53 - 1.
     pub fn at(millis: u64) -> Moment
         ensures { result ≡ min millis last_moment }
     {

@@ -1,4 +1,4 @@
-//! Operations, in code and in JSON, and what they come to.
+//! Operations, in code and in JSON, and their outcomes.
 
 ghost use Rattle.std.specs.Prelude.{◌≡◌, ◌++◌, [], IfOk, IfErr, OnOk, Ok, Err, MatchResult, codes, string_bytes};
 ghost use Rattle.std.specs.Option.{option_and_then};
@@ -271,7 +271,7 @@ pub fn write_set(alloc: Global, placement: &Placement, out: &mut Writer) -> Resu
 }
 
 impl Op {
-    /// What the operation comes to on the tree at the moment. Memory is the one refusal.
+    /// The outcome of the operation on the tree at the moment. Memory is the one refusal.
     pub fn resolve(&self, alloc: Global, tree: &Tree, moment: Moment) -> Result<Outcome, WriteFault>
         ensures outcome { IfOk result (λ outcome. outcome ≡ resolved tree.now moment self.now) }
         ensures apart { IfOk result (λ outcome. Apart (writes_in outcome)) }

@@ -1,4 +1,4 @@
-//! What operations come to.
+//! Outcomes of operations.
 
 ghost use Rattle.std.specs.Prelude.{◌≡◌, ◌↔◌, [], IsTrue, IfOk};
 ghost use Rattle.pres_tree.specs.Rows.{Fits};
@@ -15,7 +15,7 @@ use crate::moment::Moment;
 use pres_tree::{Path, Tree};
 use std::alloc::{AllocError, Global};
 
-/// What an operation comes to at a moment.
+/// The outcome of an operation at a moment.
 #[derive(Drop)]
 pub enum Outcome {
     /// These writes, of which no path is at or above another's.
@@ -81,7 +81,7 @@ impl Kept {
     }
 }
 
-// What the draft at its path comes to at the moment.
+// The value of the draft at its path at the moment.
 pub(crate) fn one_write(
     alloc: Global,
     path: Path,

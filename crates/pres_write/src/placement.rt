@@ -16,7 +16,7 @@ pub struct Placement {
     draft: Draft,
 }
 
-// By hand, so that letting go of a placement is one step of a proof, in the crates above too.
+// Written out so that dropping a placement is one step of a proof, in the crates above too.
 impl Drop for Placement {
     fn drop(self) {
         let Placement { path: _, draft: _ } = self;

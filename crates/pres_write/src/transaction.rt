@@ -22,7 +22,7 @@ pub struct Transaction {
     new: Draft,
 }
 
-// By hand, so that letting go of a transaction is one step of a proof, in the crates above too.
+// Written out so that dropping a transaction is one step of a proof, in the crates above too.
 impl Drop for Transaction {
     fn drop(self) {
         let Transaction {
@@ -107,7 +107,7 @@ impl Transaction {
         }
     }
 
-    /// What it comes to on the tree at the moment.
+    /// Its outcome on the tree at the moment.
     pub fn compare(&self, alloc: Global, tree: &Tree, moment: Moment) -> Result<Outcome, AllocError>
         ensures outcome { IfOk result (λ outcome. outcome ≡ compared tree.now moment self.now) }
         ensures apart { IfOk result (λ outcome. Apart (writes_in outcome)) }

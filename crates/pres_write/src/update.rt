@@ -38,7 +38,7 @@ pub struct Update {
     places: BTreeMap<Path, Draft>,
 }
 
-// By hand, so that letting go of an update is one step of a proof, in the crates above too.
+// Written out so that dropping an update is one step of a proof, in the crates above too.
 impl Drop for Update {
     fn drop(self) {
         let Update { path: _, places: _ } = self;
@@ -82,7 +82,7 @@ fn meets_any(place: &Path, others: &[(Path, Draft)]) -> bool
     meets_any(place, rest)
 }
 
-// Whether one of the places is at or above another. It takes no memory, so that want of memory
+// Whether one of the places is at or above another. It takes no memory, so that a failed allocation
 // comes after it.
 fn meet_anywhere(places: &[(Path, Draft)]) -> bool
     ensures { result ≡ overlap (keys_of places.now) }

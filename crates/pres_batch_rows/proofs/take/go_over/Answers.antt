@@ -313,7 +313,7 @@ rows-preserved g c =
       },
     )
 
--- ---- so many rows were read as a loop may read
+-- ---- this many rows were read as a loop may read
 
 pub returns-clause-goes : goal.returns-clause-goes
 returns-clause-goes g c clean k awaits =

@@ -1,4 +1,4 @@
--- what was told so far, and the lines of the notices that are still to come, are those of all
+-- what was printed so far, followed by the lines of the notices that remain, is the lines of all notices
 use Rattle.std.proofs.Common.{◌≡◌, ◌++◌}
 use Rattle.std.specs.Io.KnownBytes.{Appends}
 use Rattle.pres_script.specs.NoticeTexts.{Text, notice_lines}

@@ -1,4 +1,4 @@
--- what is left is told, and where it is put all was put as it should
+-- what is left is sent, and where it is put all was put as it should
 use Rattle.std.proofs.Common.{◌≤◌, Option}
 use Rattle.pres_ids.specs.declared.id.SessionId.{SessionId}
 use Rattle.pres_ring.specs.Lines.{SessionLine, line_at, unmarked}
