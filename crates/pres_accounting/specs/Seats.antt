@@ -1,4 +1,4 @@
--- What contracts see of seats, and of what was counted.
+-- What contracts see of seats and of the counts.
 use Rattle.std.specs.Prelude.{◌≡◌, ◌+◌, ◌≤◌, ◌^◌, ℕ, Option}
 use Rattle.pres_ids.specs.declared.id.SessionId.{SessionId}
 use Rattle.pres_faults.specs.declared.hub_fault.HubFault.{HubFault}
@@ -17,7 +17,7 @@ pub record PartingState : Type 0 where
   pub made : ℕ
   pub fault : Option HubFault
 
--- a ledger of 2^53 parts, of which each seat has one; nothing was made but by seats
+-- a ledger of 2^53 parts, of which each seat has one; only seats add to it
 pub record IsTally (all : ℕ) (parts : ℕ) (amount : ℕ) (t : Counts) : Type 0 where
   pub whole : all ≡ 2 ^ 53
   pub rest : parts + t.seats ≡ all

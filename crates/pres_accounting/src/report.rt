@@ -1,4 +1,4 @@
-//! What a run came to.
+//! The report of a run.
 
 ghost use Rattle.std.specs.Prelude.{◌≡◌, ◌+◌, ◌↔◌, ◌^◌, IfSome, IsSome};
 ghost use Rattle.pres_accounting.specs.Seats.{IsReport};
@@ -8,9 +8,9 @@ use crate::tally::Counts;
 use std::marker::Model;
 use std::sync::ledger::{Ledger, Share, Total};
 
-/// What a run came to: the server's last number, how many messages were accepted since the start
+/// The report of a run: the server's last number, how many messages were accepted since the start
 /// (each Hello too), how many seats are still out, and the keeper. Contracts see these, how many
-/// seats were made and gathered, and the sum of what the gathered ones made.
+/// seats were made and gathered, and the sum of the gathered seats' messages.
 pub struct Report<L: Ledger, K> {
     number: u64,
     accepted: u64,
@@ -69,7 +69,7 @@ impl<L: Ledger, K: Drop> Drop for Report<L, K> {
 }
 
 impl<L: Ledger, K> Report<L, K> {
-    // A run that came to this. Nothing is gathered yet.
+    // The report of a run with these numbers. Nothing is gathered yet.
     pub(crate) fn of(
         tallied: Counts,
         number: u64,
@@ -132,7 +132,7 @@ impl<L: Ledger, K> Report<L, K> {
         self.seats_out
     }
 
-    /// Adds what the seat made.
+    /// Adds the seat's messages.
     pub fn gather(&mut self, parting: Parting<L>)
         ensures { self.new ≡ record self.old {
           gathered = self.old.gathered + 1;
@@ -150,7 +150,8 @@ impl<L: Ledger, K> Report<L, K> {
         self.sum += made;
     }
 
-    /// What all seats made, where as many were gathered as were made: it is what was accepted.
+    /// The messages of all seats, if as many were gathered as were made: this equals the number of
+    /// accepted messages.
     pub fn total(&self) -> Option<u64>
         ensures gathered { IsSome result ↔ (self.now.gathered ≡ self.now.seats) }
         ensures sum { IfSome result (λ n. n ≡ self.now.sum) }

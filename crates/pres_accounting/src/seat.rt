@@ -30,14 +30,14 @@ impl<L: Ledger> Model for Seat<L> {
 }
 
 impl<L: Ledger> Seat<L> {
-    /// Whose it is.
+    /// Its session.
     pub fn session(&self) -> &SessionId
         ensures { result.now ≡ self.now.session }
     {
         &self.session
     }
 
-    /// The number that the seat's last message had, 0 where there was none.
+    /// The number of the seat's last message, 0 if there was none.
     pub fn q(&self) -> Count
         ensures { result ≡ self.now.q }
     {
@@ -81,7 +81,7 @@ impl<L: Ledger> Model for Parting<L> {
 }
 
 impl<L: Ledger> Parting<L> {
-    // What the seat leaves.
+    // What remains of the seat.
     pub(crate) fn of(seat: Seat<L>, fault: Option<HubFault>) -> Parting<L>
         ensures { result ≡ record { made = seat.made; fault = fault } }
     {
@@ -102,7 +102,7 @@ impl<L: Ledger> Parting<L> {
         self.made
     }
 
-    /// Why its end was refused, where it was.
+    /// Why its session's end was refused, if it was.
     pub fn fault(&self) -> Option<&HubFault>
         ensures { option_copied result ≡ self.now.fault }
     {

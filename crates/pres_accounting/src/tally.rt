@@ -17,8 +17,8 @@ pub struct Counts {
     pub out: u64,
 }
 
-/// How many messages were accepted, as the sum of what the seats made. Contracts see that number,
-/// how many seats were made, and how many of them are out.
+/// How many messages were accepted, as the sum over the seats. Contracts see that number, how many
+/// seats were made, and how many of them are out.
 #[derive(Drop)]
 pub struct Tally<L: Ledger> {
     book: Book<L>,
@@ -40,7 +40,7 @@ impl<L: Ledger> Model for Tally<L> {
 }
 
 impl<L: Ledger> Tally<L> {
-    /// Nothing was accepted, and no seat made.
+    /// No message was accepted, and no seat made.
     pub fn open(blank: Blank) -> Tally<L>
         requires name { blank.name ≡ L.name }
         requires parts { blank.parts ≡ L.parts }
@@ -105,7 +105,7 @@ impl<L: Ledger> Tally<L> {
         self.counts
     }
 
-    /// Takes the seat back, whose end was refused where there is a fault.
+    /// Takes the seat back, with a fault if its session's end was refused.
     pub fn take(&mut self, seat: Seat<L>, fault: Option<HubFault>) -> Parting<L>
         ensures parting { result ≡ record { made = seat.made; fault = fault } }
         ensures tally { self.new ≡ record self.old { out = self.old.out - 1 } }
@@ -114,7 +114,7 @@ impl<L: Ledger> Tally<L> {
         Parting::of(seat, fault)
     }
 
-    /// Nothing more is accepted. What the seats made is still to be gathered.
+    /// Nothing more is accepted. The seats' messages are still to be gathered.
     pub fn close<K>(self, number: u64, keeper: K) -> Report<L, K>
         ensures { result ≡ record {
           number = number;

@@ -19,7 +19,7 @@ name_of NotJson = codes "NotJson"
 name_of NoMoment = codes "NoMoment"
 name_of TooLong = codes "TooLong"
 
--- why a run may end where n is the greatest number so far: no memory, or no number
+-- why a run may end when n is the greatest number so far: no memory, or no number
 abbrev pub EndsAt : ℕ → RunFault → Type 0
 EndsAt n run.Memory = Unit {0}
 EndsAt n run.Spent = last_number ≤ n

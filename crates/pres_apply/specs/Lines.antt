@@ -61,7 +61,7 @@ pub record Stopped (input rest before after : Option (List ℕ)) : Type 0 where
 
 -- ---- inside a run
 
--- what is kept of a line that has come so far: all of it, or that it is too long
+-- what is kept of an unfinished line: all of it, or that it is too long
 abbrev pub KeepsLine : List ℕ → List ℕ → Bool → Type 0
 KeepsLine line bytes cut = (cut ≡ nat_lt longest_text (length line)) × (cut ≡ false → bytes ≡ line)
 

@@ -47,7 +47,7 @@ refuse s e = (refused_line e, after_refusal s)
 abbrev pub value_text : Rows Scalar → List ℕ
 value_text tree = compact_text (json_of scalar_printing tree)
 
--- what an operation came to: it wrote, or it was stale with the value that the place held
+-- the outcome of an operation: it wrote, or it was stale with the value that the place held
 abbrev pub kept_line : ℕ → Kept → List ℕ
 kept_line n Wrote = decimal n ++ codes " wrote\n"
 kept_line n (Stale held) = decimal n ++ codes " stale " ++ value_text (rows_in held) ++ codes "\n"

@@ -9,14 +9,14 @@ use crate::feeder::Feeder;
 use std::alloc::{AllocError, Global};
 use std::io::{Read, Write};
 
-// The reads that the end of the input has to come within.
+// How many reads may pass before the end of the input.
 const MOST_READS: u64 = 4294967295;
 
 // The bytes that one read may bring.
 const ROOM: usize = 65536;
 
-/// Answers each line of the input with a line, and writes the tree at its end. Replies are
-/// written before each further read, and where memory is refused before the run ends. Says whether
+/// Answers each line of the input with a line, and writes the tree at its end. Replies are written
+/// before each further read, and also before a run ends because memory is refused. Returns whether
 /// a line was refused.
 pub fn apply_run<R: Read, W: Write>(
     alloc: Global,
@@ -64,7 +64,7 @@ fn zeros(alloc: Global, count: usize) -> Result<Vec<u8>, AllocError>
     vec![in alloc; 0u8; count]
 }
 
-// Writes all of it, and hands it on where the writer keeps a buffer.
+// Writes all of it, and flushes the writer.
 fn put<W: Write>(output: &mut W, bytes: &[u8]) -> Result<(), RunFault>
     ensures ok { OnOk result
         (Appends (W.contents output.old) (W.contents output.new) bytes.now) }

@@ -1,4 +1,4 @@
-//! Lines out of pieces of any size.
+//! Splits pieces of any size into lines.
 
 ghost use Rattle.std.specs.Prelude.{◌≡◌, ◌++◌, ◌∷◌, [], List, ℕ, OnOk, OnErr, IfErr, MatchOption, length, ◌+◌, ◌≤◌};
 ghost use Rattle.pres_apply.specs.Replies.{start, reply, next, tree_line};
@@ -11,7 +11,7 @@ use crate::pending::PendingLine;
 use memchr::memchr;
 use std::alloc::Global;
 
-/// What the lines so far have made, and the line that has come so far.
+/// The state after the lines so far, and the unfinished line.
 #[derive(Drop)]
 pub(crate) struct Feeder {
     applier: Applier,

@@ -1,4 +1,4 @@
-//! The line that has come so far.
+//! The unfinished line.
 
 ghost use Rattle.std.specs.Prelude.{◌≡◌, ◌≤◌, ◌++◌, List, ℕ, [], OnOk, vec_len, false};
 ghost use Rattle.pres_wire.specs.UpForms.{longest_text};
@@ -7,8 +7,8 @@ ghost use Rattle.pres_apply.specs.Lines.{KeepsLine};
 use pres_wire::MAX_TEXT_BYTES;
 use std::alloc::{AllocError, Global};
 
-/// The line that has come so far, or that it is too long, as no message may be. Of one that is too
-/// long nothing is kept.
+/// The unfinished line, or that it is longer than a message may be. Nothing is kept of a line that
+/// is too long.
 #[derive(Drop)]
 pub(crate) struct PendingLine {
     bytes: Vec<u8>,
@@ -17,7 +17,7 @@ pub(crate) struct PendingLine {
 }
 
 impl PendingLine {
-    /// A line of which nothing has come.
+    /// An empty line.
     pub(crate) fn new(alloc: Global) -> PendingLine
         ensures { KeepsLine [] result.bytes.items result.cut }
     {
@@ -51,7 +51,7 @@ impl PendingLine {
         self.cut
     }
 
-    /// The line, where it isn't too long.
+    /// The line, unless it is too long.
     pub(crate) fn bytes(&self) -> &[u8]
         ensures { result.now ≡ self.now.bytes.items }
     {

@@ -27,11 +27,11 @@ last_in client clients = find client_cmp client (map (λ c. (c.id, c.last)) clie
 
 -- what holds of an open session, after this many entries
 pub record IsOpenPart (number : ℕ) (s : SessionPart) : Type 0 where
-  -- the places stand in path order, each once
+  -- the places are in path order, each once
   pub listens : IsStrictlySortedBy path_cmp s.listens
   pub few_listens : length s.listens ≤ most_paths
-  -- the rows are few, in the order of their messages and paths; none is at the path of a later one or below it, and above
-  -- each that keeps its place one puts a draft
+  -- the rows are few, in the order of their messages and paths; none is at the path of a later one or below it, and for
+  -- each that keeps its place a put writes a draft above it
   pub plan : IsPlan s.plan
   -- each was asked for by a message of the session
   pub asked : All (λ row. row.q ≤ s.q) s.plan
@@ -40,7 +40,7 @@ pub record IsOpenPart (number : ℕ) (s : SessionPart) : Type 0 where
   -- an entry sends it a Push and an answer at the most
   pub r : s.r ≤ 2 * number
 
--- the most sessions that are open
+-- the most sessions that may be open
 abbrev pub most_sessions : ℕ
 most_sessions = 1024
 

@@ -1,4 +1,4 @@
--- Rows that stand for themselves.
+-- Rows that no later row covers.
 use Rattle.std.specs.Prelude.{◌&&◌, Bool, true, List, [], ◌∷◌}
 use Rattle.pres_plan.specs.declared.row.PlanRow.{PlanRow}
 use Rattle.pres_plan.specs.Plans.{is_left}

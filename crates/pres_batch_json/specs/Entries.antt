@@ -34,7 +34,7 @@ write_json w = row_json w.path (json_of scalar_printing (rows_in w.value))
 abbrev pub put_json : Path × Rows DraftLeaf → Data
 put_json p = row_json p.0 (json_of slot_printing p.1)
 
--- what an operation came to: its writes, or the value that its place held, null for none
+-- the outcome of an operation: its writes, or the value that its place held, null for none
 abbrev pub outcome_json : Outcome → Data
 outcome_json (Wrote writes) = object (member (codes "wrote") (list_json write_json writes) no_members)
 outcome_json (Stale held) = object (member (codes "stale") (json_of scalar_printing (rows_in held)) no_members)

@@ -1,4 +1,4 @@
--- The entries of a batch from JSON. Names that an entry has not are ignored.
+-- The entries of a batch from JSON. Unknown names are ignored.
 use Rattle.std.specs.Prelude.{◌≡◌, ℕ, List, [], ◌∷◌, if◌then◌else◌, codes, Option, Some, None, is_none, option_and_then, option_map, ⊤}
 use Rattle.std.specs.Result.{result_ok}
 use Rattle.serde_json.specs.Data.{Data, Items, no_items, item}
@@ -64,7 +64,7 @@ puts_in d = option_and_then as_puts (list_of put_in d)
 abbrev pub op_in : Data → Option Op
 op_in d = result_ok (op_read d)
 
--- the writes under `wrote`, or where that is missing the value that a place held under `stale`; null is none
+-- the writes under `wrote`, or without that the value that a place held under `stale`; null is none
 abbrev pub outcome_by : Option Data → Data → Option Outcome
 outcome_by (Some writes) d = option_map Wrote (list_of write_in writes)
 outcome_by None d = option_map (λ v. Stale (option_of v)) (field_of value_of (codes "stale") d)
@@ -96,7 +96,7 @@ path_field d = field_of path_of (codes "path") d
 abbrev pub open_read : Data → Option Entry
 open_read d = given (session_field d) (λ s. Some (entry.Open s))
 
--- an operation, and what it came to
+-- an operation, and its outcome
 abbrev pub done_in : Data → Option (Op × Outcome)
 done_in d = given (field_of op_in (codes "op") d) (λ op. given (field_of outcome_in (codes "out") d) (λ out. Some (op, out)))
 

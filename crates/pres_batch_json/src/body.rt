@@ -38,7 +38,7 @@ impl BatchJson for Entry {
     }
 }
 
-// The text of one set that came to one write; none of other entries.
+// The text of a batch of one set that made one write; none for other entries.
 fn set_of(alloc: Global, entries: &[Entry]) -> Option<Result<String, AllocError>>
     ensures text { IfSome result (λ r. IfOk r (λ t.
         string_bytes t ≡ compact_text (entries_json entries.now))) }
@@ -65,8 +65,8 @@ fn set_of(alloc: Global, entries: &[Entry]) -> Option<Result<String, AllocError>
     Some(set_text(alloc, session, *q, *n, placement, write))
 }
 
-/// The text of the entries. Those of a batch are read again from it, a null that was held as
-/// none: so no text is that of two batches.
+/// The text of the entries. Reading it gives the entries of a batch back, with a held null as none:
+/// so no two batches have the same text.
 pub fn print_entries(alloc: Global, entries: &[Entry]) -> Result<String, AllocError>
     ensures text { IfOk result (λ t. string_bytes t ≡ compact_text (entries_json entries.now)) }
     ensures reads_back { IfOk result (λ t. IsTrue (may_hold entries.now)
@@ -96,9 +96,9 @@ fn read_value(alloc: Global, value: &Value) -> Result<Option<Items<Entry>>, Allo
     }
 }
 
-/// The entries of a text, which a batch may hold; none where it is the text of no such entries:
-/// no JSON list of one entry, or of an end and an opening, or of an entry a field is missing or
-/// wrong. Names that an entry has not are ignored.
+/// The entries of a text, which a batch may hold; none if it is the text of no such entries: no
+/// JSON list of one entry, or of an end and an opening, or an entry lacks a field or has a wrong
+/// one. Unknown names are ignored.
 pub fn read_entries(alloc: Global, text: &str) -> Result<Option<Items<Entry>>, AllocError>
     ensures found { IfOk result (λ found. found ≡ entries_in text.now) }
     ensures together { IfOk result (λ found. IfSome found (λ es. IsTrue (may_hold es))) }

@@ -41,7 +41,7 @@ pub(crate) fn number_or_null_field(entry: &Value) -> Option<Option<Number>>
     read_number(entry.get("q")?)
 }
 
-// Why a session ended.
+// The write's outcome under its field.
 pub(crate) fn why_field(entry: &Value) -> Option<Why>
     ensures { result ≡ field_of why_in (codes "why") (view entry.now) }
 {
@@ -75,7 +75,7 @@ pub(crate) fn op_field(alloc: Global, entry: &Value) -> Result<Option<Op>, Alloc
     }
 }
 
-// What the operation of an entry came to.
+// The outcome of an entry's operation.
 pub(crate) fn out_field(alloc: Global, entry: &Value) -> Result<Option<Outcome>, AllocError>
     ensures { IfOk result (λ found. found ≡ field_of outcome_in (codes "out") (view entry.now)) }
 {

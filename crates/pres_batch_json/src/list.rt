@@ -1,4 +1,4 @@
-//! Lists of what a body holds.
+//! Lists in the text of a batch.
 
 ghost use Rattle.std.specs.Prelude.{◌≡◌, ◌≤◌, ◌+◌, IfOk, Some, map};
 ghost use Rattle.serde_json.specs.Data.{depth};
@@ -11,7 +11,7 @@ use pres_write::Items;
 use serde_json::Value;
 use std::alloc::{AllocError, Global};
 
-// What stands in a list of a body: it is printed, and read again.
+// An item of such a list: it is printed, and read again.
 pub(crate) trait BatchJson: Drop {
     ghost use Rattle.std.specs.Prelude.{◌≡◌, ◌≤◌, ℕ, Option, Some, IfOk};
     ghost use Rattle.serde_json.specs.Data.{Data, depth};

@@ -1,4 +1,4 @@
-//! Parts of entries: rows, what operations came to, puts.
+//! Parts of entries: rows, outcomes of operations, puts.
 
 ghost use Rattle.std.specs.Prelude.{◌≡◌, ◌≤◌, ◌++◌, IfOk, OnOk, IfSome, Some, None};
 ghost use Rattle.serde_json.specs.Data.{depth};
@@ -172,7 +172,7 @@ pub(crate) fn read_puts(alloc: Global, value: &Value) -> Result<Option<Puts>, Al
     }
 }
 
-// The JSON value of what an operation came to, which is read again, a null as none.
+// The JSON value of an operation's outcome, which is read again, a null as none.
 pub(crate) fn outcome_value(alloc: Global, outcome: &Outcome) -> Result<Value, AllocError>
     ensures json { IfOk result (λ made. view made ≡ outcome_json outcome.now) }
     ensures reads_back { IfOk result (λ _.
@@ -191,7 +191,7 @@ pub(crate) fn outcome_value(alloc: Global, outcome: &Outcome) -> Result<Value, A
     }
 }
 
-// What an operation came to where it is stale.
+// The outcome of a stale operation.
 fn read_stale(alloc: Global, value: &Value) -> Result<Option<Outcome>, AllocError>
     ensures { IfOk result (λ found. found ≡ outcome_by None (view value.now)) }
 {
@@ -204,7 +204,7 @@ fn read_stale(alloc: Global, value: &Value) -> Result<Option<Outcome>, AllocErro
     }
 }
 
-// What an operation came to, none where the JSON value isn't that of any.
+// The outcome of an operation, none if the JSON value is none.
 pub(crate) fn read_outcome(alloc: Global, value: &Value) -> Result<Option<Outcome>, AllocError>
     ensures { IfOk result (λ found. found ≡ outcome_in (view value.now)) }
 {

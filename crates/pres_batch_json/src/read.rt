@@ -45,7 +45,7 @@ fn read_open(alloc: Global, entry: &Value) -> Result<Option<Entry>, AllocError>
     }
 }
 
-// The operation of an entry, and what it came to.
+// The operation of an entry, and its outcome.
 fn operation(alloc: Global, entry: &Value) -> Result<Option<(Op, Outcome)>, AllocError>
     ensures { IfOk result (λ found. found ≡ done_in (view entry.now)) }
 {

@@ -53,7 +53,7 @@ fn write_list(alloc: Global, out: &mut Writer, write: &Basic) -> Result<(), Allo
     out.end_array()
 }
 
-// Writes what the operation came to under its name.
+// Writes the operation's outcome under its name.
 fn out_field(alloc: Global, out: &mut Writer, write: &Basic) -> Result<(), AllocError>
     ensures ok { OnOk result (out.new.tokens ≡ out.old.tokens
         ++ key (codes "out") ∷ tokens_of (outcome_json (outcome.Wrote (write.now ∷ [])))) }
@@ -113,7 +113,7 @@ fn set_tail(out: &mut Writer, session: &SessionId, q: Number) -> Result<(), Allo
     session_field(out, session)
 }
 
-/// The text of a batch of one set that came to one write.
+/// The text of a batch of one set that made one write.
 pub(crate) fn set_text(
     alloc: Global,
     session: &SessionId,

@@ -13,7 +13,7 @@ use Rattle.pres_batch_rows.specs.TableStates.{IsSame}
 abbrev pub format_text : List ℕ
 format_text = codes "SELECT value FROM meta WHERE name = 'format'"
 
--- A statement that isn't understood, and one without an answer, are asked of another's database.
+-- A statement that fails to parse, or one without an answer, means that the database is another program's.
 abbrev pub format_fault : Error → SavedFault
 format_fault (SqlInputError e) = NotOurs
 format_fault QueryReturnedNoRows = NotOurs

@@ -16,7 +16,7 @@ use pres_faults::SavedFault;
 use sqlite::types::ValueRef;
 use sqlite::{Alter, Connection, Error, Row};
 
-// The refusal that a fault in reading the format is.
+// The refusal for a fault in reading the format.
 fn format_fault(error: Error) -> SavedFault
     ensures { result ≡ format_fault error }
 {
@@ -26,7 +26,7 @@ fn format_fault(error: Error) -> SavedFault
     }
 }
 
-// Asks for the format, which has to be 1.
+// Reads the format, which must be 1.
 fn check_format<S: Alter>(connection: &mut Connection<S>) -> Result<(), SavedFault>
     ensures ok { HasCleanDisk (state S.Store connection.new)
         → OnOk result (HasFormat (state S.Store connection.old) (state S.Store connection.new)) }
@@ -110,7 +110,7 @@ fn last_number<S: Alter>(connection: &mut Connection<S>) -> Result<u64, SavedFau
     Err(SavedFault::Database)
 }
 
-// Asks for the format and for the number of the last row.
+// Reads the format and the number of the last row.
 pub(crate) fn find<S: Alter>(connection: &mut Connection<S>) -> Result<u64, SavedFault>
     ensures format { HasCleanDisk (state S.Store connection.new)
         → OnOk result ((mid : _)

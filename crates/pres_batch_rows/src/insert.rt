@@ -44,7 +44,7 @@ pub(crate) fn insert<S: Alter>(
     let _alone = connection.is_autocommit();
     let text = body.as_bytes();
     let millis = moment.millis();
-    // It is refused where the store is shut, and then nothing is written.
+    // If the store is shut it is refused, and nothing is written.
     let statement = connection.prepare("INSERT INTO batch(k, moment, body) VALUES(?1, ?2, ?3)")?;
     statement.execute(
         connection,

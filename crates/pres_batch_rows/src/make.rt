@@ -45,7 +45,7 @@ pub(crate) fn make<S: Alter>(connection: &mut Connection<S>) -> Result<(), Error
     tx.commit()
 }
 
-// The refusal that a fault in making the tables is.
+// The refusal for a fault in making the tables.
 pub(crate) fn making_fault(error: Error) -> SavedFault
     ensures { result ≡ making_fault error }
 {

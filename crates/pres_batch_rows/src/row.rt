@@ -13,7 +13,7 @@ use sqlite::Row;
 use sqlite::types::ValueRef;
 use std::alloc::Global;
 
-/// What is saved at a time: a moment and a text.
+/// A row's contents: a moment and a text.
 #[derive(Debug, Drop)]
 pub struct SavedRow {
     pub moment: Moment,

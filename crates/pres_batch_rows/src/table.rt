@@ -88,9 +88,9 @@ impl<S: Alter + Drop> BatchTable<S> {
         }
     }
 
-    /// Finds the tables that `create` made. NotOurs where the statement that asks for the format
-    /// isn't understood or has no answer, Version where it answers another format than 1. Whatever
-    /// the database holds stays as it was, another program's tables too.
+    /// Finds the tables that `create` made. NotOurs if the statement that reads the format fails to
+    /// parse or has no answer, Version if the format is not 1. The database stays as it was,
+    /// whatever it holds, another program's tables too.
     pub fn open(connection: Connection<S>) -> Result<BatchTable<S>, (SavedFault, Connection<S>)>
         requires { connection.in_transaction ≡ false }
         ensures format { IfOk result (λ t. HasCleanDisk (state S.Store t.connection)
@@ -170,8 +170,8 @@ impl<S: Alter + Drop> BatchTable<S> {
     }
 
     /// Gives each row to the taker, in the order of their numbers, one at a time. It ends at the
-    /// first row that is none (`BadRow` with the number that was due), or that is refused. Whatever
-    /// the store gave, some rows were taken in turn.
+    /// first bad row (`BadRow` with the number that was due), or at the first that is refused.
+    /// Whatever the store returned, some rows were taken in turn.
     pub fn each<T: Take>(&mut self, alloc: Global, taker: &mut T) -> Result<(), SavedFault>
         ensures goes { HasCleanDisk (state S.Store self.new.connection) → Serves S.Store self.old
             → GoesOver T.takes T.refuses (shown_rows (state S.Store self.old.connection))
@@ -197,7 +197,7 @@ impl<S: Alter + Drop> BatchTable<S> {
     }
 
     /// All rows in the order of their numbers, or `BadRow` with the number that was due at the
-    /// first row that is none.
+    /// first bad row.
     pub fn load(&mut self, alloc: Global) -> Result<Vec<SavedRow>, SavedFault>
         ensures ok { HasCleanDisk (state S.Store self.new.connection) → Serves S.Store self.old
             → IfOk result (λ rows. saved_rows (shown_rows (state S.Store self.old.connection))

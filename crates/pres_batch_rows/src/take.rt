@@ -16,12 +16,12 @@ use std::alloc::Global;
 
 /// What takes saved rows in their order, one at a time.
 pub trait Take {
-    // What taking a row makes of it, and what refusing one does.
+    // What taking a row does, and what refusing one does.
     ghost takes: { Self → RowContent → Self → Type 0 };
 
     ghost refuses: { Self → RowContent → Fault → Self → Type 0 };
 
-    /// Takes the next row. A refusal ends the going over.
+    /// Takes the next row. A refusal ends the iteration.
     fn take(&mut self, row: SavedRow) -> Result<(), SavedFault>
         ensures taken { OnOk result (takes self.old (saved_of row) self.new) }
         ensures refused { IfErr result (λ e. refuses self.old (saved_of row) e self.new) };

@@ -1,4 +1,4 @@
--- What each call makes of a client, and why it is refused.
+-- What each call does to a client, and why it is refused.
 use Rattle.std.specs.Prelude.{◌≡◌, ◌≤◌, ◌+◌, ◌&&◌, ◌||◌, ℕ, Bool, not, List, [], ◌∷◌, ◌++◌, length, filter, Option, Some, None, if◌then◌else◌, nat_le, option_map, unwrap_or}
 use Rattle.std.specs.Option.{is_some}
 use Rattle.pres_tree.specs.declared.fault.TreeFault.TheVariants.{TooDeep}
@@ -38,7 +38,7 @@ use Rattle.pres_client.specs.Clients.{ClientState, is_online, is_opening, sessio
 
 -- ---- steps that calls share
 
--- a new message as it goes out at once, where the client is Online
+-- a new message as it goes out at once, if the client is Online
 abbrev pub sent_now : ClientState → Queued → List Up
 sent_now c m = if is_online c.phase then message c.session (c.heard + length c.queue + 1) (base_of c + c.made + 1) m ∷ [] else []
 
@@ -56,7 +56,7 @@ with_request c = record c { requests = c.requests + 1 }
 abbrev pub note : ClientState → Notice → ClientState
 note c n = record c { notices = c.notices ++ n ∷ [] }
 
--- the session is left: its writes without an answer stay, and what it showed
+-- the session is left: its unanswered writes stay, and what it showed
 abbrev pub closed : ClientState → ClientState
 closed c = record c { phase = phase.Off; heard = 0; taken = 0; queue = filter is_write c.queue; watches = frozen c.seen c.watches }
 

@@ -1,4 +1,4 @@
--- A client as plain data: what it waits for, what it shows, and what it has to hand out.
+-- A client as plain data: what it waits for, what it shows, and what its caller has not taken yet.
 use Rattle.std.specs.Prelude.{◌≡◌, ◌+◌, ◌≤◌, ℕ, Bool, true, false, List, [], length, max, Option, Some, None, if◌then◌else◌, unwrap_or, nat_le}
 use Rattle.pres_tree.specs.declared.scalar.Scalar.{Scalar}
 use Rattle.pres_tree.specs.Paths.{Path}
@@ -16,7 +16,7 @@ use Rattle.pres_client_state.specs.declared.queued.Queued.{Queued}
 use Rattle.pres_client_state.specs.declared.notice.Notice.{Notice}
 
 pub record ClientState : Type 0 where
-  -- the session of the last Hello, and before the first one that of the first
+  -- the session of the last Hello; before the first one, the session that it will ask for
   pub session : SessionId
   -- how many sessions were asked for
   pub attempts : ℕ
@@ -117,7 +117,7 @@ most_tries = 25
 
 -- ---- how much there is
 
--- how many messages the next call makes at the most
+-- at most how many messages the next call makes
 abbrev pub most_sends : ClientState → ℕ
 most_sends c = if is_online c.phase then max 1 (length c.queue) else (if is_opening c.phase then max 1 (length c.watches + length c.queue) else 1)
 

@@ -1,4 +1,4 @@
--- What a message makes of a client.
+-- What a message does to a client.
 use Rattle.std.specs.Prelude.{◌+◌, ◌&&◌, ◌==◌, ℕ, Bool, true, false, not, List, [], ◌∷◌, ◌++◌, length, drop, map, fold, Option, Some, None, if◌then◌else◌, nat_le, nat_lt, unwrap_or}
 use Rattle.std.specs.List.{filter_map, list_any}
 use Rattle.pres_tree.specs.declared.scalar.Scalar.{Scalar}
@@ -90,9 +90,9 @@ judge_reply c (queued.On k p ∷ rest) q n done out = unfit c
 judge_reply c (queued.Off p ∷ rest) q n done out = unfit c
 judge_reply c [] q n done out = unfit c
 
--- ---- answers to what is left for the end of the session, and taken back
+-- ---- answers to actions for the end of the session, and to cancels
 
--- the request of the oldest message, where it is such a one
+-- the request of the oldest message, if it is such an action
 abbrev pub first_action : List Queued → Option ℕ
 first_action [] = None
 first_action (m ∷ rest) = action_of m

@@ -66,7 +66,7 @@ with_taken p c t m = more t m
 abbrev pub with_message : Path → ClientState → Trail → Down → Trail
 with_message p c t m = if takes c m then with_taken p c t m else t
 
--- messages alone tell something
+-- only messages have an effect
 abbrev pub trail_step : Path → ClientState → Trail → ClientStep → Trail
 trail_step p c t (receives m) = with_message p c t m
 trail_step p c t (calls k) = t

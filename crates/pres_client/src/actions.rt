@@ -1,4 +1,4 @@
-//! The client: what it leaves for its disconnection, and the paths that it listens to.
+//! The client: its actions for a disconnection, and the paths that it listens to.
 
 ghost use Rattle.std.specs.Prelude.{◌≡◌, ◌+◌, IfOk, IfErr, OnOk, OnErr, None, false};
 ghost use Rattle.pres_client_state.specs.Watches.{with_watch, fresh};
@@ -18,7 +18,7 @@ use pres_write::{Draft, Unconditional};
 use std::alloc::AllocError;
 
 impl Client {
-    // Why nothing can be left for the end of the session now.
+    // Why no action for the end of the session is possible now.
     fn action_fault(&self) -> Option<ClientFault>
         ensures { result ≡ action_refusal self.now None }
     {
@@ -46,7 +46,7 @@ impl Client {
         Ok(next.get())
     }
 
-    // The next request leaves the operation for the end of the session.
+    // The next request registers the operation for the end of the session.
     fn leave(&mut self, op: Unconditional) -> Result<u64, ClientFault>
         requires request { no_request self.old ≡ false }
         requires message { no_message self.old ≡ false }
@@ -58,8 +58,8 @@ impl Client {
         self.request(Queued::Left { request, op })
     }
 
-    /// Leaves a set for the end of the session. Answers the request, which Armed names once it
-    /// stands. Refused, in this order: Offline while no session is open, Spent, TooDeep (as
+    /// Registers a set for the end of the session. Returns the request, which Armed names once it
+    /// is registered. Refused, in this order: Offline while no session is open, Spent, TooDeep (as
     /// Write), Memory.
     pub fn on_disconnect_set(&mut self, path: Path, draft: Draft) -> Result<u64, ClientFault>
         ensures ok { IfOk result (Answers self.old (Call.OnDisconnectSet path draft) self.new) }
@@ -74,9 +74,9 @@ impl Client {
         self.leave(Unconditional::Set(placement))
     }
 
-    /// Leaves an update for the end of the session. Refused, in this order: Offline while no
-    /// session is open, Spent, then as Write ManyPaths (above 256), TooDeep and Overlap (a place
-    /// at or above another), Memory.
+    /// Registers an update for the end of the session. Refused, in this order: Offline while no
+    /// session is open, Spent, then as Write ManyPaths (above 256), TooDeep and Overlap (a place at
+    /// or above another), Memory.
     pub fn on_disconnect_update(
         &mut self,
         path: Path,
@@ -95,7 +95,7 @@ impl Client {
         self.leave(Unconditional::Update(update))
     }
 
-    /// Leaves a remove for the end of the session. Refused, in this order: Offline while no
+    /// Registers a remove for the end of the session. Refused, in this order: Offline while no
     /// session is open, Spent, Memory.
     pub fn on_disconnect_remove(&mut self, path: Path) -> Result<u64, ClientFault>
         ensures ok { IfOk result (Answers self.old (Call.OnDisconnectRemove path) self.new) }
@@ -108,9 +108,9 @@ impl Client {
         self.leave(Unconditional::Set(cleared(path)))
     }
 
-    /// Takes back what was left at the path and below it. Where something is left above it, the
-    /// place keeps what it holds at the end of the session. Refused, in this order: Offline while
-    /// no session is open, Spent, Memory.
+    /// Cancels what was registered at the path and below it. If something is registered above it,
+    /// the place keeps what it holds at the end of the session. Refused, in this order: Offline
+    /// while no session is open, Spent, Memory.
     pub fn on_disconnect_cancel(&mut self, path: Path) -> Result<u64, ClientFault>
         ensures ok { IfOk result (Answers self.old (Call.OnDisconnectCancel path) self.new) }
         ensures err { IfErr result (Refuses self.old (Call.OnDisconnectCancel path) self.new) }
@@ -178,10 +178,10 @@ impl Client {
         Ok(next.get())
     }
 
-    /// Listens to the path: the notice Value tells its value, and each value after a write that
-    /// touches it. A path that is listened to already is answered with a new request, and
-    /// nothing else is done. Refused, in this order: Spent, Memory. The server denies a
-    /// session's 257th path.
+    /// Listens to the path: the notice Value gives its value, and each value after a write that
+    /// touches it. For a path that is listened to already it returns a new request, and does
+    /// nothing else. Refused, in this order: Spent, Memory. The server denies a session's 257th
+    /// path.
     pub fn listen(&mut self, path: Path) -> Result<u64, ClientFault>
         ensures ok { IfOk result (Answers self.old (Call.Listen path) self.new) }
         ensures err { IfErr result (Refuses self.old (Call.Listen path) self.new) }
@@ -201,7 +201,7 @@ impl Client {
         self.watch(path)
     }
 
-    /// Listens no more to the path, and shows nothing of it. Of a path that isn't listened to it
+    /// Stops listening to the path, and shows nothing of it. For a path that isn't listened to it
     /// does nothing. Refused, in this order: Spent, Memory.
     pub fn unlisten(&mut self, path: &Path) -> Result<(), ClientFault>
         ensures ok { OnOk result (Does self.old (Call.Unlisten path.now) self.new) }

@@ -8,16 +8,16 @@ use crate::fault::ClientFault;
 use pres_tree::Path;
 use pres_write::Draft;
 
-/// What a caller answers a transaction that asks.
+/// A caller's answer to a transaction that asks.
 #[derive(Drop)]
 pub enum Answer {
     /// The draft takes the place of the value.
     New(Draft),
-    /// The transaction is given up.
+    /// The caller gives the transaction up.
     Abort,
 }
 
-/// A call of a client, with what it is given.
+/// A call of a client, with its arguments.
 #[derive(Drop)]
 pub enum Call {
     Set(Path, Draft),
@@ -38,7 +38,7 @@ pub enum Call {
     Resend,
 }
 
-// Of a call that answers no request.
+// For a call that returns no request.
 fn without_request(made: Result<(), ClientFault>) -> Result<Option<u64>, ClientFault>
     ensures { MatchResult result
         (λ k. (k ≡ None) × (made ≡ Ok tt))
@@ -51,8 +51,8 @@ fn without_request(made: Result<(), ClientFault>) -> Result<Option<u64>, ClientF
 }
 
 impl Client {
-    /// Makes the call: the request that it answers, none where it answers none. Refused as the
-    /// call is.
+    /// Makes the call: the request that it returns, none if it returns none. Refused as the call
+    /// is.
     pub fn make(&mut self, call: Call) -> Result<Option<u64>, ClientFault>
         ensures ok { OnOk result (Does self.old call self.new) }
         ensures request { IfOk result (λ k. k ≡ request_of self.old call) }

@@ -12,12 +12,12 @@ use pres_wire::{ClientId, Count, Number, SessionId, Up};
 use std::alloc::{AllocError, Global};
 use std::marker::Model;
 
-/// What a client is about.
+/// The state of a client's session.
 #[derive(Clone, Copy, Debug, PartialEq, Eq)]
 pub enum Phase {
     /// No session is wanted.
     Off,
-    /// A Hello went out, and its Welcome didn't come yet.
+    /// A Hello went out, and its Welcome has not come yet.
     Opening,
     /// The session is open.
     Online,
@@ -39,8 +39,8 @@ impl Phase {
     }
 }
 
-/// One incarnation of a client: it makes the messages that its calls need, and keeps each until
-/// its answer was received. Contracts see it as plain data.
+/// One incarnation of a client: it makes the messages that its calls need, and keeps each until its
+/// answer is received. Contracts see it as plain data.
 pub struct Client {
     pub(crate) alloc: Global,
     pub(crate) session: SessionId,
@@ -111,7 +111,7 @@ impl Model for Client {
 
 impl Client {
     /// A client that begins its incarnation: its program counts these, from 1 on, and saves the
-    /// count before anything of the incarnation goes out.
+    /// count before it sends anything of the incarnation.
     pub fn new(alloc: Global, client: ClientId, incarnation: Number) -> Client
         ensures { result ≡ start client incarnation }
     {
@@ -164,9 +164,9 @@ impl Client {
         self.session.incarnation
     }
 
-    /// What is shown of the path: the server's number and the value, which is null where the tree
-    /// is empty. None before the first value came, and of a path that isn't listened to. After a
-    /// loss it stays as it was until the next session tells a value.
+    /// What is shown of the path: the server's number and the value, which is null if the tree is
+    /// empty there. None before the first value came, and for a path that isn't listened to. After
+    /// a loss it stays as it was until the next session sends a value.
     pub fn view(&self, path: &Path) -> Option<(u64, &Tree)>
         ensures { MatchOption result
             (view path.now self.now ≡ None)
@@ -186,7 +186,7 @@ impl Client {
         }
     }
 
-    /// How many messages the next call makes at the most.
+    /// At most how many messages the next call makes.
     pub fn most_sends(&self) -> usize
         ensures { result ≡ most_sends self.now }
     {

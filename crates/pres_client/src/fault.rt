@@ -13,7 +13,7 @@ pub enum ClientFault {
     /// An allocation was refused.
     #[error("out of memory")]
     Memory,
-    /// Nothing can be left for the end of a session while none is open.
+    /// No action for the end of a session is possible while none is open.
     #[error("not online")]
     Offline,
     /// No transaction with this request waits for an answer.
@@ -22,7 +22,7 @@ pub enum ClientFault {
     /// A number would pass 2^53 - 1.
     #[error("no numbers are left")]
     Spent,
-    /// The operation is no operation.
+    /// The operation is invalid.
     #[error("{0}")]
     Write(WriteFault),
 }

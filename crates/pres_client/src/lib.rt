@@ -1,4 +1,5 @@
-//! The client: what it sends until it is answered, and what it shows of the paths that it listens to.
+//! The client: what it sends until it is answered, and what it shows of the paths that it listens
+//! to.
 #![tactic(auto)]
 
 mod actions;

@@ -14,7 +14,7 @@ use pres_wire::{Code, Count, Number, SessionId, Up};
 use std::alloc::AllocError;
 
 impl Client {
-    // The session is left; what there is to note of it was noted.
+    // The session is left, after its notices were added.
     pub(crate) fn close(&mut self)
         ensures { self.new ≡ closed self.old }
     {
@@ -86,9 +86,9 @@ impl Client {
         Ok(())
     }
 
-    /// Leaves the session: where it is open a Bye goes out, and what was left for its end and has
-    /// no answer is noted as ActionLost. Writes without an answer go out again in the next
-    /// session. Refused, in this order: Spent, Memory.
+    /// Leaves the session: if it is open a Bye goes out, and each action for its end without an
+    /// answer is noted as ActionLost. Writes without an answer go out again in the next session.
+    /// Refused, in this order: Spent, Memory.
     pub fn go_offline(&mut self) -> Result<(), ClientFault>
         ensures ok { OnOk result (Does self.old Call.GoOffline self.new) }
         ensures err { IfErr result (Refuses self.old Call.GoOffline self.new) }

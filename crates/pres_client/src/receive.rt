@@ -104,7 +104,7 @@ impl Client {
         self.seen = Count::up_to(z);
     }
 
-    // The message is taken, and fits nothing.
+    // The message is taken, but is no answer to the oldest one.
     fn unfit(&mut self, z: Number) -> Result<(), AllocError>
         requires { self.old.taken < greatest_number }
         ensures ok { OnOk result (self.new ≡ unfit (bring self.old z)) }
@@ -140,7 +140,7 @@ impl Client {
         self.answered += 1;
     }
 
-    // One notice waits to be read, or nothing is changed.
+    // Adds one notice, or changes nothing.
     fn note(&mut self, notice: Notice) -> Result<(), AllocError>
         ensures ok { OnOk result (self.new ≡ note self.old notice) }
         ensures err { OnErr result (self.new ≡ self.old) }
@@ -165,7 +165,7 @@ impl Client {
         Ok(())
     }
 
-    // The try of the transaction at the path was overtaken, and found the value.
+    // The transaction's attempt at the path was overtaken, and found the value.
     fn overtaken(
         &mut self,
         z: Number,
@@ -197,7 +197,7 @@ impl Client {
         Ok(())
     }
 
-    // The Reply to the oldest message says that it stands.
+    // The Reply to the oldest message says that it was written.
     fn receive_wrote(&mut self, z: Number, done: Number) -> Result<(), AllocError>
         requires { self.old.taken < greatest_number }
         ensures ok { (q n : ℕ) → fits_write self.old q n ≡ true → OnOk result
@@ -211,7 +211,7 @@ impl Client {
         self.done(z, request, done)
     }
 
-    // The Reply to the oldest message says that another write was before it, and what it found.
+    // The Reply to the oldest message says that another write came first, and which value it found.
     fn receive_stale(&mut self, z: Number, held: Option<Tree>) -> Result<(), AllocError>
         requires { self.old.taken < greatest_number }
         ensures ok { (q n done : ℕ) → fits_write self.old q n ≡ true → OnOk result
@@ -263,8 +263,8 @@ impl Client {
 
     // ---- answers to other messages
 
-    // The request of the oldest message, where that left something for the end of the session, or
-    // took it back.
+    // The request of the oldest message, if that is an action for the end of the session, or a
+    // cancel.
     fn first_action(&self) -> Option<u64>
         ensures { result ≡ first_action self.now.queue }
     {
@@ -288,7 +288,7 @@ impl Client {
         Ok(())
     }
 
-    // A Denied of what was left is taken.
+    // A Denied of such an action is taken.
     fn receive_full(&mut self, z: Number, q: Number) -> Result<(), AllocError>
         requires { self.old.taken < greatest_number }
         ensures ok { OnOk result
@@ -309,7 +309,7 @@ impl Client {
         Ok(())
     }
 
-    // The request and the path of the oldest message, where that listens.
+    // The request and the path of the oldest message, if that listens.
     fn first_listen(&self) -> Option<(u64, &Path)>
         ensures { MatchOption result
             (first_listen self.now.queue ≡ None)
@@ -361,7 +361,7 @@ impl Client {
         }
     }
 
-    // The notice of the value waits to be read, or nothing is changed.
+    // Adds the notice of the value, or changes nothing.
     fn note_value(&mut self, z: Number, path: &Path, value: &Tree) -> Result<(), AllocError>
         ensures ok { OnOk result (self.new ≡ note self.old (Notice.Value path.now z value.now)) }
         ensures err { OnErr result (self.new ≡ self.old) }
@@ -370,7 +370,7 @@ impl Client {
         self.note(notice)
     }
 
-    // The value that a Snap tells is shown.
+    // Shows the value that a Snap holds.
     fn show(&mut self, z: Number, path: Path, value: Tree) -> Result<(), AllocError>
         requires taken { self.old.taken < greatest_number }
         requires no_write { head_is_write self.old.queue ≡ Some false }
@@ -510,7 +510,7 @@ impl Client {
         self.own_fault(code)
     }
 
-    // Whether the server's count of the client's writes can be, and numbers are left for what
+    // Whether the server's count of the client's writes is possible, and numbers are left for what
     // goes out.
     fn is_fit(&self, ops: Count) -> bool
         ensures { result ≡ is_fit self.now ops }
@@ -563,7 +563,7 @@ impl Client {
         }
     }
 
-    // The message does what it says.
+    // The client does what the message says.
     fn take(&mut self, message: Down) -> Result<(), AllocError>
         requires { accepts self.old message ≡ true }
         ensures ok { OnOk result (self.new ≡ after_receive self.old message) }
@@ -595,8 +595,8 @@ impl Client {
         }
     }
 
-    /// Receives a message. One that isn't the next of its session is passed over, so that
-    /// messages may come twice or late. Memory is the one refusal, and then nothing is changed.
+    /// Receives a message. One that isn't the next of its session is passed over, so that messages
+    /// may come twice or late. Memory is the one refusal, and then nothing is changed.
     pub fn receive(&mut self, message: Down) -> Result<(), ClientFault>
         ensures ok { OnOk result (self.new ≡ after_receive self.old message) }
         ensures err { IfErr result (λ e. (e ≡ Memory) × (self.new ≡ self.old)) }

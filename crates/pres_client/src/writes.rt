@@ -76,9 +76,8 @@ impl Client {
         Ok(request)
     }
 
-    /// Puts the draft in the place of all that stands at the path; null removes it. Answers the
-    /// request, which Done names once the write stands. Refused, in this order: Spent, TooDeep
-    /// (as Write), Memory.
+    /// Replaces all at the path by the draft; null removes it. Returns the request, which Done
+    /// names once the write is done. Refused, in this order: Spent, TooDeep (as Write), Memory.
     pub fn set(&mut self, path: Path, draft: Draft) -> Result<u64, ClientFault>
         ensures ok { IfOk result (Answers self.old (Call.Set path draft) self.new) }
         ensures err { IfErr result (Refuses self.old (Call.Set path draft) self.new) }
@@ -107,7 +106,7 @@ impl Client {
         self.write(Op::Update(update))
     }
 
-    /// Removes what stands at the path. Refused, in this order: Spent, Memory.
+    /// Removes what is at the path. Refused, in this order: Spent, Memory.
     pub fn remove(&mut self, path: Path) -> Result<u64, ClientFault>
         ensures ok { IfOk result (Answers self.old (Call.Remove path) self.new) }
         ensures err { IfErr result (Refuses self.old (Call.Remove path) self.new) }
@@ -131,7 +130,7 @@ impl Client {
         }
     }
 
-    // The request's transaction waits for its caller's answer, and the notice Ask tells it.
+    // The request's transaction waits for its caller's answer, for which the notice Ask asks.
     pub(crate) fn ask(&mut self, request: u64, ask: Ask) -> Result<(), AllocError>
         ensures ok { OnOk result (self.new
             ≡ record (note self.old (Notice.Ask request ask.attempt ask.value)) {
@@ -152,9 +151,9 @@ impl Client {
         Ok(())
     }
 
-    /// Asks by the notice Ask what to put in the place of the value at the path: of the view of
-    /// this very path, or null, and then of the value that another write left, until the answer's
-    /// value was put, up to 25 times. Refused, in this order: Spent, Memory.
+    /// Asks by the notice Ask what to put in place of the value at the path: first for the view of
+    /// this very path, or null, and then for each value that another write left, until the answer's
+    /// value is written, up to 25 times. Refused, in this order: Spent, Memory.
     pub fn transact(&mut self, path: Path) -> Result<u64, ClientFault>
         ensures ok { IfOk result (Answers self.old (Call.Transact path) self.new) }
         ensures err { IfErr result (Refuses self.old (Call.Transact path) self.new) }
@@ -175,8 +174,8 @@ impl Client {
         Ok(next.get())
     }
 
-    /// Answers what the request's transaction asked. Refused, in this order: NoSuchRequest where
-    /// none with the request asks, and for a new draft Spent, TooDeep (as Write), Memory.
+    /// Answers what the request's transaction asked. Refused, in this order: NoSuchRequest if no
+    /// transaction with the request asks, and for a new draft Spent, TooDeep (as Write), Memory.
     pub fn answer(&mut self, request: u64, answer: Answer) -> Result<(), ClientFault>
         ensures ok { OnOk result (Does self.old (Call.Answer request answer) self.new) }
         ensures err { IfErr result (Refuses self.old (Call.Answer request answer) self.new) }
@@ -192,7 +191,7 @@ impl Client {
         }
     }
 
-    // The transaction is given up by its caller.
+    // The transaction's caller gave it up.
     fn abort(&mut self, request: u64) -> Result<(), ClientFault>
         requires { ask_of request self.old.asks ≢ None }
         ensures ok { OnOk result (Does self.old (Call.Answer request Answer.Abort) self.new) }
@@ -204,7 +203,7 @@ impl Client {
         Ok(())
     }
 
-    // The message of the try that the draft makes, as it goes out now, where the client is Online.
+    // The message of the attempt that the draft makes, as it goes out now, if the client is Online.
     fn try_now(&self, ask: &Ask, draft: &Draft) -> Result<Vec<Up>, AllocError>
         requires message { no_message self.now ≡ false }
         requires number { no_write self.now ≡ false }
@@ -221,7 +220,7 @@ impl Client {
         sole(self.alloc, Up::Op { session, q, n, op })
     }
 
-    // The transaction's next try puts the draft.
+    // The transaction's next attempt writes the draft.
     fn attempt(&mut self, request: u64, draft: Draft) -> Result<(), ClientFault>
         requires { ask_of request self.old.asks ≢ None }
         ensures ok { OnOk result (Does self.old (Call.Answer request (Answer.New draft)) self.new) }

@@ -36,7 +36,7 @@ asked_of (does hands_out_sends ∷ events) = asked_of events
 asked_of (does hands_out_notices ∷ events) = asked_of events
 asked_of (refuses ∷ events) = None ∷ asked_of events
 
--- what is printed of a step: why a call is refused, and what is handed out of the client's notices
+-- what is printed for a step: why a call is refused, and the client's notices that are handed out
 abbrev pub printed : ClientState → ClientStep → Text
 printed c (calls k) = refusal_line (refusal c k)
 printed c (receives m) = []

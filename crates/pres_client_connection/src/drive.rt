@@ -105,7 +105,7 @@ fn follow<S: Read + Write + Drop, M: MaskKeys + Drop, W: Write>(
     }
 }
 
-// Makes the call, and tells its refusal.
+// Makes the call, and prints its refusal.
 fn make<W: Write>(
     alloc: Global,
     client: &mut Client,
@@ -167,7 +167,7 @@ fn receive<S: Read + Write + Drop, M: MaskKeys + Drop, W: Write>(
     }
 }
 
-// The next message of a server. What is none is passed over.
+// The next message of a server. Texts that are no message are passed over.
 fn next_message<S: Read + Write + Drop, M: MaskKeys + Drop>(
     alloc: Global,
     socket: &mut Socket<S, M>,
@@ -185,7 +185,7 @@ fn next_message<S: Read + Write + Drop, M: MaskKeys + Drop>(
     Err(SockFault::Turns)
 }
 
-// The message of a server, where what came is one.
+// The message of a server, if the text is one.
 fn message_in(alloc: Global, came: Received) -> Result<Option<Down>, SockFault>
     ensures message { IfOk result (λ message. IfSome message IsMessage) }
     ensures err { IfErr result (λ e. is_handshake e ≡ false) }
@@ -202,7 +202,7 @@ fn message_in(alloc: Global, came: Received) -> Result<Option<Down>, SockFault>
     }
 }
 
-// Sends what the client has to send, and tells its notices.
+// Sends what the client has to send, and prints its notices.
 fn hand_out<S: Read + Write + Drop, M: MaskKeys + Drop, W: Write>(
     alloc: Global,
     socket: &mut Socket<S, M>,
@@ -233,7 +233,7 @@ fn send_all<S: Read + Write + Drop, M: MaskKeys + Drop>(
     flush(socket)
 }
 
-// Puts the message into what is to be sent.
+// Writes the message to the send buffer.
 fn put<S: Read + Write + Drop, M: MaskKeys + Drop>(
     alloc: Global,
     socket: &mut Socket<S, M>,
@@ -245,7 +245,7 @@ fn put<S: Read + Write + Drop, M: MaskKeys + Drop>(
     write(alloc, socket, text.as_str())
 }
 
-// Tells the notices, each as a line.
+// Prints the notices, each as a line.
 fn tell_all<W: Write>(alloc: Global, output: &mut W, notices: Vec<Notice>) -> Result<(), SockFault>
     ensures told { OnOk result (Appends (W.contents output.old) (W.contents output.new)
         (notice_lines notices.items)) }
@@ -270,7 +270,7 @@ fn tell<W: Write>(output: &mut W, line: &[u8]) -> Result<(), SockFault>
     }
 }
 
-// Tells that a call was refused, and why.
+// Prints that a call was refused, and why.
 fn tell_refusal<W: Write>(alloc: Global, output: &mut W, number: u8) -> Result<(), SockFault>
     ensures told { OnOk result (Appends (W.contents output.old) (W.contents output.new)
         (line_of (refusal_text number))) }

@@ -52,7 +52,7 @@ abbrev pub count_writes : List Queued → ℕ
 count_writes [] = 0
 count_writes (m ∷ ms) = next_write (count_writes ms) m
 
--- what was left for the end of the session, or taken back, and has no answer
+-- the actions for the end of the session, and the cancels, that have no answer
 abbrev pub lost_action : Queued → Option Notice
 lost_action (queued.Write k o) = None
 lost_action (queued.Try k attempt t) = None

@@ -16,14 +16,14 @@ use std::marker::Model;
 #[derive(Drop)]
 pub struct Ask {
     pub path: Path,
-    /// Which of its tries the answer makes, from 1 on.
+    /// Which of its attempts the answer makes, from 1 on.
     pub attempt: u64,
-    /// The value that it was asked with, which the try expects.
+    /// The value that it was asked with, which the attempt expects.
     pub value: Tree,
 }
 
 impl Ask {
-    /// Whether data is nested too deep for the try that the draft makes.
+    /// Whether data is nested too deep for the attempt that the draft makes.
     pub fn is_too_deep(&self, draft: &Draft) -> bool
         ensures { result ≡ is_too_deep self.now draft.now }
     {

@@ -99,7 +99,7 @@ fn all_messages(
     Ok(sends)
 }
 
-// Adds a notice for each of the messages that were left for the end of a session, or taken back.
+// Adds a notice for each of the messages that are actions for the end of a session, or cancels.
 fn add_lost(notices: &mut Vec<Notice>, queue: &VecDeque<Queued>) -> Result<(), AllocError>
     ensures { OnOk result (notices.new.items
         ≡ notices.old.items ++ filter_map lost_action queue.now.items) }
@@ -260,7 +260,7 @@ impl ClientQueues {
     }
 
     /// The session is open: these messages go before those that wait, and all go out, the write
-    /// that has waited longest as number `n`. All of it is done, or nothing where memory is refused.
+    /// that has waited longest as number `n`. It does all of it, or nothing if memory is refused.
     pub fn open(
         &mut self,
         session: &SessionId,
@@ -289,7 +289,7 @@ impl ClientQueues {
         Ok(())
     }
 
-    /// The messages that were not handed out yet. They leave.
+    /// Takes the messages that were not handed out yet.
     pub fn take_sends(&mut self) -> Vec<Up>
         ensures given { result.items ≡ self.old.sends }
         ensures sends { self.new.sends ≡ [] }
@@ -299,7 +299,7 @@ impl ClientQueues {
         std::mem::replace(&mut self.sends, Vec::new(self.alloc))
     }
 
-    /// The notices that were not read yet. They leave.
+    /// Takes the notices that were not read yet.
     pub fn take_notices(&mut self) -> Vec<Notice>
         ensures given { result.items ≡ self.old.notices }
         ensures notices { self.new.notices ≡ [] }

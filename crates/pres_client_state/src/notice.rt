@@ -1,4 +1,4 @@
-//! What a client tells its caller.
+//! Notices of a client to its caller.
 
 ghost use Rattle.std.specs.Prelude.{◌≡◌, ◌∷◌, [], IfOk};
 
@@ -6,16 +6,16 @@ use pres_tree::{Path, Tree};
 use pres_wire::{Code, Limit, Number};
 use std::alloc::{AllocError, Global};
 
-/// What a client tells its caller. Requests are named by the number that their call answered.
+/// A notice of a client to its caller. Requests are named by the number that their call returned.
 #[derive(Drop)]
 pub enum Notice {
-    /// The write stands at the server's number.
+    /// The write is done, at the server's number.
     Done {
         request: u64,
         number: Number,
     },
-    /// The transaction asks what to put in the place of the value: see `Client::answer`. Attempts
-    /// count from 1.
+    /// The transaction asks what to put in place of the value: see `Client::answer`. Attempts count
+    /// from 1.
     Ask {
         request: u64,
         attempt: u64,
@@ -25,19 +25,19 @@ pub enum Notice {
     TooManyTries {
         request: u64,
     },
-    /// The transaction was given up by its caller.
+    /// The transaction's caller gave it up.
     Aborted {
         request: u64,
     },
-    /// What was left for the end of the session, or taken back, stands.
+    /// The action for the end of the session, or the cancel, is registered.
     Armed {
         request: u64,
     },
-    /// The session was over before its answer came: whether what was left stands isn't known.
+    /// The session was over before its answer came: whether the action is registered isn't known.
     ActionLost {
         request: u64,
     },
-    /// The value stands at the path at the server's number; null is the empty tree.
+    /// The value is at the path at the server's number; null is the empty tree.
     Value {
         path: Path,
         number: Number,

@@ -18,18 +18,18 @@ pub enum Queued {
         request: u64,
         op: Op,
     },
-    /// One try of a transaction, with which of its tries it is.
+    /// One attempt of a transaction, with its number.
     Try {
         request: u64,
         attempt: u64,
         transaction: Transaction,
     },
-    /// What is left for the end of the session.
+    /// An action for the end of the session.
     Left {
         request: u64,
         op: Unconditional,
     },
-    /// What is taken back of that.
+    /// A cancel of such actions.
     Cancel {
         request: u64,
         path: Path,
@@ -45,7 +45,7 @@ pub enum Queued {
     },
 }
 
-/// The number of a message, which the value is.
+/// The number of a message, which is the value.
 pub fn number(value: u64) -> Number
     requires { IsNumber value }
     ensures { result ≡ value }
@@ -57,7 +57,7 @@ pub fn number(value: u64) -> Number
 }
 
 impl Queued {
-    // Whether it is a write, or a try of a transaction.
+    // Whether it is a write, or an attempt of a transaction.
     pub(crate) fn is_write(&self) -> bool
         ensures { result ≡ is_write self.now }
     {
@@ -74,7 +74,7 @@ impl Queued {
         }
     }
 
-    /// The request of what it leaves for the end of the session, or takes back.
+    /// The request of an action for the end of the session, or of a cancel.
     pub fn action(&self) -> Option<u64>
         ensures { result ≡ action_of self.now }
     {

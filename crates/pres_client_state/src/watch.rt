@@ -121,7 +121,7 @@ impl Watches {
         }
     }
 
-    /// The path is listened to for the request, in the place of what was there.
+    /// The path is listened to for the request, in place of what was there.
     pub fn add(&mut self, path: Path, request: u64) -> Result<(), AllocError>
         ensures ok { OnOk result (self.new ≡ with_watch path (fresh request) self.old) }
         ensures err { OnErr result (self.new ≡ self.old) }

@@ -1,4 +1,4 @@
--- What the run of a server and that of a client print, by the words that ask for them.
+-- What a server's and a client's run print, by the words that start them.
 use Rattle.std.specs.Prelude.{◌≡◌, ℕ, List, ◌++◌, Option, Some}
 use Rattle.std.specs.Io.KnownBytes.{Appends}
 use Rattle.clap.specs.Words.{Row, Text, subcommand_of}

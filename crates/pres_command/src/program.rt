@@ -1,4 +1,4 @@
-//! The program, over its words and streams.
+//! The program: its words and its streams.
 
 ghost use Rattle.std.specs.Prelude.{◌≡◌, ◌⊎◌, ◌≢◌, ◌++◌, ℕ, IfSome, List, codes, map};
 ghost use Rattle.std.specs.Io.KnownBytes.{Appends};
@@ -36,9 +36,9 @@ const BAD_WORDS: u8 = 2;
 
 const NO_MEMORY: u8 = 5;
 
-/// Runs the program with the words of its command line, its own name first, and answers the
-/// exit status: 0 done, 1 input refused, 2 bad words, 3 file refused, 4 socket refused, 5 out of
-/// memory. A server that isn't asked to end doesn't.
+/// Runs the program with the words of its command line, its own name first, and returns the exit
+/// status: 0 done, 1 input refused, 2 bad words, 3 file refused, 4 socket refused, 5 out of memory.
+/// A server without a count of connections runs on.
 pub fn presence_run<
     H: Net<Listener = TcpListener, Stream = TcpStream>
         + Threads
@@ -87,7 +87,7 @@ pub fn presence_run<
     }
 }
 
-// Runs `presence apply`, and answers the exit status.
+// Runs `presence apply`, and returns the exit status.
 fn apply_status<R: Read, W: Write>(alloc: Global, input: &mut R, output: &mut W) -> u8
     ensures status { IsStatus result }
     ensures words { result ≢ 2 }
@@ -104,7 +104,7 @@ fn apply_status<R: Read, W: Write>(alloc: Global, input: &mut R, output: &mut W)
     }
 }
 
-// Runs `presence sim`, and answers the exit status.
+// Runs `presence sim`, and returns the exit status.
 fn sim_status<R: Read, W: Write, F: Write>(
     alloc: Global,
     input: &mut R,
@@ -121,7 +121,7 @@ fn sim_status<R: Read, W: Write, F: Write>(
     }
 }
 
-// Runs `presence serve`, and answers the exit status.
+// Runs `presence serve`, and returns the exit status.
 fn serve_status<
     H: Net<Listener = TcpListener, Stream = TcpStream>
         + Threads
@@ -152,8 +152,8 @@ fn serve_status<
     }
 }
 
-// Runs `presence client`, and answers the exit status: that of bad words where the client's id is
-// none.
+// Runs `presence client`, and returns the exit status: that of bad words if the client's id is
+// invalid.
 fn client_status<
     H: Net<Listener = TcpListener, Stream = TcpStream>
         + Threads
@@ -200,7 +200,7 @@ fn client_status<
     }
 }
 
-// Says on the stream for faults why a server, a client or a script ended early, and answers the exit
+// Prints on the error stream why a server, a client or a script ended early, and returns the exit
 // status.
 fn tell_fault<F: Write>(fault: &ServiceFault, faults: &mut F) -> u8
     ensures status { IsStatus result }
@@ -211,8 +211,8 @@ fn tell_fault<F: Write>(fault: &ServiceFault, faults: &mut F) -> u8
     fault.status()
 }
 
-// Says on the stream for faults why the status is not 0. Where that stream fails nothing is left
-// to say.
+// Prints on the error stream why the status is not 0. If that stream fails there is nothing left to
+// do.
 fn tell<F: Write>(status: u8, faults: &mut F) {
     let line: &[u8] = match status {
         REFUSED => b"presence: input refused\n",
@@ -222,8 +222,8 @@ fn tell<F: Write>(status: u8, faults: &mut F) {
     let _ = faults.write_all(line);
 }
 
-// Help and the version go to the output, with status 0; a mistake in the words goes to the
-// stream for faults, with status 2.
+// Help and the version go to the output, with status 0; a mistake in the words goes to the error
+// stream, with status 2.
 fn explain<W: Write, F: Write>(error: &Error, output: &mut W, faults: &mut F) -> u8
     ensures status { IsStatus result }
     ensures words { result ≡ 2 → output.new ≡ output.old }
@@ -246,7 +246,7 @@ fn explain<W: Write, F: Write>(error: &Error, output: &mut W, faults: &mut F) ->
     DONE
 }
 
-/// Prints on the stream for faults why the command line could not be parsed, and returns the exit
+/// Prints on the error stream why the command line could not be parsed, and returns the exit
 /// status: 5 for lack of memory, else 2.
 pub fn explain_unread<F: Write>(error: &io::Error, faults: &mut F) -> u8
     ensures { (result ≡ 2) ⊎ (result ≡ 5) }

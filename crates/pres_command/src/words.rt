@@ -58,7 +58,7 @@ fn sim_command<'a>(alloc: Global) -> Command<'a>
     )
 }
 
-// An argument that has to be given.
+// A required argument.
 fn needed_argument<'a>(alloc: Global, name: &'a str, help: &'a str) -> Arg<'a>
     ensures rule { rule_of result ≡ needed name.entry.now }
     ensures local { result.global ≡ false }
@@ -115,7 +115,7 @@ fn incarnation_argument<'a>(alloc: Global) -> Arg<'a>
         .help("Which start of the client this is: a greater number each time")
 }
 
-// The command with one more below it, where that was made.
+// The command with one more subcommand, if that was made.
 fn with_made<'a>(
     command: Command<'a>,
     made: Result<Command<'a>, AllocError>,
@@ -169,7 +169,7 @@ pub fn read_words<'a>(alloc: Global, words: &'a [&'a str]) -> Result<Request<'a>
     }
 }
 
-// What is asked by a subcommand with what it is given: none where that is not enough.
+// What a subcommand is asked for with its arguments: none if they are not enough.
 fn request_of<'a>(name: &str, given: &ArgMatches<'a>) -> Option<Request<'a>>
     ensures apply { name.now ≡ codes "apply" → result ≡ Some Request.Apply }
     ensures asked { IfSome result (λ request.
@@ -218,7 +218,7 @@ fn client_of<'a>(given: &ArgMatches<'a>) -> Option<ClientWords<'a>>
     })
 }
 
-// The mistake that a subcommand lacks what it needs.
+// The mistake that a subcommand lacks an argument.
 fn lacking(alloc: Global) -> Result<Error, AllocError>
     ensures { IfOk result (λ e. IsMistake (kind_of e)) }
 {

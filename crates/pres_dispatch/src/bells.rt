@@ -1,4 +1,5 @@
-//! The bells of connections: how one that waits learns that something was put for its session.
+//! The bells of connections, which wake a connection that waits when something is put for its
+//! session.
 
 use pres_server::{Down, Items, SessionId};
 use std::alloc::{AllocError, Global};
@@ -35,7 +36,7 @@ struct DueBell<B> {
 }
 
 /// The bells of sessions, and those of them that are due, since something was put for their
-/// sessions after they were handed out last, or given up. No contract tells of them.
+/// sessions, or given up, after they were handed out last. No contract covers them.
 #[derive(Drop)]
 pub(crate) struct Bells<B> {
     hung: BTreeMap<SessionId, SessionBell<B>>,
@@ -55,7 +56,7 @@ impl<B: Bell + Clone + Drop> Bells<B> {
         }
     }
 
-    /// Hangs the session's bell, in place of an earlier one.
+    /// Sets the session's bell, in place of an earlier one.
     pub(crate) fn hang(&mut self, session: SessionId, bell: B) -> Result<(), AllocError> {
         let hung = SessionBell {
             bell,
@@ -67,12 +68,12 @@ impl<B: Bell + Clone + Drop> Bells<B> {
         Ok(())
     }
 
-    /// The session's bell goes.
+    /// Removes the session's bell.
     pub(crate) fn remove(&mut self, session: &SessionId) {
         drop(self.hung.remove(session));
     }
 
-    /// These are put now.
+    /// The bells of these messages' sessions are due.
     pub(crate) fn note(&mut self, answers: &Items<Down>) {
         if self.hung.is_empty() {
             return;
@@ -84,7 +85,7 @@ impl<B: Bell + Clone + Drop> Bells<B> {
         }
     }
 
-    // The session's bell is due. It is rung at once where there is no memory for its copy.
+    // The session's bell is due. It is rung at once if there is no memory for its copy.
     fn mark(&mut self, session: &SessionId) {
         let Some(hung) = self.hung.get_mut(session) else {
             return;
@@ -113,8 +114,8 @@ impl<B: Bell + Clone + Drop> Bells<B> {
         Some(hung.number)
     }
 
-    /// Hands out the bells that are due, but this session's. One for which the list has no memory
-    /// is rung at once.
+    /// Hands out the bells that are due, except this session's. One for which the list has no
+    /// memory is rung at once.
     pub(crate) fn take_due(&mut self, but: Option<&SessionId>, bells: &mut Vec<B>) {
         let own = self.number_of(but);
         self.round = self.round.wrapping_add(1);

@@ -121,7 +121,7 @@ fn end_all<K: Keeper + Drop>(
 }
 
 impl<K: Keeper + Drop, B: Bell + Clone + Drop> Dispatcher<K, B> {
-    // An engine none of whose sessions is open.
+    // An engine with no open session.
     fn of(alloc: Global, engine: Engine<K>) -> Dispatcher<K, B>
         requires { Runs (λ s. (t : SessionId) → is_open_in t s.sum ≡ false) engine.server }
         ensures dispatcher { result ≡ record { run = engine; lines = [] } }
@@ -138,9 +138,9 @@ impl<K: Keeper + Drop, B: Bell + Clone + Drop> Dispatcher<K, B> {
         }
     }
 
-    /// Starts over what the keeper holds, whose open sessions are ended first, in byte order of
-    /// their clients. Refused as the keeper refuses its server: Keeper, with Memory, Database or
-    /// BadRow; or where an end is refused: then those before it have been ended.
+    /// Starts over what the keeper holds: the open sessions are ended first, in byte order of their
+    /// clients. Refused as the keeper refuses its server: Keeper, with Memory, Database or BadRow;
+    /// or because an end is refused: then those before it have been ended.
     pub fn start(
         alloc: Global,
         keeper: K,
@@ -165,7 +165,7 @@ impl<K: Keeper + Drop, B: Bell + Clone + Drop> Dispatcher<K, B> {
         Ok(Dispatcher::of(alloc, engine))
     }
 
-    /// The server, where the engine isn't down.
+    /// The server, unless the engine is down.
     pub fn server(&self) -> Option<&Server>
         ensures { option_copied result ≡ self.now.run.server }
     {
@@ -277,8 +277,8 @@ impl<K: Keeper + Drop, B: Bell + Clone + Drop> Dispatcher<K, B> {
         self.lines.next_slow(alloc)
     }
 
-    /// Ends each session that didn't take its messages in time, in order, or, where that is refused,
-    /// leaves it marked.
+    /// Ends each session that didn't take its messages in time, in order, or leaves it marked if
+    /// its end is refused.
     pub fn end_slow(&mut self, alloc: Global, now: Moment)
         ensures ended { AreEnded now self.old.run.server self.new.run.server
             self.old.lines self.new.lines }
@@ -322,22 +322,22 @@ impl<K: Keeper + Drop, B: Bell + Clone + Drop> Dispatcher<K, B> {
         self.lines.strike(session, why);
     }
 
-    /// From now on the bell is due where something is put for the session, or given up.
+    /// From now on the bell is due when something is put for the session, or given up.
     pub fn hang(&mut self, alloc: Global, session: &SessionId, bell: B) -> Result<(), AllocError>
         ensures { self.new ≡ self.old }
     {
         self.bells.hang(session.copy(alloc)?, bell)
     }
 
-    /// The session's bell goes.
+    /// Removes the session's bell.
     pub fn take_down(&mut self, session: &SessionId)
         ensures { self.new ≡ self.old }
     {
         self.bells.remove(session);
     }
 
-    /// Hands out each bell that is due, once, but this session's, whose connection asks. They are to
-    /// be rung once no lock is held; one for which the list has no memory is rung at once.
+    /// Hands out each bell that is due, once, except that of this session, whose connection asks.
+    /// Ring them once no lock is held; one for which the list has no memory is rung at once.
     pub fn take_due(&mut self, but: Option<&SessionId>, bells: &mut Vec<B>)
         ensures { self.new ≡ self.old }
     {

@@ -1,4 +1,4 @@
-//! Whom writes touch, found in the tree of paths.
+//! Finds the listeners that writes touch, in the tree of paths.
 
 ghost use Rattle.std.specs.Prelude.{◌≡◌, ◌<◌, ◌++◌, ◌∷◌, [], Bool, true, length, take, IfOk, OnOk};
 ghost use Rattle.std.specs.List.{list_any, AllByRecursion};

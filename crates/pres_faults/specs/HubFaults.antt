@@ -1,4 +1,4 @@
--- The engine's refusals, as a hub tells them.
+-- The engine's refusals, as a hub names them.
 use Rattle.pres_faults.specs.declared.engine_fault.EngineFault.{EngineFault}
 use Rattle.pres_faults.specs.declared.engine_fault.EngineFault.TheVariants as engine
 use Rattle.pres_faults.specs.declared.hub_fault.HubFault.{HubFault}

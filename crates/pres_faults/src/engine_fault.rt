@@ -14,12 +14,12 @@ pub enum EngineFault {
     /// The server refused the input, and is as it was.
     #[error("{0}")]
     Refused(Fault),
-    /// The keeper refused the batch, and the server is as it was; or the server's batches weren't
-    /// to be had.
+    /// The keeper refused the batch, and the server is as it was; or the server's batches could not
+    /// be read.
     #[error("{0}")]
     Keeper(SavedFault),
-    /// An allocation was refused after a batch was kept, so there is no server any more: it is to
-    /// be made again from the keeper.
+    /// An allocation was refused after a batch was kept, so there is no server any more: it has to
+    /// be rebuilt from the keeper.
     #[error("down")]
     Down,
 }

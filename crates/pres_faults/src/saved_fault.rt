@@ -20,7 +20,7 @@ pub enum SavedFault {
     /// The database holds other tables, or none.
     #[error("not a database of saved rows")]
     NotOurs,
-    /// The first row that is none: the number that was due there. Saved rows count from 1.
+    /// The first bad row: the number that was due there. Saved rows count from 1.
     #[error("row {0} is bad")]
     BadRow(Count),
     /// The rows are kept in another format.

@@ -29,9 +29,9 @@ pub struct OpenedFile<S: Alter> {
     pub is_new: bool,
 }
 
-/// The keeper over the tables of a database, which are made where it holds nothing at all. Refused
-/// as `SqlKeeper` refuses the database, which comes back as it was, whoever made it: NotOurs, where
-/// it holds other tables; Version, where its format is another.
+/// The keeper over the tables of a database, which are made if it holds nothing at all. Refused as
+/// `SqlKeeper` refuses the database, which comes back as it was, whoever made it: NotOurs if it
+/// holds other tables; Version if its format is another.
 pub fn keeper_over<S: Alter + Drop>(
     alloc: Global,
     connection: Connection<S>,
@@ -171,8 +171,8 @@ pub fn keeper_for<S: Alter + Drop>(
     }
 }
 
-/// The keeper over the file at the path, which is made where it is absent or holds no database yet,
-/// with small pages. Database where it can't be opened, or is no database.
+/// The keeper over the file at the path, which is made with small pages if it is absent or holds no
+/// database yet. Database if it can't be opened, or is no database.
 ///
 /// `S` stands for what the files held. No code can read it, so what is said holds whatever they held.
 pub fn keeper_from<S: Start>(

@@ -27,13 +27,13 @@ use std::io::ErrorKind;
 // one more, which counts it; most batches have a few hundred bytes, so small pages make it cheaper.
 const PAGE_SIZE: usize = 1024;
 
-// How many pages the write-ahead log has before they are copied into the database. A copy syncs four
-// times, whatever it copies, so it is to come seldom: a log of small pages has as many bytes so as
-// SQLite's own, of 1,000 pages of 4,096.
+// How many pages the write-ahead log has before they are copied into the database. A copy syncs
+// four times, whatever it copies, so it should be rare: a log of small pages has as many bytes as
+// SQLite's own default, of 1,000 pages of 4,096.
 const LOG_PAGES: usize = 4_000;
 
-/// The database in the file at the path, which is made, with small pages, where there is none yet. A
-/// crash leaves none, or the empty one. Files with pages of any size keep them.
+/// The database in the file at the path, which is made, with small pages, if there is none yet. A
+/// crash leaves none, or the empty one. Files with pages of another size keep them.
 ///
 /// `S` stands for what the files held. No code can read it, so what is said holds whatever they held.
 pub fn connect<S: Start>(

@@ -1,5 +1,5 @@
--- What a session listens to, read off the log, and what an entry touches of it. A listener gets the whole value at its
--- path, as a value listener of Firebase Realtime Database does.
+-- What a session listens to, computed from the log, and what an entry touches of it. A listener gets the whole value at
+-- its path, as a value listener of Firebase Realtime Database does.
 use Rattle.std.specs.Prelude.{not, List, [], fold, filter}
 use Rattle.pres_tree.specs.Paths.{Path, same_path}
 use Rattle.pres_ids.specs.declared.id.SessionId.{SessionId}

@@ -1,4 +1,4 @@
--- The writes of a client and what became of them, read off the log. Write n of a client is its n-th.
+-- The writes of a client and their outcomes, computed from the log. Write n of a client is its n-th.
 use Rattle.std.specs.Prelude.{ℕ, List, length, Option, Some, None, if◌then◌else◌}
 use Rattle.std.specs.List.{filter_map}
 use Rattle.pres_write.specs.Outcomes.{kept_of}

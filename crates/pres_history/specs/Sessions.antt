@@ -1,5 +1,5 @@
--- Sessions, read off the entries of the log. That a client has one session at a time, and how sessions are
--- numbered, is ours: Firebase doesn't say how its server tells a client's connections apart.
+-- Sessions, computed from the entries of the log. That a client has one session at a time, and how sessions are
+-- numbered, is ours: Firebase doesn't say how its server distinguishes a client's connections.
 use Rattle.std.specs.Prelude.{ℕ, Bool, false, ◌&&◌, not, List, map, length, Option, Some, None}
 use Rattle.std.specs.List.{list_any, list_all, filter, filter_map, after_first, last_or}
 use Rattle.std.specs.Option.{option_map}

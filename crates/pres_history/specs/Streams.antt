@@ -1,4 +1,4 @@
--- What a session is sent: the stream of its messages, read off the log, and what a committed batch answers. The
+-- What a session is sent: the stream of its messages, computed from the log, and the answers to a committed batch. The
 -- numbers of messages are ours.
 use Rattle.std.specs.Prelude.{ℕ, ◌+◌, ◌-◌, Bool, true, false, not, List, [], ◌∷◌, ◌++◌, map, filter, length, Option, Some, None, if◌then◌else◌, slice_get, drop}
 use Rattle.std.specs.List.{before_first, flat_map}

@@ -1,4 +1,4 @@
--- What the calls of a hub's core make of a log that stands.
+-- What the calls of a hub's core do to a log that stands.
 use Rattle.std.specs.Prelude.{ℕ, zero, suc, List, [], ◌∷◌, Option, inl, inr}
 use Rattle.pres_ids.specs.declared.id.SessionId.{SessionId}
 use Rattle.pres_ids.specs.declared.id.Why.{Why}

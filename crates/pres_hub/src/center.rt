@@ -33,7 +33,7 @@ use std::alloc::Global;
 use std::marker::Model;
 use std::sync::ledger::{Blank, Ledger};
 
-/// What a hub answers a message that was taken: the number of the server's last entry then.
+/// A hub's answer to a message that was taken: the number of the server's last entry then.
 #[derive(Clone, Copy, Debug, PartialEq, Eq)]
 pub struct Said {
     pub number: u64,
@@ -136,9 +136,9 @@ fn take_message<L: Ledger, K: Keeper + Drop, B: Bell + Clone + Drop>(
 }
 
 impl<L: Ledger, K: Keeper + Drop, B: Bell + Clone + Drop> Core<L, K, B> {
-    /// Starts a hub over what the keeper holds, whose open sessions are ended first, in byte order
-    /// of their clients. Refused as the keeper refuses its server: Keeper, with Memory, Database or
-    /// BadRow; or where an end is refused: then those before it have been ended.
+    /// Starts a hub over what the keeper holds: the open sessions are ended first, in byte order of
+    /// their clients. Refused as the keeper refuses its server: Keeper, with Memory, Database or
+    /// BadRow; or because an end is refused: then those before it have been ended.
     pub fn start(
         alloc: Global,
         blank: Blank,
@@ -318,8 +318,8 @@ impl<L: Ledger, K: Keeper + Drop, B: Bell + Clone + Drop> Core<L, K, B> {
         }
     }
 
-    /// Ends the sessions that are marked, in their order, and then those whose leases ran out: how
-    /// many. It stops at the first end that is refused, and what was ended stays so.
+    /// Ends the sessions that are marked, in their order, and then those whose leases ran out, and
+    /// returns how many. It stops at the first end that is refused; the ends before it stand.
     pub fn tick(&mut self, now: Moment) -> Result<u64, HubFault>
         ensures ended { IfOk result (λ n. self.new.run.number ≡ self.old.run.number + n) }
         ensures ticked { OnOk result
@@ -386,8 +386,8 @@ impl<L: Ledger, K: Keeper + Drop, B: Bell + Clone + Drop> Core<L, K, B> {
         self.event(end_by(why, ended), now)
     }
 
-    /// Takes the seat, and ends its session, where that is open. Where the end is refused the
-    /// session is marked.
+    /// Takes the seat, and ends its session, if that is open. If the end is refused the session is
+    /// marked.
     pub fn leave(&mut self, seat: Seat<L>, why: Why, now: Moment) -> Parting<L>
         ensures made { result.made ≡ seat.made }
         ensures ended { IfNone result.fault (IsCarriedOut (end_by why seat.session) now
@@ -446,7 +446,7 @@ impl<L: Ledger, K: Keeper + Drop, B: Bell + Clone + Drop> Core<L, K, B> {
         None
     }
 
-    /// From now on the bell is due where something is put for the seat's session, or given up.
+    /// From now on the bell is due when something is put for the seat's session, or given up.
     pub fn hang(&mut self, seat: &Seat<L>, bell: B) -> Result<(), HubFault>
         ensures same { self.new ≡ self.old }
         ensures memory { IfErr result (λ e. e ≡ Memory) }
@@ -455,8 +455,8 @@ impl<L: Ledger, K: Keeper + Drop, B: Bell + Clone + Drop> Core<L, K, B> {
         Ok(())
     }
 
-    /// Hands out each bell that is due, once, but this session's, whose connection asks. They are to
-    /// be rung once the lock is free; one for which the list has no memory is rung at once.
+    /// Hands out each bell that is due, once, except that of this session, whose connection asks.
+    /// Ring them once the lock is free; one for which the list has no memory is rung at once.
     pub fn take_due(&mut self, but: Option<&SessionId>, bells: &mut Vec<B>)
         ensures { self.new ≡ self.old }
     {

@@ -1,4 +1,4 @@
--- What a turn makes of an engine.
+-- What a turn does to an engine.
 use Rattle.std.specs.Prelude.{◌≡◌, ◌⊎◌, ℕ, true, List, [], ◌∷◌, ◌++◌, Option, Some, None}
 use Rattle.pres_wire.specs.declared.down.Down.{Down}
 use Rattle.pres_log.specs.declared.fault.Fault.TheVariants.{Busy as OutOfMemory}

@@ -49,8 +49,8 @@ impl<K: Keeper + Drop> Drop for Engine<K> {
 
 impl<K: Keeper + Drop> Engine<K> {
     /// The server that the keeper's batches make, all that can be read of it. Refused as the keeper
-    /// refuses it: `Keeper` with Memory, Database, or `BadRow` with the number of the first row that
-    /// is no batch, or none that may follow those before it.
+    /// refuses it: `Keeper` with Memory, Database, or `BadRow` with the number of the first row
+    /// that is no batch, or that may not follow those before it.
     pub fn open(mut keeper: K) -> Result<Engine<K>, (EngineFault, K)>
         requires ready { K.ready keeper }
         ensures made { IfOk result (λ e. Runs (λ s. s ≡ resumed s.sum) e.server) }
@@ -127,8 +127,8 @@ impl<K: Keeper + Drop> Engine<K> {
     /// Does what the input asks for, at the later of the given moment and the greatest one so far:
     /// its batch is kept first, and then answered. Whatever a crash leaves from then on begins with
     /// the log that was answered, also a crash in a later call. With the server as it was: Refused,
-    /// as the server refuses the input; Memory; Keeper, where the batch isn't kept. Down, from then
-    /// on, where memory is refused after the batch was kept.
+    /// as the server refuses the input; Memory; Keeper, if the batch isn't kept. Down, from then
+    /// on, if memory is refused after the batch was kept.
     ///
     /// A log that leads to the server's sum, and that the keeper holds as long as it works, still
     /// is and does so after the turn, with the turn's batch appended.

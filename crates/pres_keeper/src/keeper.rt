@@ -53,10 +53,10 @@ pub trait Keeper {
     // back what was written.
     ghost outlasts: { Self → Log → Type 0 };
 
-    /// Adds the batch, for good: once that is answered, whatever a crash leaves has it, also a crash
-    /// in a later call. Memory or Database: a refusal leaves the batches as they were, as long as
-    /// the store works; after a crash they are found without the batch or with it. A store that was
-    /// shut refuses everything.
+    /// Adds the batch, for good: once the call returns, whatever a crash leaves has it, also a
+    /// crash in a later call. Memory or Database: a refusal leaves the batches as they were, as
+    /// long as the store works; after a crash they are found without the batch or with it. A store
+    /// that was shut refuses everything.
     fn commit(&mut self, batch: &Batch) -> Result<(), SavedFault>
         ensures ready { ready self.old → ready self.new }
         ensures worked { ready self.old → works self.new → works self.old }

@@ -1,4 +1,4 @@
-//! A keeper that is ready where something is taken for granted.
+//! A keeper that is ready if an assumption holds.
 
 ghost use Rattle.std.specs.Prelude.{◌≡◌};
 
@@ -7,8 +7,8 @@ use pres_faults::SavedFault;
 use pres_server::{Batch, Server};
 use std::marker::{Brand, Model, PhantomData};
 
-/// What a program takes for granted, such as that the tables that were found in a file are those of the
-/// statements. Who calls a function over a premise picks it, and so has to say what it is.
+/// An assumption of a program, such as that the tables that were found in a file are those of the
+/// statements. The caller of a function with such a premise picks it, and so has to state it.
 pub trait Premise {
     // It holds.
     ghost holds: { Type 0 };
@@ -20,8 +20,8 @@ impl Premise for Brand {
     ghost holds = { ⊤ };
 }
 
-/// A keeper that is ready where the premise holds. Contracts see the keeper; all that they promise
-/// of a store that works is promised where the premise holds too.
+/// A keeper that is ready if the premise holds. Contracts see the keeper; all that they promise of
+/// a store that works is promised if the premise holds too.
 pub struct Supposed<K: Keeper, P: Premise> {
     keeper: K,
     premise: PhantomData<P>,

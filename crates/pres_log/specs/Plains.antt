@@ -1,4 +1,4 @@
--- The log of one writer, as what it amounts to.
+-- The log of one writer, by its effect.
 use Rattle.std.specs.Prelude.{◌+◌, ℕ, [], max}
 use Rattle.pres_tree.specs.declared.scalar.Scalar.{Scalar}
 use Rattle.pres_tree.specs.Rows.{Rows}

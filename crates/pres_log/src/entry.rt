@@ -18,8 +18,7 @@ pub enum Entry {
     Open {
         session: SessionId,
     },
-    /// By the session's message `q` its client's write `n` was carried out, and came to the
-    /// outcome.
+    /// The session's message `q` carried out its client's write `n`, with the outcome.
     Op {
         session: SessionId,
         q: Number,
@@ -27,7 +26,7 @@ pub enum Entry {
         op: Op,
         outcome: Outcome,
     },
-    /// By the session's message `q` its client's write `n` came again. It stands already.
+    /// The session's message `q` sent its client's write `n` again. It was done already.
     Again {
         session: SessionId,
         q: Number,
@@ -41,13 +40,13 @@ pub enum Entry {
         why: Why,
         rows: Items<Basic>,
     },
-    /// By its message `q` the session left the puts for its end.
+    /// The session's message `q` registered the puts for its end.
     Left {
         session: SessionId,
         q: Number,
         puts: Puts,
     },
-    /// By its message `q` the session took back what it had left at the path and below it.
+    /// The session's message `q` cancelled what it had registered at the path and below it.
     Cancelled {
         session: SessionId,
         q: Number,
@@ -59,13 +58,13 @@ pub enum Entry {
         q: Number,
         why: Limit,
     },
-    /// By its message `q` the session listens to the path.
+    /// The session's message `q` listens to the path.
     On {
         session: SessionId,
         q: Number,
         path: Path,
     },
-    /// By its message `q` the session listens to the path no more.
+    /// The session's message `q` listens to the path no more.
     Off {
         session: SessionId,
         q: Number,
@@ -117,7 +116,7 @@ fn copied_end(
     })
 }
 
-// An equal entry of puts that were left.
+// An equal entry of registered puts.
 fn copied_left(
     alloc: Global,
     session: &SessionId,

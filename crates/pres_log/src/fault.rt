@@ -13,14 +13,14 @@ pub enum Fault {
     /// It isn't a message.
     #[error("not a message")]
     Bad,
-    /// A session is to be opened that isn't newer than the last one of its client, whose stamp
-    /// this is.
+    /// A session is to be opened that isn't newer than the last one of its client, whose stamp this
+    /// is.
     #[error("not newer than the last session")]
     Old(Stamp),
     /// The session isn't open.
     #[error("the session is not open")]
     Session,
-    /// It leaves out a message of its session, or a write of its client.
+    /// It skips a message of its session, or a write of its client.
     #[error("out of order")]
     Order,
     /// As many sessions are open as the server takes.

@@ -57,7 +57,7 @@ impl Log {
         Ok(())
     }
 
-    /// Takes the last batch away, where there is one. It takes no memory.
+    /// Removes the last batch, if there is one. It takes no memory.
     pub fn pop(&mut self) -> Option<Batch>
         ensures { MatchOption result
             ((self.old ≡ []) × (self.new ≡ []))

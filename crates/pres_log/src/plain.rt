@@ -41,8 +41,8 @@ impl Plain {
         }
     }
 
-    /// Carries out the operation at the later of the given moment and the greatest one so far,
-    /// and answers its number. At Busy and at Spent the log is as it was.
+    /// Carries out the operation at the later of the given moment and the greatest one so far, and
+    /// returns its number. After Busy and Spent the log is as it was.
     pub fn apply(&mut self, op: &Op, now: Moment) -> Result<(Number, Kept), Fault>
         ensures answer { IfOk result (λ answer.
             answer ≡ (self.old.number + 1, kept_after self.old op.now now)) }

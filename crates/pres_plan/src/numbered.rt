@@ -10,7 +10,7 @@ use crate::row::PlanRow;
 use std::alloc::{AllocError, Global};
 use std::marker::Model;
 
-/// Rows with their numbers, in one list, which is searched by halves: a plan has few. Contracts see
+/// Rows with their numbers, in one list, which binary search reads: a plan has few. Contracts see
 /// the list, in the order of the numbers.
 #[derive(Drop)]
 pub(crate) struct Numbered {
@@ -55,7 +55,8 @@ impl Numbered {
         self.list.as_slice()
     }
 
-    // A number after those of all rows. None is left after 2^64 rows; that is refused as memory is.
+    // A number after those of all rows. None is left after 2^64 rows; that is refused as a failed
+    // allocation is.
     pub(crate) fn next_number(&self) -> Option<u64>
         ensures { IfSome result (λ n. All (λ e. e.0 < n) self.now) }
     {

@@ -51,7 +51,7 @@ impl Spot {
     }
 }
 
-/// The spots by their paths, in one list, which is searched by halves: a plan has few. Contracts see
+/// The spots by their paths, in one list, which binary search reads: a plan has few. Contracts see
 /// the list, in path order.
 #[derive(Drop)]
 pub(crate) struct Places {
@@ -154,7 +154,7 @@ impl Places {
         Ok(())
     }
 
-    // Takes from the path's spot that the row of the number stands there. It takes no memory.
+    // The path's spot no longer has the row of the number. It takes no memory.
     pub(crate) fn forget(&mut self, path: &Path, number: u64)
         ensures told { (other : Path) → numbers_of (spot_at other self.new)
             ≡ (if same_path other path.now then without number (numbers_of (spot_at other self.old))

@@ -110,8 +110,8 @@ impl Plan {
         self.standing.top_above(path).is_some()
     }
 
-    /// Leaves a draft, in the place of all that was left at the path and below it. Full where the
-    /// plan would have more than `MOST_ROWS` rows.
+    /// Registers a draft, which replaces all that was registered at the path and below it. Full if
+    /// the plan would have more than `MOST_ROWS` rows.
     pub fn put(&mut self, alloc: Global, q: Number, placement: Placement) -> Result<(), PlanFault>
         requires last { ComesLast q placement.0 self.old }
         ensures ok { OnOk result (self.new ≡ plan_of (self.old ++ puts q (placement ∷ []))) }
@@ -128,7 +128,7 @@ impl Plan {
         Ok(())
     }
 
-    /// Leaves drafts at several places, as puts in path order. Full where the plan would have more
+    /// Registers drafts at several places, as puts in path order. Full if the plan would have more
     /// than `MOST_ROWS` rows.
     pub fn update(&mut self, alloc: Global, q: Number, placements: Puts) -> Result<(), PlanFault>
         requires last { All (λ p. ComesLast q p.0 self.old) placements }
@@ -145,8 +145,8 @@ impl Plan {
         Ok(())
     }
 
-    /// Takes back what was left at the path and below it. Where a put above the path stays, a row
-    /// lets the place keep its value; Full where the plan would have more than `MOST_ROWS` rows.
+    /// Cancels what was registered at the path and below it. If a put above the path stays, a row
+    /// lets the place keep its value; Full if the plan would have more than `MOST_ROWS` rows.
     pub fn cancel(&mut self, alloc: Global, q: Number, path: &Path) -> Result<(), PlanFault>
         requires last { ComesLast q path.now self.old }
         ensures ok { OnOk result (self.new ≡ plan_of (self.old ++ cancels q path.now)) }
@@ -167,7 +167,7 @@ impl Plan {
         Ok(())
     }
 
-    /// What is due where the session ends with this tree at the moment, in the order of the rows.
+    /// What is due if the session ends with this tree at the moment, in the order of the rows.
     /// Memory is the one refusal.
     pub fn due(&self, alloc: Global, tree: &Tree, moment: Moment) -> Result<Vec<DueRow>, PlanFault>
         ensures rows { IfOk result (λ made. made.items ≡ due_rows tree.now moment self.now) }

@@ -10,12 +10,12 @@ use pres_tree::{Path, Tree};
 use pres_write::{Basic, Draft, Moment, Placement, settle};
 use std::alloc::{AllocError, Global};
 
-/// What is left for a place.
+/// An action for a place.
 #[derive(Drop)]
 pub enum Action {
     /// The draft is written there.
     Put(Placement),
-    /// The place keeps its value, where the put of a place above it would take that away.
+    /// The place keeps its value, which the put of a place above it would overwrite.
     Keep(Path),
 }
 

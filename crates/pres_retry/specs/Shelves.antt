@@ -39,7 +39,7 @@ abbrev pub kept_by : Option (Option (Rows Scalar)) → Kept
 kept_by None = Wrote
 kept_by (Some held) = Stale held
 
--- what write n came to
+-- the outcome of write n
 abbrev pub kept_at : ℕ → StaleValues → Kept
 kept_at n stale = kept_by (stale_at n stale)
 

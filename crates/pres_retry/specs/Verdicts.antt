@@ -33,7 +33,7 @@ lent_kept (lent.Stale held) = kept.Stale (option_copied held)
 abbrev pub lent_row : Answer → Row
 lent_row answer = row answer.done (lent_kept answer.kept)
 
--- what a verdict tells
+-- what a verdict says
 abbrev pub status_of : Verdict → WriteStatus
 status_of New = fresh
 status_of (Again answer) = again (lent_row answer)

@@ -11,9 +11,9 @@ use rtrb::Consumer;
 use std::alloc::Global;
 use std::marker::Model;
 
-/// The end of a session's ring from which its connection takes messages. Contracts see the
-/// session, what was taken, and what is known to come next; what was taken is at all times a
-/// beginning of what some legal log tells the session: nothing, or its Welcome and its stream so far.
+/// The end of a session's ring from which its connection takes messages. Contracts see the session,
+/// what was taken, and what is known to come next; what was taken is at all times a beginning of
+/// the session's transcript in some legal log: nothing, or its Welcome and its stream so far.
 #[derive(Drop)]
 pub struct Outbox {
     session: SessionId,

@@ -6,7 +6,7 @@ use rtrb::Protocol;
 /// At most this many messages wait on a ring.
 pub const CAPACITY: usize = 256;
 
-/// What is put on a ring is a beginning of what some legal log tells some session.
+/// What is put on a ring is a beginning of some session's transcript in some legal log.
 pub struct Rule;
 
 impl Protocol<Down> for Rule {

@@ -1,4 +1,4 @@
--- Rows that are taken one at a time: what each makes of the log or the sum so far, and why one is refused.
+-- Rows that are taken one at a time: what each does to the log or the sum so far, and why one is refused.
 use Rattle.std.specs.Prelude.{◌≡◌, ◌⊎◌, ◌+◌, ◌≤◌, ℕ, [], ◌∷◌, ◌++◌, length, Some, None}
 use Rattle.pres_ids.specs.Numbers.{greatest_number}
 use Rattle.pres_log.specs.declared.entry.Batch.{Batch}

@@ -1,5 +1,5 @@
-//! A keeper whose batches are rows of a SQLite database, of which a server is made again, and one that
-//! tells what became of each commit.
+//! A keeper whose batches are rows of a SQLite database, from which a server is rebuilt, and one
+//! that reports the fate of each commit.
 #![tactic(auto)]
 
 mod replaying;

@@ -173,8 +173,8 @@ impl<S: Alter + Drop> SqlKeeper<S> {
         Ok(made.finish())
     }
 
-    /// Whether the store still answers: reads its first row, where there is one. Refused where it gives
-    /// none, as Database where the store was shut.
+    /// Whether the store still answers: reads its first row, if there is one. Refused if the read
+    /// fails, as Database if the store was shut.
     pub fn probe(&mut self) -> Result<(), SavedFault>
         ensures left { HasCleanDisk (state S.Store self.new.connection) → Serves S.Store self.old
             → IsLeft (state S.Store self.old.connection) (state S.Store self.new.connection) }

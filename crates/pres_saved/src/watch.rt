@@ -22,7 +22,8 @@ pub enum Commit {
     Taken,
     /// It was refused, and the next one may be taken.
     Refused,
-    /// It was refused, and the store answers no read any more: it was shut, and refuses each later one.
+    /// It was refused, and the store answers no read any more: it was shut, and refuses each later
+    /// commit.
     Shut,
 }
 
@@ -32,7 +33,7 @@ pub trait Watch {
     fn note(&self, commit: Commit);
 }
 
-/// A keeper over a database that tells of each commit what became of it. Contracts see the keeper.
+/// A keeper over a database that reports the fate of each commit. Contracts see the keeper.
 pub struct Watched<S: Alter, W: Watch> {
     keeper: SqlKeeper<S>,
     watch: W,
@@ -65,7 +66,7 @@ impl<S: Alter + Drop, W: Watch> Watched<S, W> {
         Watched { keeper, watch }
     }
 
-    // Tells of a commit that was refused, by whether the store still answers.
+    // Reports a commit that was refused, by whether the store still answers.
     fn note_refusal(&mut self)
         ensures ready { IsReady S.Store self.old → IsReady S.Store self.new }
         ensures worked { IsReady S.Store self.old → Works S.Store self.new

@@ -9,7 +9,7 @@ use std::alloc::{AllocError, Global};
 use std::io;
 use std::io::{ErrorKind, Read};
 
-// The reads that the end of the input has to come within.
+// How many reads may pass before the end of the input.
 const MOST_READS: u64 = 4_294_967_295;
 
 // The bytes that one read of the input may bring.

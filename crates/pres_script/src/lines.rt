@@ -190,7 +190,7 @@ fn path_of(alloc: Global, text: &str) -> Result<Path, LineFault>
     }
 }
 
-// Why what the tree refuses names no call.
+// Why a refusal by the tree names no call.
 fn unread_of(fault: TreeFault) -> LineFault
     ensures { result ≡ of_fault fault }
 {

@@ -21,7 +21,7 @@ pub fn notice_line(alloc: Global, notice: &Notice) -> Result<Vec<u8>, AllocError
     Ok(line)
 }
 
-// What the notice tells before its value.
+// The notice's text before its value.
 fn words_of(alloc: Global, notice: &Notice) -> Result<String, AllocError>
     ensures { IfOk result (λ text. string_bytes text ≡ words_of notice.now) }
 {

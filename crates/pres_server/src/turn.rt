@@ -541,7 +541,7 @@ impl Index {
         effect_of(self.off_entries(alloc, session, q, path, now))
     }
 
-    // What a Beat asks for: nothing, but its client was heard of.
+    // What a Beat asks for: nothing, but its client counts as heard of.
     fn decide_beat(&self, session: SessionId, now: TurnTime) -> Result<TurnEffect, Fault>
         ensures { DecidesOn self.now now (input.Up (up.Beat session)) result }
     {

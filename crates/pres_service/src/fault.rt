@@ -10,7 +10,7 @@ use pres_websocket::SockFault;
 use std::alloc::{AllocError, AllocFailed};
 use thiserror::Error;
 
-/// Why a server or a client ends early. Its text is what the program says of it.
+/// Why a server or a client ends early. Its text is what the program prints.
 #[derive(Debug, Drop, Error)]
 pub enum ServiceFault {
     /// An allocation was refused.

@@ -1,5 +1,5 @@
-//! What `presence serve` and `presence client` do: a server over TCP that is kept in a file, and the
-//! calls of a client over TCP.
+//! What `presence serve` and `presence client` do: a server over TCP that is kept in a file, and
+//! the calls of a client over TCP.
 #![tactic(auto)]
 
 mod client;

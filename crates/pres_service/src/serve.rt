@@ -25,7 +25,7 @@ use std::thread::Threads;
 use std::time::{Clock, Instant};
 
 /// What a server is asked for: where it listens, where it keeps its batches, and how many
-/// connections it serves, none where it goes on.
+/// connections it serves, none if it runs on.
 #[derive(Clone, Copy)]
 pub struct ServeOptions<'a> {
     pub address: &'a str,
@@ -33,11 +33,11 @@ pub struct ServeOptions<'a> {
     pub connections: Option<u32>,
 }
 
-/// Opens the file, or makes it where it is absent or holds nothing, goes over what it holds, listens
-/// at the address, and serves connections. It says on the output where it listens, once it does, and
-/// at its end the number of the last entry; on the stream for faults, over an old file, how many
+/// Opens the file, or makes it if it is absent or holds nothing, goes over what it holds, listens
+/// at the address, and serves connections. It prints on the output where it listens, once it does,
+/// and at its end the number of the last entry; on the error stream, over an old file, how many
 /// entries it has and how long it took to read them, and when commits begin and end to be refused.
-/// Where it can't go on, as its store was shut or its hub is down, it ends early.
+/// It ends early if it can't go on, because its store was shut or its hub is down.
 pub fn serve_run<R, W: Write, F: Write>(
     host: &HostRuntime,
     rt: &R,
@@ -65,8 +65,8 @@ where
     }
 }
 
-// The number of the last entry. That the tables which were found are those of the statements is
-// taken for granted.
+// The number of the last entry. It is assumed that the tables which were found are those of the
+// statements.
 fn granted<S: Alter + Drop + Send, R, W: Write, F: Write>(
     rt: &R,
     alloc: Global,
@@ -219,7 +219,7 @@ where
     }
 }
 
-// Listens at the address, and says so.
+// Listens at the address, and prints so.
 fn listening<R: Net<Listener = TcpListener, Stream = TcpStream>, W: Write>(
     rt: &R,
     address: &str,

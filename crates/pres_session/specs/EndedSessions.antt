@@ -2,7 +2,7 @@
 use Rattle.pres_ids.specs.declared.id.Why.{Why}
 use Rattle.pres_session.specs.LiveSessions.{LiveState}
 
--- a session that is still to be paid for, as it was before its end, and why it ended
+-- a session whose plan is still to be carried out, as it was before its end, and why it ended
 pub record EndedSession (P : Type 0) : Type 0 where
   pub session : LiveState P
   pub why : Why

@@ -1,4 +1,4 @@
-//! Sessions that ended and are still to be paid for.
+//! Sessions that ended and whose plans are still to be carried out.
 
 ghost use Rattle.std.specs.Prelude.{◌≡◌};
 ghost use Rattle.pres_session.specs.OwedRows.{AreOwed};
@@ -58,7 +58,8 @@ impl<P> Due<P> {
 }
 
 impl<P: Pays + Drop> Due<P> {
-    /// Lets the session go: its plan owes these rows by some tree and moment, and they are written.
+    /// Ends with the session: its plan owes these rows by some tree and moment, and they are
+    /// written.
     pub fn spend(self, rows: &[Basic]) -> Gone
         requires { AreOwed P.owed self.session.plan rows.now }
         ensures { result ≡ self.session.stamp }

@@ -1,4 +1,4 @@
-//! Sessions that ended and are paid for.
+//! Sessions that ended and whose plans were carried out.
 
 ghost use Rattle.std.specs.Prelude.{◌≡◌, IsTrue, MatchResult, false};
 ghost use Rattle.pres_ids.specs.Ids.{is_earlier};

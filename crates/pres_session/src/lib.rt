@@ -1,4 +1,4 @@
-//! The life of a session: asked for, open, ended and paid for.
+//! The life of a session: asked for, open, ended, and gone once its plan was carried out.
 //!
 //! The types keep the steps in their order. A session that ended is a `Due`, which must not be
 //! dropped: either what its plan owes is written and the value spent, or the session is put back.

@@ -16,7 +16,7 @@ use std::alloc::{AllocError, Global};
 pub enum ScriptStep {
     /// It is an event.
     Event(Event),
-    /// It is a call whose path or JSON is refused.
+    /// It is a call with a refused path or refused JSON.
     Refused,
 }
 

@@ -75,7 +75,7 @@ fn play_with<W: Write>(
     ended
 }
 
-// Tells of the line that says nothing.
+// Prints the bad line.
 fn bad_line<W: Write>(output: &mut W, number: u64) -> ScriptFault
     ensures { result ≡ fault.Input }
 {
@@ -168,7 +168,7 @@ impl Play {
         self.finish(steps, bad, output)
     }
 
-    // Does what each step says, and tells how the world is then, or which line says nothing.
+    // Does what each step says, and prints the state of the world then, or which line is bad.
     fn finish<W: Write>(
         &mut self,
         steps: Vec<ScriptStep>,
@@ -210,7 +210,7 @@ impl Play {
         Ok(())
     }
 
-    // Does the event, and tells what it made, or why it is refused.
+    // Does the event, and prints what it made, or why it is refused.
     fn step<W: Write>(&mut self, event: Event, output: &mut W) -> Result<(), ScriptFault>
         ensures { IfErr result (λ e. (e ≡ fault.Memory) ⊎ (e ≡ fault.Input)) }
     {
@@ -226,7 +226,7 @@ impl Play {
         }
     }
 
-    // Tells of the packets that are new, and of what clients noted.
+    // Prints the packets that are new, and what clients noted.
     fn tell_news<W: Write>(&mut self, output: &mut W) -> Result<(), ScriptFault>
         ensures { IfErr result (λ e. (e ≡ fault.Memory) ⊎ (e ≡ fault.Input)) }
     {
@@ -235,7 +235,7 @@ impl Play {
         self.tell_notes(output)
     }
 
-    // Tells of the packets that clients have sent since.
+    // Prints the packets that clients have sent since.
     fn tell_ups<W: Write>(&mut self, output: &mut W) -> Result<(), ScriptFault>
         ensures { IfErr result (λ e. (e ≡ fault.Memory) ⊎ (e ≡ fault.Input)) }
     {
@@ -247,7 +247,7 @@ impl Play {
         Ok(())
     }
 
-    // Tells of the packets that the server has sent since.
+    // Prints the packets that the server has sent since.
     fn tell_downs<W: Write>(&mut self, output: &mut W) -> Result<(), ScriptFault>
         ensures { IfErr result (λ e. (e ≡ fault.Memory) ⊎ (e ≡ fault.Input)) }
     {
@@ -259,7 +259,7 @@ impl Play {
         Ok(())
     }
 
-    // Tells what clients have noted since.
+    // Prints what clients have noted since.
     fn tell_notes<W: Write>(&mut self, output: &mut W) -> Result<(), ScriptFault>
         ensures { IfErr result (λ e. (e ≡ fault.Memory) ⊎ (e ≡ fault.Input)) }
     {
@@ -270,7 +270,7 @@ impl Play {
         Ok(())
     }
 
-    // Tells how the world is at the end.
+    // Prints the state of the world at the end.
     fn end<W: Write>(&self, output: &mut W) -> Result<(), ScriptFault>
         ensures { IfErr result (λ e. (e ≡ fault.Memory) ⊎ (e ≡ fault.Input)) }
     {
@@ -283,7 +283,7 @@ impl Play {
         Ok(())
     }
 
-    // Tells the server's number and its tree.
+    // Prints the server's number and its tree.
     fn tell_server<W: Write>(&self, output: &mut W) -> Result<(), ScriptFault>
         ensures { IfErr result (λ e. (e ≡ fault.Memory) ⊎ (e ≡ fault.Input)) }
     {
@@ -299,7 +299,7 @@ impl Play {
         tell(output, line.as_slice())
     }
 
-    // Tells what the client shows of each path that was listened to.
+    // Prints what the client shows of each path that was listened to.
     fn tell_views<W: Write>(
         &self,
         output: &mut W,
@@ -371,7 +371,7 @@ fn tell_down<W: Write>(
     )
 }
 
-// Tells what the client noted.
+// Prints what the client noted.
 fn tell_notices<W: Write>(
     alloc: Global,
     output: &mut W,

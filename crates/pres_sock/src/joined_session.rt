@@ -29,7 +29,7 @@ pub(crate) struct JoinedSession<L: Ledger> {
     outbox: Outbox,
 }
 
-/// Opens the session, and hangs its bell, which is taken exactly where the session is opened. The bells
+/// Opens the session, and sets its bell, which is taken exactly if the session is opened. The bells
 /// of others that are due then are added to these.
 pub(crate) fn join<L: Ledger, K: Keeper + Drop, B: Bell + Clone + Drop, G: Gate, R: Wait>(
     visit: &HubAccess<'_, L, K, B, G, R>,

@@ -33,7 +33,7 @@ pub trait Clock {
     fn now(&mut self) -> u64;
 }
 
-// Whether the connection goes on, and who ends it else.
+// Whether the connection goes on, and else who ends it.
 #[derive(Drop)]
 enum Progress {
     GoOn,
@@ -70,7 +70,7 @@ impl<L: Ledger, B, S: Read + Write + Drop> Served<L, B, S> {
         self.step = send_all(alloc, &mut self.socket, &mut self.place);
     }
 
-    // What this read is answered with, and what waits for the session.
+    // The answer to this read, and what waits for the session.
     fn turn<K: Keeper + Drop, G: Gate, R: Wait, C: Clock>(
         &mut self,
         visit: &HubAccess<'_, L, K, B, G, R>,
@@ -157,7 +157,7 @@ pub fn serve_stream<
     (Some(parting), ended)
 }
 
-// Work that is done in a thread of its own, or in the caller's where none can be made.
+// Work that is done in a thread of its own, or in the caller's if no thread can be made.
 trait Task {
     type Output;
 
@@ -355,7 +355,7 @@ fn refuse<S: Read + Write + Drop>(
     Ok(ended)
 }
 
-// Puts the message into what is to be sent.
+// Writes the message to the send buffer.
 fn put<S: Read + Write + Drop>(
     alloc: Global,
     socket: &mut Socket<S, NoMask>,
@@ -495,7 +495,7 @@ fn turns<
     served.stop(SockFault::Turns);
 }
 
-// What this read is answered with, and what waits for the session.
+// The answer to this read, and what waits for the session.
 #[inline(never)]
 fn turn<
     L: Ledger,
@@ -525,7 +525,7 @@ fn turn<
     send_all(visit.alloc, socket, place)
 }
 
-// What answers this, where the hub's own messages don't.
+// The answer to this, unless the hub's own messages answer it.
 fn answer_to<L: Ledger, K: Keeper + Drop, B: Bell + Clone + Drop, G: Gate, R: Wait, C: Clock>(
     visit: &HubAccess<'_, L, K, B, G, R>,
     place: &mut JoinedSession<L>,
@@ -546,7 +546,7 @@ fn answer_to<L: Ledger, K: Keeper + Drop, B: Bell + Clone + Drop, G: Gate, R: Wa
     }
 }
 
-// Puts the answer into what is to be sent, where there is one.
+// Writes the answer to the send buffer, if there is one.
 fn put_answer<S: Read + Write + Drop>(
     alloc: Global,
     socket: &mut Socket<S, NoMask>,
@@ -585,7 +585,7 @@ fn send_all<L: Ledger, S: Read + Write + Drop>(
     Ok(step)
 }
 
-// Puts the next message into what is to be sent, where there is one, and says whether it is Gone.
+// Writes the next message to the send buffer, if there is one, and returns whether it is Gone.
 fn put_next<L: Ledger, S: Read + Write + Drop>(
     alloc: Global,
     socket: &mut Socket<S, NoMask>,

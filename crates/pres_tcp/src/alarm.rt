@@ -24,7 +24,7 @@ impl Alarm {
         }
     }
 
-    /// Before a wait: says that the stream sleeps from now on. `false` where the bell was rung, and
+    /// Before a wait: says that the stream sleeps from now on. `false` if the bell was rung, and
     /// then there is nothing to wait for.
     pub(crate) fn may_sleep(&self) -> bool {
         self.sleeps.store(true, Ordering::SeqCst);
@@ -63,7 +63,7 @@ impl Clone for StreamBell {
 }
 
 impl Bell for StreamBell {
-    // Where the wake fails the stream sees it when its wait has timed out.
+    // If the wake fails the stream sees it when its wait has timed out.
     fn ring(&self) {
         self.alarm.rung.store(true, Ordering::SeqCst);
         if self.alarm.sleeps.swap(false, Ordering::SeqCst) {

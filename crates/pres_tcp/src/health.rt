@@ -49,7 +49,7 @@ impl Health {
         }
     }
 
-    /// Takes note of a commit that was refused, or taken. One thread at a time may tell of commits.
+    /// Notes a commit that was refused, or taken. Only one thread at a time may report commits.
     pub fn note_commit(&self, is_refused: bool) {
         let was_refused = is_odd(self.changes.load(Ordering::SeqCst));
         if is_refused != was_refused {

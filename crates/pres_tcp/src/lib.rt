@@ -1,6 +1,6 @@
 //! The connections of the machine: TCP streams whose waiting reads a bell ends, a thread for each
-//! connection of a hub, and one that looks each second which sessions are to end, until the hub can't go
-//! on. It hands on the names of a hub that whoever serves one needs.
+//! connection of a hub, and one that looks each second which sessions are to end, until the hub
+//! can't go on. It re-exports the names of a hub that its users need.
 #![tactic(auto)]
 
 mod alarm;

@@ -1,9 +1,9 @@
-//! What is said of commits on the stream for faults.
+//! What is printed about commits on the error stream.
 
 use crate::health::{Health, is_odd};
 use std::io::Write;
 
-/// Says when commits begin to be refused, and when they are taken again.
+/// Prints when commits begin to be refused, and when they are taken again.
 #[derive(Drop)]
 pub(crate) struct CommitNotices {
     // How many changes of the fate of commits were reported.
@@ -11,12 +11,12 @@ pub(crate) struct CommitNotices {
 }
 
 impl CommitNotices {
-    /// Nothing was said yet.
+    /// Nothing was printed yet.
     pub(crate) fn new() -> CommitNotices {
         CommitNotices { told: 0 }
     }
 
-    /// Says what became of commits since it was said last: both, where it changed and changed back.
+    /// Prints the fate of commits since the last time: both, if it changed and changed back.
     pub(crate) fn tell<F: Write>(&mut self, health: &Health, faults: &mut F) {
         let changes = health.changes();
         if changes == self.told {
@@ -30,7 +30,7 @@ impl CommitNotices {
     }
 }
 
-// Where the stream for faults fails nothing is left to say.
+// If the error stream fails there is nothing left to do.
 fn tell_commit<F: Write>(faults: &mut F, is_refused: bool) {
     let line: &[u8] = if is_refused {
         b"presence: commits are refused\n"

@@ -24,10 +24,10 @@ use std::time::{Clock, Duration, SystemTime, UNIX_EPOCH};
 // How long a read waits for bytes or for its bell, in milliseconds.
 const READ_MILLIS: u64 = 50;
 
-// How often it is looked which sessions are to end.
+// How often it looks which sessions are to end.
 const TICK_MILLIS: u64 = 1_000;
 
-// How often it is looked whether the last connections are over, where no further one is accepted.
+// How often it looks whether the last connections are over, once no further one is accepted.
 const LAST_MILLIS: u64 = 10;
 
 // What answers a peer that opened no WebSocket (RFC 6455, 4.2.2 and 4.4; RFC 9110, 15.5.22).
@@ -39,8 +39,8 @@ const UPGRADE_REQUIRED: &[u8] = b"HTTP/1.1 426 Upgrade Required\r\n\
     \r\n\
     A WebSocket is served here.\n";
 
-/// The time of the machine, in milliseconds since 1970. Where the clock can't be read it is as it
-/// was read last.
+/// The time of the machine, in milliseconds since 1970. If the clock can't be read it is as it was
+/// read last.
 #[derive(Drop)]
 pub struct WallClock<'a, R> {
     rt: &'a R,
@@ -67,9 +67,9 @@ impl<R: Clock> pres_sock::Clock for WallClock<'_, R> {
 
 /// Serves each connection that comes in a thread of its own, and each second, in a further one,
 /// ends the sessions that are to end. With a count it returns once that many connections have
-/// ended; else it goes on. It ends early where the server can't go on: then no connection is
-/// accepted any more, those that are open are closed, and it prints why. It prints on the stream
-/// for faults when commits begin to be refused, and when they are taken again.
+/// ended; else it goes on. It ends early if the server can't go on: then no connection is accepted
+/// any more, those that are open are closed, and it prints why. It prints on the error stream when
+/// commits begin to be refused, and when they are taken again.
 ///
 /// A push ends the wait of its connection at once; where the system has no descriptors for that, it
 /// goes out within 50 ms.
@@ -214,8 +214,8 @@ fn attend<
     }
 }
 
-// Ends the sessions that are to end, each second and once more at the end. What is refused is tried again
-// a second later. Where the hub is down the server can't go on.
+// Ends the sessions that are to end, each second and once more at the end. What is refused is tried
+// again a second later. If the hub is down the server can't go on.
 #[inline(never)]
 fn tick_on<L: Ledger, K: Keeper + Drop, R: Wait + Clock>(
     rt: &R,

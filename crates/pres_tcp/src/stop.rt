@@ -1,4 +1,4 @@
-//! What ends the thread that looks which sessions are to end.
+//! Ends the thread that looks which sessions are to end.
 
 use std::sync::{Condvar, Mutex, Wait};
 use std::time::{Clock, Duration};

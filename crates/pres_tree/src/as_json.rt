@@ -10,7 +10,7 @@ use crate::scalar::{Scalar, ScalarForm};
 use serde_json::Value;
 use std::alloc::{AllocError, Global};
 
-/// What is a tree: trees alone.
+/// The trait's implementors: trees alone.
 pub trait OfTree {
     ghost use Rattle.std.specs.Prelude.{◌≡◌};
     ghost use Rattle.pres_tree.specs.Rows.{Rows};
@@ -39,8 +39,8 @@ impl OfTree for Tree {
     }
 }
 
-/// How trees are had from JSON values, and JSON values of them. A trait has these, so that a crate
-/// that calls none of them is built without JSON.
+/// Trees from JSON values, and JSON values of them. A trait has these, so that a crate that calls
+/// none of them is built without JSON.
 pub trait TreeJson {
     ghost use Rattle.std.specs.Prelude.{◌≡◌, ◌+◌, ◌++◌, ◌⊎◌, MatchResult, IfOk, OnOk, OnErr, Some, None};
     ghost use Rattle.serde_json.specs.View.{view};

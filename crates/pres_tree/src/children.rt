@@ -92,7 +92,7 @@ fn few_mut<'a, V>(few: &'a mut Vec<(Key, V)>, key: &Key) -> Option<&'a mut V>
     }
 }
 
-// The value in the place of the one at the place, which is answered.
+// Replaces the value at the place, and returns the old one.
 fn set_at<V>(few: &mut Vec<(Key, V)>, at: usize, value: V) -> V
     requires { at < length few.old.items }
     ensures old { Some result ≡ slice_get (values_of few.old.items) at }
@@ -306,7 +306,7 @@ impl<V> Children<V> {
 }
 
 impl<V: Drop> Children<V> {
-    /// Puts the value under the key, and answers the one that was there. At a refused allocation
+    /// Puts the value under the key, and returns the one that was there. After a failed allocation
     /// they are as they were.
     pub fn insert(&mut self, alloc: Global, key: Key, value: V) -> Result<Option<V>, AllocError>
         ensures old { IfOk result (λ old. old ≡ get key_cmp self.old key) }
@@ -319,7 +319,7 @@ impl<V: Drop> Children<V> {
         self.store.insert(alloc, key, value)
     }
 
-    /// Takes away the value under the key, and answers it. It takes no memory.
+    /// Removes the value under the key, and returns it. It takes no memory.
     pub fn remove(&mut self, key: &Key) -> Option<V>
         ensures value { result ≡ get_by (key_cmp key.now) self.old }
         ensures updates { UpdatesBy key_cmp (key_cmp key.now) self.old self.new None }

@@ -6,8 +6,8 @@ ghost use Rattle.pres_tree.specs.Rows.{Rows, IsValue, Fits};
 ghost use Rattle.pres_tree.specs.Writes.{Write, LastWriteDecides, TreeGrows, StaysValue};
 ghost use Rattle.pres_tree.specs.declared.scalar.Scalar.{Scalar};
 
-/// What a tree holds at a place after a list of writes is what the last write that overwrites
-/// the place put there: the rows that compute say the same.
+/// What a tree holds at a place after a list of writes is what the last write that overwrites the
+/// place put there: the rows that the program computes say the same.
 pub fn last_write_decides()
     ensures { (writes : List (Write Scalar)) (x : Path) → LastWriteDecides writes x }
 {}

@@ -17,8 +17,8 @@ use std::alloc::{AllocError, Global};
 use std::marker::Model;
 use std::mem::replace;
 
-/// What may stand at a place of a value. How JSON tells it is said by a form of its own, so that
-/// what names no JSON needn't know it.
+/// What may stand at a place of a value. A separate form says how JSON writes it, so that code that
+/// names no JSON needn't know it.
 pub trait Leaf: Drop {
     ghost use Rattle.std.specs.Prelude.{◌≡◌, ◌↔◌, IsTrue, IfOk};
 
@@ -187,9 +187,9 @@ impl<L: Drop> Nested<L> {
         }
     }
 
-    /// Puts a value in the place of all that stands at the path; none takes it away. A scalar
-    /// above the path goes where something is put, and stays where nothing is. At Memory, the
-    /// one refusal, the value is as it was.
+    /// Replaces all that stands at the path by the value; none removes it. A scalar above the path
+    /// goes if something is put, and stays if nothing is. After Memory, the one refusal, the value
+    /// is as it was.
     pub fn set(
         &mut self,
         alloc: Global,
@@ -214,7 +214,7 @@ impl<L: Drop> Nested<L> {
         Ok(())
     }
 
-    /// Takes away what stands at or below the path. It takes no memory.
+    /// Removes what stands at or below the path. It takes no memory.
     pub fn remove(&mut self, path: &Path)
         ensures { self.new ≡ after self.old (write path.now [] ∷ []) }
     {
@@ -334,7 +334,7 @@ impl<L: Drop> Nested<L> {
         Ok((0, replace(self, branch)))
     }
 
-    // Takes away what stands at or below the keys.
+    // Removes what stands at or below the keys.
     fn clear(&mut self, keys: &[Key])
         ensures { self.new ≡ after self.old (write keys.now [] ∷ []) }
     {

@@ -21,7 +21,7 @@ const LEVELS: usize = MAX_DEPTH + 1;
 // A fault, and the key of the item that has it.
 type KeyedFault = (Key, TreeFault);
 
-/// How JSON tells the leaves of a value. A type of its own stands for each form.
+/// How JSON writes the leaves of a value. A type of its own stands for each form.
 pub trait LeafForm<L> {
     ghost use Rattle.std.specs.Prelude.{◌≡◌, ◌⊎◌, true, MatchResult};
     ghost use Rattle.serde_json.specs.Data.{Data};

@@ -14,10 +14,10 @@ pub enum SockFault {
     /// The handshake failed: RFC 6455, 4.2.
     #[error("the handshake failed: {0}")]
     Handshake(Error),
-    /// The stream failed, or what came over it is no frame of RFC 6455.
+    /// The stream failed, or brought something that is no frame of RFC 6455.
     #[error("the stream failed: {0}")]
     Stream(Error),
-    /// The hub refused the message for what no message to the client can tell.
+    /// The hub refused the message, and no message to the client can say why.
     #[error("{0}")]
     Hub(HubFault),
     /// An allocation was refused.

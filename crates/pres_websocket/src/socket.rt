@@ -121,7 +121,7 @@ pub enum Received {
     Binary,
     /// The peer's close.
     Close,
-    /// Nothing for us.
+    /// Nothing of interest.
     Nothing,
 }
 
@@ -163,7 +163,7 @@ pub fn read<S: Read + Write + Drop, M: MaskKeys + Drop>(
     }
 }
 
-/// Puts the text into what is to be sent, as a message.
+/// Writes the text to the send buffer, as a message.
 pub fn write<S: Read + Write + Drop, M: MaskKeys + Drop>(
     alloc: Global,
     socket: &mut Socket<S, M>,

@@ -43,7 +43,7 @@ last_field code.Busy = []
 last_field code.Spent = []
 last_field code.Down = []
 
--- what a write came to; a value that was held is null for none
+-- the outcome of a write; a value that was held is null for none
 abbrev pub out_json : Kept → Data
 out_json Wrote = string (codes "wrote")
 out_json (Stale held) = object (member (codes "stale") (json_of scalar_printing (rows_in held)) no_members)

@@ -1,4 +1,4 @@
--- What messages tell a client of a path.
+-- What messages say of a path.
 use Rattle.std.specs.Prelude.{ℕ, List, [], ◌∷◌, Option, Some, None, if◌then◌else◌}
 use Rattle.std.specs.List.{filter_map, last_or}
 use Rattle.pres_tree.specs.declared.scalar.Scalar.{Scalar}
@@ -14,7 +14,7 @@ abbrev pub value_in : Path → List PathValue → Option (Rows Scalar)
 value_in p [] = None
 value_in p (v ∷ values) = if same_path p v.path then Some v.value else value_in p values
 
--- the value at the path that a message tells
+-- the value at the path in a message
 abbrev pub value_told : Path → Down → Option (Rows Scalar)
 value_told p (Snap s r z q path value) = if same_path p path then Some value else None
 value_told p (Push s r z values) = value_in p values

@@ -35,7 +35,7 @@ pub enum Code {
     Session,
     /// Its number, or that of its write, skips numbers.
     Order,
-    /// As many sessions are open as may be.
+    /// As many sessions are open as the server takes.
     Full,
     /// An allocation was refused.
     Busy,
@@ -48,7 +48,7 @@ pub enum Code {
 /// The limit that a message met.
 #[derive(Clone, Copy, Debug, PartialEq, Eq)]
 pub enum Limit {
-    /// What a session may have left for its end.
+    /// The rows that a session may have registered for its end.
     Plan,
     /// The places that a session may listen to.
     Listens,
@@ -63,8 +63,8 @@ pub enum Down {
         z: Number,
         ops: Count,
     },
-    /// What the client's write `n` came to, which the session's message `q` carried: it stands
-    /// at the server's number `done`, and this answer at `z`.
+    /// The outcome of the client's write `n`, which the session's message `q` carried: it stands at
+    /// the server's number `done`, and this answer at `z`.
     Reply {
         session: SessionId,
         r: Number,
@@ -86,7 +86,7 @@ pub enum Down {
         session: Option<SessionId>,
         code: Code,
     },
-    /// What the session's message `q` left or took back stands at the server's number `z`.
+    /// What the session's message `q` registered or cancelled stands at the server's number `z`.
     Armed {
         session: SessionId,
         r: Number,
@@ -103,7 +103,7 @@ pub enum Down {
         why: Limit,
     },
     /// The session listens to the path, as its message `q` asked. The value stands there at the
-    /// server's number `z`: where nothing does, null.
+    /// server's number `z`: null if nothing does.
     Snap {
         session: SessionId,
         r: Number,
@@ -301,8 +301,8 @@ impl Down {
     }
 
     /// The message of a text. Refused, in this order: NotJson, NoSuchMessage, Field of the first
-    /// field that is missing or wrong, in the order of the message's table. Names that the
-    /// message has not are ignored.
+    /// field that is missing or wrong, in the order of the message's table. Unknown names are
+    /// ignored.
     pub fn decode(alloc: Global, text: &str) -> Result<Down, WireFault>
         ensures { MatchResult result
             (λ m. decoded text.now ≡ Ok m)
@@ -332,7 +332,7 @@ impl Down {
         self.to_value(alloc)?.to_string(alloc)
     }
 
-    // The text of a message of the kinds that come most; none of others.
+    // The text of a message of the most frequent kinds; none for others.
     fn text_at_once(&self, alloc: Global) -> Option<Result<String, AllocError>>
         ensures text { IfSome result (λ r. IfOk r (λ t.
             string_bytes t ≡ compact_text (down_json self.now))) }
@@ -441,7 +441,7 @@ fn copied_session(
     }
 }
 
-// An equal session, and what a write came to again.
+// An equal session, and an equal outcome of a write.
 fn copied_outcome(
     alloc: Global,
     session: &SessionId,

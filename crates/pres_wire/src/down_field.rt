@@ -96,7 +96,7 @@ fn session_or_none(alloc: Global, value: &Value) -> Result<Option<Option<Session
     }
 }
 
-// What a write came to, as a text or an object says.
+// The outcome of a write, from a text or an object.
 fn out_of(alloc: Global, value: &Value) -> Result<Option<Kept>, AllocError>
     ensures { IfOk result (λ found. found ≡ out_of (view value.now)) }
 {
@@ -133,7 +133,7 @@ pub(crate) fn session_or_null_field(
     }
 }
 
-// What a write came to.
+// The outcome of a write.
 pub(crate) fn out_field(alloc: Global, message: &Value) -> Result<Kept, WireFault>
     ensures { MatchResult result
         (λ found. out_field (view message.now) ≡ Ok found)

@@ -51,7 +51,7 @@ pub(crate) fn gone_value(
     form.sent(alloc, "gone", session, r, z)
 }
 
-// The JSON value of what a write came to.
+// The JSON value of a write's outcome.
 fn out_value(alloc: Global, out: &Kept) -> Result<Value, AllocError>
     ensures json { IfOk result (λ made. view made ≡ out_json out.now) }
     ensures form { IfOk result (λ _. out_of (out_json out.now) ≡ Some (one_null out.now)) }
@@ -156,7 +156,7 @@ pub(crate) fn fault_value(
     }
 }
 
-// The JSON value of a message of this word that answers the message `q`, and tells no more.
+// The JSON value of a message of this word that answers the message `q`, and has no further field.
 pub(crate) fn answer_value(
     alloc: Global,
     word: &str,

@@ -1,4 +1,4 @@
-//! The texts of the messages that come most, written at once, without a JSON value.
+//! The texts of the most frequent messages, written at once, without a JSON value.
 
 ghost use Rattle.std.specs.Prelude.{◌≡◌, ◌≤◌, ◌++◌, ◌∷◌, [], Some, codes, string_bytes, IfOk, OnOk};
 ghost use Rattle.json.specs.Token.{key, string};

@@ -29,7 +29,7 @@ pub enum Field {
     Done,
     /// How many writes of the client there are.
     Ops,
-    /// What a write came to.
+    /// The outcome of a write.
     Out,
     /// The value at a path.
     Value,

@@ -50,7 +50,7 @@ fn op_value(message: &Value) -> Result<&Value, WireFault>
         .ok_or(WireFault::Field(Field::Op))
 }
 
-// What a message is refused for where its operation is.
+// The refusal of a message whose operation is refused.
 fn refusal(fault: WriteFault) -> WireFault
     ensures memory { fault ≡ Tree TreeFault.Memory → result ≡ Memory }
     ensures write { (fault ≢ Tree TreeFault.Memory) → result ≡ WireFault.Write fault }

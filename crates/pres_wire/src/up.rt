@@ -47,13 +47,13 @@ pub enum Up {
         session: SessionId,
         q: Number,
     },
-    /// Leaves the operation for the end of the session, as its message `q`.
+    /// Registers the operation for the end of the session, as its message `q`.
     Left {
         session: SessionId,
         q: Number,
         op: Unconditional,
     },
-    /// Takes back what was left at the path and below it, as message `q` of the session.
+    /// Cancels what was registered at the path and below it, as message `q` of the session.
     Cancel {
         session: SessionId,
         q: Number,
@@ -147,10 +147,9 @@ impl Up {
         }
     }
 
-    /// The message of a text. Refused, in this order: TooLong, which takes no memory to see,
+    /// The message of a text. Refused, in this order: TooLong, for which nothing is allocated,
     /// NotJson, NoSuchMessage, Field of the first field that is missing or wrong (session, q, n,
-    /// and op or path; a transaction is no operation of a Left), Write. Names that the message has
-    /// not are ignored.
+    /// and op or path; a transaction is no operation of a Left), Write. Unknown names are ignored.
     pub fn decode(alloc: Global, text: &str) -> Result<Up, WireFault>
         ensures message { MatchResult result
             (λ m. decoded text.now ≡ Ok m)

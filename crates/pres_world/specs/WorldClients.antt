@@ -1,4 +1,4 @@
--- A client of a world: what it has to send are packets at once, and what it takes of the server is noted.
+-- A client of a world: what it has to send becomes packets at once, and what it takes from the server is noted.
 use Rattle.std.specs.Prelude.{◌+◌, ◌&&◌, Bool, true, false, not, List, [], ◌∷◌, if◌then◌else◌, nat_lt}
 use Rattle.pres_ids.specs.Ids.{ClientId}
 use Rattle.pres_ids.specs.Numbers.{greatest_number}

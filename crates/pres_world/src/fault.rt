@@ -11,7 +11,7 @@ use thiserror::Error;
 /// Why a world refuses an event.
 #[derive(Clone, Copy, Debug, Error, PartialEq, Eq)]
 pub enum WorldFault {
-    /// An allocation was refused. Nothing is changed, but where a batch was committed whose answers
+    /// An allocation was refused. Nothing is changed, unless a batch was committed whose answers
     /// found no memory: then the server has stopped, as by `Ending::Stopped`.
     #[error("out of memory")]
     Memory,

@@ -11,7 +11,7 @@ ghost use Rattle.pres_world.specs.Worlds.{World};
 /// In a legal log each write of a client stands once, in the order of the writes' numbers; the
 /// entries of a client stand in the order of its sessions; each session ends once, with all that is
 /// due, before any entry of a later session of its client; and what was cancelled before is not in
-/// the plan that the end pays.
+/// the plan that the end carries out.
 pub fn legal_logs_are_orderly()
     ensures writes { (log : Log) → IsLegal log → WritesStand log }
     ensures sessions { (log : Log) → IsLegal log → SessionsStand log }
@@ -19,10 +19,10 @@ pub fn legal_logs_are_orderly()
     ensures cancels { (log : Log) → IsLegal log → CancelsStand log }
 {}
 
-/// Whatever happens to a new world, it is safe: what clients show is true, so that two of them agree;
-/// each write whose reply a client took stands in the history, once, where the reply says, and came
-/// out as it says; each action for a session's end that was acknowledged stands there; and what was
-/// cancelled is in no plan that an end pays.
+/// Whatever happens to a new world, it is safe: what clients show is true, so that two of them
+/// agree; each write whose reply a client took stands in the history, once, where the reply says,
+/// and with the outcome that it says; each action for a session's end that was acknowledged stands
+/// there; and what was cancelled is in no plan that an end carries out.
 pub fn worlds_stay_safe()
     ensures { (ids : List ClientId) (occurrences : List Occurrence) (v : World)
         → StaysSafe ids occurrences v }

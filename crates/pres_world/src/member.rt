@@ -15,7 +15,7 @@ use pres_server::{ClientId, Down, Number, Up};
 use std::alloc::{AllocError, Global};
 use std::marker::Model;
 
-/// A client, what it had to send of which was handed out. Contracts see it as the client.
+/// A client whose outgoing messages were handed out. Contracts see it as the client.
 #[derive(Drop)]
 pub(crate) struct Member {
     client: Client,

@@ -9,7 +9,7 @@ use pres_tree::{TreeFault, from_value};
 use serde_json::Value;
 use std::alloc::{AllocError, Global};
 
-/// What is a draft: drafts alone.
+/// The trait's implementors: drafts alone.
 pub trait OfDraft {
     ghost use Rattle.std.specs.Prelude.{◌≡◌};
     ghost use Rattle.pres_tree.specs.Rows.{Rows};
@@ -30,8 +30,8 @@ impl OfDraft for Draft {
     }
 }
 
-/// How drafts are had from JSON values. A trait has this, so that a crate that doesn't call it is
-/// built without JSON.
+/// Drafts from JSON values. A trait has this, so that a crate that doesn't call it is built without
+/// JSON.
 pub trait DraftJson {
     ghost use Rattle.std.specs.Prelude.{◌≡◌, ◌+◌, ◌⊎◌, MatchResult, Some, None};
     ghost use Rattle.serde_json.specs.View.{view};
@@ -64,7 +64,7 @@ impl<T: OfDraft> DraftJson for T {
     }
 }
 
-/// What is an operation: operations alone.
+/// The trait's implementors: operations alone.
 pub trait OfOp {
     ghost use Rattle.std.specs.Prelude.{◌≡◌};
     ghost use Rattle.pres_write.specs.declared.op.Op.{Op};
@@ -92,7 +92,7 @@ impl OfOp for Op {
     }
 }
 
-/// How operations are had from JSON values, and JSON values of them.
+/// Operations from JSON values, and JSON values of them.
 pub trait OpJson {
     ghost use Rattle.std.specs.Prelude.{◌≡◌, MatchResult, IfOk, Ok};
     ghost use Rattle.serde_json.specs.View.{view};

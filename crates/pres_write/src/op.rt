@@ -27,7 +27,7 @@ use std::alloc::{AllocError, Global};
 /// What a client asks of the tree.
 #[derive(Drop)]
 pub enum Op {
-    /// Puts a value in the place of all that stands at the path; null removes it.
+    /// Replaces all that stands at the path by a value; null removes it.
     Set(Placement),
     /// Puts values at several places, all of them or none.
     Update(Update),
@@ -218,11 +218,11 @@ fn read_form(alloc: Global, value: &Value, word: &str, text: &str) -> Result<Op,
     }
 }
 
-/// The operation of a JSON value. Names that no form has are ignored. Refused, in this order:
-/// Shape; what the path is refused for; of a set what the value is refused for below that
-/// path, of an update ManyPaths, then in byte order of the names what each name as a path and
-/// its value are refused for, then Overlap, of a transaction what the expected value and then
-/// the new one are refused for. Memory comes only where it isn't Shape.
+/// The operation of a JSON value. Unknown names are ignored. Refused, in this order: Shape; what
+/// the path is refused for; for a set what the value is refused for below that path, for an update
+/// ManyPaths, then in byte order of the names what each name as a path and its value are refused
+/// for, then Overlap, for a transaction what the expected value and then the new one are refused
+/// for. Memory comes only if it isn't Shape.
 pub fn read_op(alloc: Global, value: &Value) -> Result<Op, WriteFault>
     ensures { MatchResult result
         (λ op. op_read (view value.now) ≡ Ok op)

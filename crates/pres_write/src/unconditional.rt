@@ -1,4 +1,4 @@
-//! Operations that ask for nothing of what stands.
+//! Operations that don't depend on the tree.
 
 ghost use Rattle.std.specs.Prelude.{◌≡◌, IfOk, Ok, Some, MatchResult};
 ghost use Rattle.serde_json.specs.View.{view};
@@ -13,11 +13,11 @@ use crate::update::Update;
 use serde_json::Value;
 use std::alloc::{AllocError, Global};
 
-/// An operation that asks for nothing of what stands, so that it may be left for a
-/// disconnection: each but a transaction.
+/// An operation that doesn't depend on the tree, so that it may be registered for a disconnection:
+/// each but a transaction.
 #[derive(Drop)]
 pub enum Unconditional {
-    /// Puts a value in the place of all that stands at the path; null removes it.
+    /// Replaces all that stands at the path by a value; null removes it.
     Set(Placement),
     /// Puts values at several places, all of them or none.
     Update(Update),
@@ -75,7 +75,7 @@ impl Unconditional {
         }
     }
 
-    /// What it puts where.
+    /// Its puts.
     pub fn puts(&self, alloc: Global) -> Result<Puts, AllocError>
         ensures { IfOk result (λ puts. puts ≡ puts_of self.now) }
     {
