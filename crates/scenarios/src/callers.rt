@@ -103,7 +103,7 @@ pub(crate) fn leave<L: Ledger, K: Keeper + Drop>(
     is_up
 }
 
-/// How many messages are taken, at most so many.
+/// How many messages are taken, at most this many.
 pub(crate) fn take(outbox: &mut Outbox, most: u64) -> u64 {
     let mut count: u64 = 0;
     for _ in 0..most {

@@ -1,4 +1,4 @@
-//! A connection that brings what is no message, and a write behind it.
+//! A connection that brings something that is no message, and a write after it.
 
 ghost use Rattle.std.specs.Prelude.{◌≡◌, ◌^◌};
 
@@ -27,10 +27,10 @@ const NO_JSON: &[u8] = br#"{"m":"beat""#;
 const WRITE: &[u8] =
     br#"{"m":"op","n":1,"op":{"op":"set","path":"/a","value":1},"q":1,"s":["alice",1,1]}"#;
 
-// So many bytes are one more than a message may have.
+// This many bytes are one more than a message may have.
 const TOO_LONG: u64 = 1_048_577;
 
-// A client's frame of RFC 6455, section 5.2, up to its payload of so many bytes. The mask is 0.
+// A client's frame of RFC 6455, section 5.2, up to its payload of this many bytes. The mask is 0.
 fn head(alloc: Global, opcode: u8, len: u64) -> Result<Vec<u8>, AllocError> {
     let mut bytes = Vec::new(alloc);
     bytes.push(0x80 | opcode)?;
@@ -75,8 +75,8 @@ fn pieces(alloc: Global) -> Result<Vec<Vec<u8>>, AllocError> {
     Ok(pieces)
 }
 
-// A stream that gives its pieces one after the other, behind each a read that gives nothing, and then
-// ends. What is written is let go.
+// A stream that gives its pieces one after the other, after each a read that gives nothing, and
+// then ends. What is written is dropped.
 #[derive(Drop)]
 struct Brought {
     pieces: Vec<Vec<u8>>,

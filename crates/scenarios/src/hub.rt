@@ -1,4 +1,4 @@
-//! A hub over what a keeper holds, and who comes to it.
+//! A hub over what the keeper holds, and its callers.
 
 ghost use Rattle.std.specs.Prelude.{◌≡◌, ◌^◌};
 
@@ -13,7 +13,7 @@ use std::sync::ledger::{Blank, Ledger};
 // How many messages a writer has.
 const MESSAGES: u64 = 12;
 
-/// Who comes to a hub.
+/// The callers of a hub.
 #[derive(Clone, Copy)]
 pub(crate) enum Guest {
     /// This client, who writes.
@@ -75,7 +75,7 @@ fn write_all<L: Ledger>(
     Ok((count, is_up))
 }
 
-// What a guest's visit comes to: a number, and whether the hub stays up.
+// The result of a guest's visit: a number, and whether the hub stays up.
 fn received<L: Ledger>(
     alloc: Global,
     core: &mut Core<L, MemKeeper, NoBell>,
@@ -114,7 +114,7 @@ fn visited_with<L: Ledger>(
     }
 }
 
-/// A guest comes to a hub that is started over what the keeper holds, and then the hub ends.
+/// A guest visits a hub that is started over what the keeper holds, and then the hub ends.
 pub(crate) fn visited(
     alloc: Global,
     keeper: MemKeeper,

@@ -1,6 +1,6 @@
-//! Plays scenarios of a hub and of what it keeps, each named by a word, for runs in which an allocation is
-//! refused. Each shows in lines what it came to. A call that is refused for want of memory is made again;
-//! where a hub goes down, it is started again from what its keeper holds.
+//! Plays scenarios of a hub and of what it keeps, each named by a word, for runs in which an
+//! allocation is refused. Each prints its results in lines. A call that is refused for lack of
+//! memory is made again; where a hub goes down, it is started again from what its keeper holds.
 //!
 //! - `down`: two clients write, one after the other, each to a hub of its own over the same keeper;
 //! - `slow-reader`: a client writes until another one, who takes nothing, is ended;

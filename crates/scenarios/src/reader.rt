@@ -11,7 +11,7 @@ const LEAVES: &str =
 
 const LISTENS: &str = r#"{"m":"on","path":"/a","q":2,"s":["bob",1,1]}"#;
 
-// So many writes are one more than the reader's ring has room for.
+// This many writes are one more than the reader's ring has room for.
 const WRITES: u64 = 257;
 
 // The write number n of Alice, which sets `/a` to n.
@@ -22,7 +22,7 @@ fn write_text(alloc: Global, n: u64) -> Result<String> {
     Ok(text)
 }
 
-// Alice's writes, behind each of which she takes her messages, and a tick: whether the hub stays up.
+// Alice's writes, with her messages taken after each, and a tick: whether the hub stays up.
 fn write<L: Ledger>(
     alloc: Global,
     core: &mut Core<L, MemKeeper, NoBell>,
@@ -49,7 +49,7 @@ fn visit<L: Ledger>(alloc: Global, core: &mut Core<L, MemKeeper, NoBell>) -> Res
     Ok(written? && is_up)
 }
 
-// Bob leaves a write behind him, listens and takes three messages, and nothing more until Alice is gone:
+// Bob makes a write, listens and takes three messages, and nothing more until Alice is gone:
 // whether the hub stays up.
 fn listen<L: Ledger>(
     alloc: Global,

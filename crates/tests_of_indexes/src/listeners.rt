@@ -94,7 +94,7 @@ fn rows_said(rt: &impl Abort, alloc: Global, rows: &[Touched]) -> String {
     said
 }
 
-// The tree and the list, and what each of them has told.
+// The tree and the list, and the results of each so far.
 #[derive(Drop)]
 struct Both {
     tree: Listeners,
@@ -125,7 +125,7 @@ impl Both {
         say_refusal(rt, alloc, &mut self.wanted, refusal);
     }
 
-    // As many calls, with the numbers from 0 on behind the path.
+    // This many calls, with the numbers from 0 on after the path.
     fn on_each(&mut self, rt: &impl Abort, alloc: Global, calls: u64, text: &str) {
         for number in 0..calls {
             let text = format!(in alloc; "{text}{number}").expect(rt, "memory");
@@ -170,7 +170,7 @@ impl Both {
     }
 }
 
-// What a call told, on a line of its own.
+// The result of a call, on a line of its own.
 fn say(rt: &impl Abort, said: &mut String, text: String) {
     said.push_str(text.as_str()).expect(rt, "memory");
     said.push('\n').expect(rt, "memory");
@@ -204,7 +204,7 @@ fn session_of(rt: &impl Abort, alloc: Global, text: &str) -> SessionId {
     )
 }
 
-// The listener of a session and a path behind it.
+// The listener of a session and a path after it.
 fn listener(rt: &impl Abort, alloc: Global, text: &str) -> Listener {
     let (session, path) = text.split_once(' ').expect(rt, "a path");
     Listener {
@@ -224,7 +224,7 @@ fn writes_at(rt: &impl Abort, alloc: Global, paths: &str) -> Vec<Basic> {
     writes
 }
 
-// What the tree and the list told, once all calls of a line were made.
+// The results of the tree and of the list, once all calls of a line were made.
 fn told(rt: &impl Abort, alloc: Global, calls: &str) -> (String, String) {
     let mut both = Both::new(alloc);
     for call in calls.split("; ") {

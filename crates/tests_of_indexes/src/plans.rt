@@ -1,5 +1,5 @@
 //! Plans do what a plain list of their rows does: over stored lists of calls both have the same
-//! room and refuse the same, and come to the same rows and the same due rows, in the same order.
+//! room and refuse the same, and have the same rows and the same due rows, in the same order.
 
 ghost use Rattle.std.specs.Prelude.{◌<◌, All, IsTrue};
 
@@ -44,7 +44,7 @@ fn path_of(rt: &impl Abort, alloc: Global, text: &str) -> Path {
     Path::parse(alloc, text).expect(rt, "a path")
 }
 
-// The puts of paths, each with a value behind it.
+// The puts of paths, each with a value after it.
 fn puts_of(rt: &impl Abort, alloc: Global, text: &str) -> Puts {
     let mut places = Vec::new(alloc);
     for part in text.split(", ") {
@@ -194,7 +194,7 @@ fn act(rt: &impl Abort, alloc: Global, both: &mut Both, q: u64, call: &str) {
     }
 }
 
-// Both do the call so many times, with each number in its turn: the last one's number.
+// Both do the call this many times, with each number in its turn: the last one's number.
 fn repeat(rt: &impl Abort, alloc: Global, both: &mut Both, q: u64, times: u64, call: &str) -> u64 {
     let (before, behind) = call.split_once('%').expect(rt, "a place for the number");
     for number in 0..times {
@@ -204,7 +204,7 @@ fn repeat(rt: &impl Abort, alloc: Global, both: &mut Both, q: u64, times: u64, c
     q.saturating_add(times)
 }
 
-// What both come to over the calls.
+// The results of both over the calls.
 fn done(rt: &impl Abort, alloc: Global, line: &str) -> Both {
     let mut both = Both {
         plan: Plan::new(alloc),

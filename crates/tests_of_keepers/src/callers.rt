@@ -17,8 +17,8 @@ pub(crate) enum Role {
     /// It joins and writes once the other one has read its first messages, and leaves before that
     /// one reads again.
     WritesLater,
-    /// It leaves a write behind it, listens and takes its first messages, and nothing more until the
-    /// other one has left.
+    /// It makes a write, listens and takes its first messages, and nothing more until the other one
+    /// has left.
     ReadsLate,
 }
 
@@ -50,7 +50,7 @@ fn write(rt: &impl Abort, alloc: Global, caller: Caller, n: u64) -> Up {
     Up::decode(alloc, text.expect(rt, "memory").as_str()).expect(rt, "a message")
 }
 
-// The caller's listen to the path, behind its writes.
+// The caller's listen to the path, after its writes.
 fn listen(rt: &impl Abort, alloc: Global, caller: Caller, path: &str) -> Up {
     let (client, q) = (caller.client, caller.writes.saturating_add(1));
     let text = format!(in alloc; r#"{{"m":"on","path":"{path}","q":{q},"s":["{client}",1,1]}}"#);
@@ -76,8 +76,8 @@ pub(crate) fn joined<L: Ledger, K: Keeper + Drop, G: Gate, R: Wait + Abort>(
     SeatedClient { seat, outbox }
 }
 
-/// Says the message, which may not be refused: neither as Behind nor as Apart, nor for another reason.
-/// The number that is answered.
+/// Sends the message, which must not be refused: neither as Behind nor as Apart, nor for another
+/// reason. Returns the number that is answered.
 pub(crate) fn say<L: Ledger, K: Keeper + Drop, G: Gate, R: Wait + Abort>(
     rt: &R,
     hub: &Hub<L, K, NoBell, G>,

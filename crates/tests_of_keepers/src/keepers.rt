@@ -171,7 +171,7 @@ server => 5 entries, {"x":7}
 5000 restart bob => quiet
 server => 5 entries, {"x":7}"#;
 
-// The lines behind the making of the tables.
+// The lines after the making of the tables.
 fn with_tables(rt: &impl Abort, alloc: Global, lines: &str) -> String {
     format!(in alloc; "create => created\n{lines}").expect(rt, "memory")
 }

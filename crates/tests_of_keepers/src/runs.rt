@@ -31,8 +31,8 @@ const KEPT_BACK: &str = r#"1000 join alice => 1
 1000 say alice {"m":"beat","s":["alice",1,1]} => 1
 1000 lost alice => made 1, no fault"#;
 
-// A seat that saw a greater number than the server's: another session's message is refused before that,
-// and the same message is taken once the server has so many entries.
+// A seat that saw a greater number than the server's: another session's message is refused before
+// that, and the same message is taken once the server has this many entries.
 const BEHIND: &str = r#"1000 join alice => 1
 1000 join bob => 2
 1000 see alice 3 => 3

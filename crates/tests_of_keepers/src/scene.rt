@@ -33,7 +33,7 @@ pub(crate) fn counted<L: Ledger, K>(report: &Report<L, K>) -> Counts {
     )
 }
 
-// A core, the places of Alice and Bob while they have them, and what their seats left behind.
+// A core, the places of Alice and Bob while they have them, and what remained of their seats.
 struct Scene<L: Ledger, K: Keeper + Drop> {
     alloc: Global,
     core: Core<L, K, NoBell>,
@@ -109,7 +109,7 @@ fn parting_text<L: Ledger>(rt: &impl Abort, alloc: Global, parting: &Parting<L>)
     text.expect(rt, "memory")
 }
 
-/// How many messages are taken, at most so many, and the last of them.
+/// How many messages are taken, at most this many, and the last of them.
 pub(crate) fn taken(rt: &impl Abort, alloc: Global, outbox: &mut Outbox, most: u64) -> String {
     let mut count: u64 = 0;
     let mut last = String::from_str(alloc, "none").expect(rt, "memory");
@@ -176,7 +176,7 @@ impl<L: Ledger, K: Keeper + Drop> Scene<L, K> {
         }
     }
 
-    // What a join answers: the number that the seat was told of.
+    // The answer to a join: the greatest number that was sent to the seat.
     fn join(&mut self, rt: &impl Abort, client: &str, now: Moment) -> String {
         let session = session(rt, self.alloc, client);
         let joined = self.core.join(&session, now);
@@ -203,7 +203,7 @@ impl<L: Ledger, K: Keeper + Drop> Scene<L, K> {
         answer_text(rt, self.alloc, &said.expect(rt, "a seat"))
     }
 
-    // Alice's write number n, behind which her messages are taken.
+    // Alice's write number n, after which her messages are taken.
     fn set(&mut self, rt: &impl Abort, n: u64, now: Moment) -> String {
         let text = set_text(rt, self.alloc, n);
         let answer = self.say(rt, "alice", text.as_str(), now);
@@ -336,8 +336,7 @@ fn run_with<L: Ledger, K: Keeper + Drop, R: Abort>(
     scene.finish()
 }
 
-/// The steps over what the keeper holds. A step is a moment, a call and, behind ` => `, what it
-/// answers.
+/// The steps over what the keeper holds. A step is a moment, a call and, after ` => `, its answer.
 pub(crate) fn run<K: Keeper + Drop, R: Abort>(
     rt: &R,
     alloc: Global,

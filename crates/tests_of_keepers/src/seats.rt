@@ -1,4 +1,4 @@
-//! Two seats of one tally, and what a hub's faults are told as.
+//! Two seats of one tally, and the names of a hub's faults.
 
 ghost use Rattle.std.specs.Prelude.{◌≡◌, ◌^◌, IfSome};
 
@@ -30,7 +30,7 @@ struct Ended {
     keeper: u64,
 }
 
-// So many more messages of the seat are accepted, and it is told of each.
+// This many more messages of the seat are accepted, and the number of each is sent to it.
 fn say<L: Ledger>(tally: &mut Tally<L>, seat: &mut Seat<L>, times: u64) {
     for _ in 0..times {
         let accepted = tally.counts().accepted;
@@ -44,7 +44,7 @@ fn say<L: Ledger>(tally: &mut Tally<L>, seat: &mut Seat<L>, times: u64) {
     }
 }
 
-// Two seats say 3 and 2 messages and leave, the second one with a fault. The one that is told is
+// Two seats send 3 and 2 messages and leave, the second one with a fault. The one that is named is
 // gathered first.
 fn run<L: Ledger>(blank: Blank, first: SessionId, second: SessionId, is_turned: bool) -> Ended
     requires name { blank.name ≡ L.name }

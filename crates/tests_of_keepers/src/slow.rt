@@ -27,8 +27,8 @@ fn say_text<L: Ledger, K: Keeper + Drop, G: Gate, R: Wait + Abort>(
     say(rt, hub, &mut place.seat, up, caller);
 }
 
-/// What Bob's thread does: he leaves a write behind him, listens and takes his first three messages,
-/// and then nothing until the other one has left. What he took first, and then.
+/// Bob's thread: he makes a write, listens and takes his first three messages, and then nothing
+/// until the other one has left. Returns what he took first, and then.
 pub(crate) fn read_late<L: Ledger, K: Keeper + Drop, G: Gate, R: Wait + Abort>(
     rt: &R,
     alloc: Global,

@@ -15,7 +15,7 @@ use std::alloc::Global;
 use std::process::Abort;
 use std::sync::atomic::{AtomicUsize, Ordering};
 
-// The turns of a run, each with its batch. The server stops behind the commit of the last one.
+// The turns of a run, each with its batch. The server stops after the commit of the last one.
 const TURNS: &str =
     r#"1000 {"m":"hello","s":["alice",1,1]} => 1 1000 [{"e":"open","s":["alice",1,1]}]
 2000 {"m":"hello","s":["bob",1,1]} => 2 2000 [{"e":"open","s":["bob",1,1]}]
@@ -46,7 +46,7 @@ fn options() -> Options {
     }
 }
 
-// The batches of so many turns.
+// The batches of this many turns.
 fn batches(rt: &impl Abort, alloc: Global, count: usize) -> String {
     let mut text = said(rt, alloc, "batches");
     for line in TURNS.lines().take(count) {
@@ -57,7 +57,7 @@ fn batches(rt: &impl Abort, alloc: Global, count: usize) -> String {
     text
 }
 
-// What is to be found after so many commits: the batches, and the server that they make.
+// What must be found after this many commits: the batches, and the server that they make.
 fn wanted(rt: &impl Abort, alloc: Global, commits: usize) -> String {
     let batches = batches(rt, alloc, commits);
     let tree = if commits < WRITES_AT {
@@ -75,7 +75,7 @@ fn read<K: Keeper>(rt: &impl Abort, alloc: Global, keeper: &mut K) -> String {
     format!(in alloc; "{batches}; {server}").expect(rt, "memory")
 }
 
-// Whether the keeper refuses to load the batches, which have to be so many.
+// Whether the keeper refuses to load the batches, of which there must be this many.
 fn refuses_load<K: Keeper>(rt: &impl Abort, alloc: Global, keeper: &mut K, commits: usize) -> bool {
     let text = read(rt, alloc, keeper);
     if text.ends_with("Database") {
@@ -224,7 +224,7 @@ fn with_all_written(
     Files { log, db }
 }
 
-// What a run came to whose files fail after so many calls, and what is found afterwards.
+// The result of a run whose files fail after this many calls, and what is found afterwards.
 fn one(rt: &impl Abort, alloc: Global, calls: (u64, u64), loses: bool) -> (String, Ran) {
     let files = Files {
         log: Fuse::new(Memory::new(alloc), calls.0),
@@ -362,7 +362,7 @@ fn watched<S: Alter + Drop>(
     }
 }
 
-// What a run came to whose log fails after so many calls, and how often commits were reported that were
+// The result of a run whose log fails after this many calls, and how often commits were reported as
 // taken, refused, and refused by a store that was shut.
 fn reports_of(rt: &impl Abort, alloc: Global, calls: u64) -> (Ran, [usize; 3]) {
     let reports = Reports {

@@ -46,7 +46,7 @@ impl Outcome {
         assert_eq!(rt; self.log.lines().nth(index), Some(wanted));
     }
 
-    // The replay has to give so many entries and this tree.
+    // The replay must give this many entries and this tree.
     fn expect_replayed(&self, rt: &impl Abort, wanted: &str) {
         assert_eq!(rt; self.replayed.as_str(), wanted);
     }
@@ -126,7 +126,7 @@ fn reported<L: Ledger, K: Keeper + Drop>(
     }
 }
 
-// A hub over what the keeper holds, behind a gate.
+// A hub over what the keeper holds, with a gate.
 fn opened<L: Ledger, K: Keeper + Drop, G: Gate + Drop, R: Abort>(
     rt: &R,
     alloc: Global,
@@ -163,7 +163,7 @@ fn two_with<
     reported(rt, alloc, report, left)
 }
 
-// A hub behind a gate, and two threads.
+// A hub with a gate, and two threads.
 fn two<G: Gate + Drop + Sync, R: Threads + Wait + Abort + Sync>(
     rt: &R,
     alloc: Global,

@@ -145,7 +145,7 @@ fn batch_text(rt: &impl Abort, alloc: Global, batch: &Batch) -> String {
     format!(in alloc; "{first} {moment} {body}").expect(rt, "memory")
 }
 
-// The batches, each in words behind `word`.
+// The batches, each in words after `word`.
 fn batches_text(rt: &impl Abort, alloc: Global, batches: &[Batch]) -> String {
     let mut text = said(rt, alloc, "batches");
     for batch in batches {

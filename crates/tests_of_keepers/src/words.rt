@@ -1,5 +1,5 @@
-//! What runs of saved rows share: a run is a text of lines, each a step and, behind ` => `, what
-//! it must say.
+//! What runs of saved rows share: a run is a text of lines, each a step and, after ` => `, its
+//! expected result.
 
 use pres_faults::SavedFault;
 use sqlite::{Alter, Connection};

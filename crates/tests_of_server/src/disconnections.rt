@@ -179,7 +179,7 @@ const FIRST_CLIENT_ENDS_FIRST: &str = r#"1000 {"m":"hello","s":["bob",1,1]}
 70000 tick
 => quiet"#;
 
-// What is seen of the server behind an end of alice's session.
+// What is seen of the server after an end of alice's session.
 const ENDED: &str = r#"3 entries, false None, heard None, {"p":1}"#;
 
 // A run in which alice leaves a value and her session is ended.

@@ -11,7 +11,7 @@ use std::alloc::Global;
 use std::ops::Range;
 use std::process::Abort;
 
-// A bell that is told from others by its number, and that nobody hears.
+// A bell that has a number, and that nobody hears.
 #[derive(Clone, Copy, Drop)]
 struct Numbered(u32);
 
@@ -68,7 +68,8 @@ fn set(rt: &impl Abort, alloc: Global, n: u32) -> String {
     ).expect(rt, "memory")
 }
 
-// Alice listens and takes nothing, and Bob writes so often where she listens: the number behind it.
+// Alice listens and takes nothing, and Bob writes this often where she listens: the number after
+// it.
 fn listened<K: Keeper + Drop>(
     rt: &impl Abort,
     alloc: Global,
@@ -86,7 +87,7 @@ fn listened<K: Keeper + Drop>(
     exchange.number()
 }
 
-// The number behind so many writes.
+// The number after this many writes.
 fn number_after<K: Keeper + Drop>(rt: &impl Abort, alloc: Global, keeper: K, writes: u32) -> u64
     requires ready { K.ready keeper }
 {
@@ -177,7 +178,8 @@ fn hang<K: Keeper + Drop>(rt: &impl Abort, alloc: Global, exchange: &mut Dispatc
         .expect(rt, "a session");
 }
 
-// Bob writes, so many times from this number on: the bells that are due then, but this one's own.
+// Bob writes, this many times from this number on: the bells that are due then, except this one's
+// own.
 fn due<K: Keeper + Drop>(
     rt: &impl Abort,
     alloc: Global,
@@ -218,7 +220,7 @@ fn add_due<K: Keeper + Drop>(
 }
 
 // The bells that are due: after a write, again, after two, where Alice asks, and where hers is
-// taken down; then where she takes nothing, until her ring is full and behind that.
+// removed; then where she takes nothing, until her ring is full and after that.
 fn rung<K: Keeper + Drop>(
     rt: &impl Abort,
     alloc: Global,

@@ -38,7 +38,7 @@ fn session_of(rt: &impl Abort, alloc: Global, text: &str) -> SessionId {
     )
 }
 
-// A session and a path behind it.
+// A session and a path after it.
 fn listener(rt: &impl Abort, alloc: Global, text: &str) -> (SessionId, Path) {
     let (session, path) = text.split_once(' ').expect(rt, "a path");
     (
@@ -114,7 +114,7 @@ fn touches(rt: &impl Abort, alloc: Global, case: &str) -> String {
     touched(rt, alloc, &listeners, paths)
 }
 
-// The session `a/1.1` listens to so many places.
+// The session `a/1.1` listens to this many places.
 fn filled(rt: &impl Abort, alloc: Global, places: u64) -> Listeners {
     let mut listeners = Listeners::new(alloc);
     for place in 1..=places {
@@ -124,7 +124,7 @@ fn filled(rt: &impl Abort, alloc: Global, places: u64) -> Listeners {
     listeners
 }
 
-// Whether there is room for the place, and what it comes to.
+// Whether there is room for the place, and the result.
 fn tried(rt: &impl Abort, alloc: Global, mut listeners: Listeners, text: &str) -> String {
     let (session, path) = listener(rt, alloc, text);
     let room = listeners.may_listen(&session, &path);

@@ -157,7 +157,7 @@ fn entries_are_numbered(rt: HostRuntime) {
     check_entry(&rt, &log, 4, None);
 }
 
-// The batch begins with this number, and has this moment and so many entries.
+// The batch begins with this number, and has this moment and this many entries.
 fn check_batch(rt: &impl Abort, batch: &Batch, first: u64, now: u64, count: usize) {
     assert_eq!(rt; batch.first().get(), first);
     assert_eq!(rt; batch.moment(), Moment::at(now));

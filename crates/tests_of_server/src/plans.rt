@@ -47,7 +47,7 @@ fn printed(rt: &impl Abort, alloc: Global, tree: &Tree) -> String {
     text.expect(rt, "memory")
 }
 
-// A path and a value behind it.
+// A path and a value after it.
 fn placement(rt: &impl Abort, alloc: Global, text: &str) -> Placement {
     let (path, value) = text.split_once(' ').expect(rt, "a value");
     let path = Path::parse(alloc, path).expect(rt, "a path");
@@ -62,7 +62,7 @@ fn one_put(rt: &impl Abort, alloc: Global, text: &str) -> Puts {
     Puts::new(places).expect(rt, "a put")
 }
 
-// Two puts behind one another.
+// Two puts, one after the other.
 fn two_puts(rt: &impl Abort, alloc: Global, text: &str) -> Puts {
     let (first, second) = text.split_once(", ").expect(rt, "two places");
     let mut places = Vec::new(alloc);
@@ -148,7 +148,7 @@ fn written(rt: &impl Abort, alloc: Global, write: &Basic) -> String {
     text
 }
 
-// What is due, each write behind the number of its message.
+// What is due, each write after the number of its message.
 fn due(rt: &impl Abort, alloc: Global, plan: &Plan, tree: Tree) -> String {
     let rows = plan.due(alloc, &tree, Moment::at(5000));
     drop(tree);
@@ -190,7 +190,7 @@ fn ended(rt: &impl Abort, alloc: Global, case: &str) -> String {
     end(rt, alloc, &plan, tree)
 }
 
-// A plan of so many puts.
+// A plan of this many puts.
 fn filled(rt: &impl Abort, alloc: Global, rows: u64) -> Plan {
     let mut plan = Plan::new(alloc);
     for q in 1..=rows {
@@ -217,7 +217,7 @@ fn refused(rt: &impl Abort, alloc: Global, mut plan: Plan, action: &str) -> Stri
     format!(in alloc; "{fault:?} {}", plan.rows().count()).expect(rt, "memory")
 }
 
-// Whether a plan of so many puts has room for the action, and what the action comes to.
+// Whether a plan of this many puts has room for the action, and the action's result.
 fn tried(rt: &impl Abort, alloc: Global, case: &str) -> String {
     let (rows, action) = case.split_once(' ').expect(rt, "an action");
     let plan = filled(rt, alloc, rows.parse().expect(rt, "a number"));

@@ -1,4 +1,4 @@
-//! Runs in which a server is made anew from its batches.
+//! Runs in which a server is rebuilt from its batches.
 
 use crate::said::expect_text;
 use crate::turns::check;
@@ -10,7 +10,7 @@ fn said(rt: &impl Abort, alloc: Global, word: &str) -> String {
     String::from_str(alloc, word).expect(rt, "memory")
 }
 
-// The server that is made anew from all batches of this one's log.
+// The server that is rebuilt from all batches of this one's log.
 pub(crate) fn replayed(
     rt: &impl Abort,
     alloc: Global,

@@ -26,7 +26,7 @@ fn emitted(rt: &impl Abort, live: &mut Live<NoPlan>) -> u64 {
     live.emit().expect(rt, "one message more").get()
 }
 
-// So many messages have to have come from the client and gone to it.
+// This many messages must have come from the client and gone to it.
 fn check_counts(rt: &impl Abort, live: &Live<NoPlan>, count: u64, sent: u64) {
     assert_eq!(rt; (live.count().get(), live.sent().get()), (count, sent));
 }

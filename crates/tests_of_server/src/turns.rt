@@ -1,10 +1,11 @@
-//! Runs of a server. A run is a text of steps, with a blank line between two: a step and, behind
-//! `=>`, what it must say. A step is a moment and an input, whose answers it says (`1000 {..}`, or in
-//! place of a message `lost`, `slow` and a session, `restart` and a client, or `tick`); the same behind `see`,
-//! which says what is seen of the server afterwards, or behind `abandon`, whose commit is refused;
-//! or a question about the server: `seen`, `log`, `moments`, `counts`, `value` and a path, `history` and a client;
-//! or `replay`, from which on the server is one that is made anew from all batches, or that and numbers
-//! of batches, which says what becomes of these in a server of their own.
+//! Runs of a server. A run is a text of steps, with a blank line between two: a step and, after
+//! `=>`, its expected result. A step is a moment and an input, with its answers as result (`1000
+//! {..}`, or in place of a message `lost`, `slow` and a session, `restart` and a client, or
+//! `tick`); the same after `see`, whose result is what is seen of the server afterwards, or after
+//! `abandon`, whose commit is refused; or a question about the server: `seen`, `log`, `moments`,
+//! `counts`, `value` and a path, `history` and a client; or `replay`, from which on the server is
+//! one that is rebuilt from all batches, or that and numbers of batches, whose result is what
+//! becomes of these in a server of their own.
 
 use crate::replays::{ordered, replayed};
 use crate::said::expect_said;
@@ -78,7 +79,7 @@ fn fault_text(rt: &impl Abort, alloc: Global, fault: Fault) -> String {
     text.expect(rt, "memory")
 }
 
-// The server after the commit, whose batch goes behind those before, and what it answers.
+// The server after the commit, whose batch is appended to those before, and its answers.
 fn done(rt: &impl Abort, alloc: Global, busy: Busy, log: &mut Vec<Batch>) -> (Server, String) {
     let batch = busy.batch().copy(alloc).expect(rt, "memory");
     log.push(batch).expect(rt, "memory");
@@ -574,7 +575,7 @@ fn opening(rt: &impl Abort, alloc: Global, client: u64) -> String {
     .expect(rt, "memory")
 }
 
-// A run in which so many sessions open, and then one more is to.
+// A run in which this many sessions open, and then one more is to.
 fn openings(rt: &impl Abort, alloc: Global, clients: u64) -> String {
     let mut run = String::new(alloc);
     for client in 1..=clients {

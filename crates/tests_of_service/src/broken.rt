@@ -20,7 +20,7 @@ fn copies(rt: &impl Abort, alloc: Global, pieces: &[Vec<u8>]) -> Vec<Vec<u8>> {
     copies
 }
 
-// What a stream of these pieces told that fails so, and how its connection ended.
+// The messages of a stream with these pieces and failures, and how its connection ended.
 fn broken<R: Wait + Threads + Abort + Sync>(
     rt: &R,
     alloc: Global,
@@ -83,8 +83,8 @@ fn each_failed_write_ends_the_session(rt: HostRuntime) {
     assert_eq!(rt; failures(&rt, rt.alloc(), false), 8);
 }
 
-// How a connection ends whose stream gives these lines, if any, and then nothing for so many reads, and is
-// over then.
+// How a connection ends whose stream gives these lines, if any, and then nothing for this many
+// reads, and then ends.
 fn ended_silent<R: Wait + Threads + Abort + Sync>(
     rt: &R,
     alloc: Global,
@@ -95,7 +95,7 @@ fn ended_silent<R: Wait + Threads + Abort + Sync>(
         Some(lines) => pieces(rt, alloc, lines),
         None => Vec::new(alloc),
     };
-    // one read gives nothing behind each piece
+    // one read gives nothing after each piece
     let behind = if given.is_empty() { 0 } else { 1 };
     for _ in behind..reads {
         given.push(Vec::new(alloc)).expect(rt, "memory");

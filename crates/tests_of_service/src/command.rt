@@ -1,4 +1,4 @@
-//! Command lines, and the statuses they come to.
+//! Command lines, and their exit statuses.
 
 use pres_command::presence_run;
 use std::io;
@@ -33,14 +33,14 @@ struct Ran {
 }
 
 impl Ran {
-    // It has to have written this, and come to this status.
+    // It must have written this, with this status.
     fn expect(&self, rt: &impl Abort, status: u8, output: &str, faults: &str) {
         assert_eq!(rt; self.status, status, "{output}");
         assert!(rt; self.output.as_slice() == output.as_bytes(), "{output}");
         assert!(rt; self.faults.as_slice() == faults.as_bytes(), "{output}");
     }
 
-    // It has to have come to this status: at 0 it wrote only what was asked for, and else only why.
+    // Its status must be this: with 0 it wrote only what was asked for, and else only why.
     fn expect_status(&self, rt: &impl Abort, words: &[&str], status: u8) {
         assert_eq!(rt; self.status, status, "{words:?}");
         assert_eq!(rt; self.output.is_empty(), status != 0, "{words:?}");
@@ -82,7 +82,7 @@ fn applies_lines(rt: HostRuntime) {
     ran.expect(&rt, 1, refused, "presence: input refused\n");
 }
 
-// The words, each behind a blank, have to come to this status.
+// The words, each after a blank, must give this status.
 fn check<
     H: Net<Listener = TcpListener, Stream = TcpStream>
         + Threads

@@ -25,7 +25,7 @@ impl Clock for Stopped {
     }
 }
 
-/// The report's number, what was accepted, seats out and total, whether a session is open behind a
+/// The report's number, what was accepted, seats out and total, whether a session is open after a
 /// tick, and the end in words.
 #[derive(Drop)]
 pub(crate) struct Outcome {
@@ -134,8 +134,8 @@ pub(crate) fn served<R: Wait + Threads + Abort + Sync>(
     served_with::<Brand, R>(rt, alloc, Blank::new(1 << 53), stream)
 }
 
-/// The pieces of a stream: the request, and a frame for each line, whose first word is its kind; behind
-/// `nothing` a read gives nothing.
+/// The pieces of a stream: the request, and a frame for each line, whose first word is its kind;
+/// after `nothing` a read gives nothing.
 pub(crate) fn pieces(rt: &impl Abort, alloc: Global, lines: &str) -> Vec<Vec<u8>> {
     let mut pieces = Vec::new(alloc);
     let mut head = Vec::new(alloc);
@@ -176,8 +176,8 @@ fn answered<R: Wait + Threads + Abort + Sync>(
     (said(rt, alloc, traces), served)
 }
 
-// A connection of these lines has to be answered so, and closed, and to make as many entries as this,
-// of which so many were accepted.
+// A connection of these lines must be answered so, and closed, and make this many entries, of which
+// this many were accepted.
 fn check_closed<R: Wait + Threads + Abort + Sync>(
     rt: &R,
     alloc: Global,
@@ -234,13 +234,13 @@ const BYE_ANSWERS: &str = r#"{"m":"welcome","ops":0,"s":["alice",1,1],"z":1}
 close
 "#;
 
-// Behind Gone the connection is closed.
+// After Gone the connection is closed.
 #[test]
 fn a_bye_closes_the_connection(rt: HostRuntime) {
     check_closed(&rt, rt.alloc(), BYE, BYE_ANSWERS, (2, 2));
 }
 
-// So many lines of nothing let a connection rest.
+// This many lines of nothing let a connection rest.
 const RESTS: usize = 30;
 
 // The lines, with a rest before each.
@@ -255,7 +255,7 @@ fn with_rests(rt: &impl Abort, alloc: Global, lines: &str) -> String {
     rested
 }
 
-// What comes behind a rest is answered as what comes at once.
+// What comes after a rest is answered as what comes at once.
 #[test]
 fn what_comes_behind_a_rest_is_answered(rt: HostRuntime) {
     let lines = with_rests(&rt, rt.alloc(), BYE);

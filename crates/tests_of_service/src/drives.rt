@@ -179,7 +179,7 @@ fn stale(rt: &impl Abort, alloc: Global, number: u64) -> String {
     text.expect(rt, "memory")
 }
 
-// A Welcome, and so many such answers.
+// A Welcome, and this many such answers.
 fn overtaken(rt: &impl Abort, alloc: Global, tries: u64) -> String {
     let welcome = r#"{"m":"welcome","ops":0,"s":["alice",1,1],"z":1}"#;
     let mut served = String::from_str(alloc, welcome).expect(rt, "memory");

@@ -38,7 +38,7 @@ impl ServerFiles {
         }
     }
 
-    /// Makes the file anew, as a database without tables, with pages of 4,096 bytes.
+    /// Makes the file again, as a database without tables, with pages of 4,096 bytes.
     pub(crate) fn make_blank(&self, host: &HostRuntime, rt: &impl Abort) {
         self.clear(host);
         let blank = Connection::open(host, self.file.as_str()).expect(rt, "a database");

@@ -10,7 +10,7 @@ use std::process::Abort;
 pub(crate) const HEAD: &[u8] =
     b"GET / HTTP/1.1\r\nHost: x\r\nUpgrade: websocket\r\nConnection: Upgrade\r\nSec-WebSocket-Key: dGhlIHNhbXBsZSBub25jZQ==\r\nSec-WebSocket-Version: 13\r\n\r\n";
 
-/// A stream that gives its pieces one after the other, behind each a read that gives nothing, and
+/// A stream that gives its pieces one after the other, after each a read that gives nothing, and
 /// then ends. What is written goes into a ring. The read and the write of these numbers fail, and
 /// each failure leaves a byte in another ring.
 #[derive(Drop)]
@@ -69,7 +69,7 @@ pub(crate) fn script_of(
 }
 
 impl Script {
-    // The call fails, which is told.
+    // The call fails, and leaves a byte.
     fn fail(&mut self, kind: ErrorKind) -> io::Error {
         let _ = self.failures.push(1);
         io::Error::from(kind)
@@ -167,7 +167,7 @@ fn bytes_of(rt: &impl Abort, alloc: Global, mut written: Consumer<u8, Global>) -
     bytes
 }
 
-// What is behind the answer to the request, where that is whole.
+// What follows the answer to the request, where that is whole.
 fn frames_in(bytes: &[u8]) -> Option<&[u8]> {
     let end = b"\r\n\r\n";
     let at = bytes
@@ -176,7 +176,7 @@ fn frames_in(bytes: &[u8]) -> Option<&[u8]> {
     bytes.get(at.saturating_add(end.len())..)
 }
 
-// The opcode and the payload of the first frame, and what comes behind it. Payloads are short, and
+// The opcode and the payload of the first frame, and what comes after it. Payloads are short, and
 // masks are 0.
 fn first_frame(bytes: &[u8]) -> Option<(u8, &[u8], &[u8])> {
     let (opcode, short) = (*bytes.first()? & 15, *bytes.get(1)?);
@@ -216,15 +216,15 @@ fn texts_in(rt: &impl Abort, alloc: Global, frames: &[u8]) -> String {
     said
 }
 
-/// What a stream told: whether one of its calls failed, and the texts that were sent behind a whole
-/// answer to the request, where there was one.
+/// What a stream recorded: whether one of its calls failed, and the texts that were sent after a
+/// whole answer to the request, where there was one.
 #[derive(Drop)]
 pub(crate) struct Heard {
     pub(crate) failed: bool,
     pub(crate) sent: Option<String>,
 }
 
-/// What a stream told.
+/// What a stream recorded.
 pub(crate) fn told(rt: &impl Abort, alloc: Global, traces: Traces) -> Heard {
     let Traces {
         output,

@@ -64,7 +64,7 @@ fn visit<
     4
 }
 
-// What a server and its visitor print. A second visitor may come once the first one was told this.
+// What a server and its visitor print. A second visitor may come once the first one got this.
 fn meet<
     R: Net<Listener = TcpListener, Stream = TcpStream>
         + RandomSource
@@ -160,7 +160,7 @@ fn a_file_survives(rt: HostRuntime) {
     place.clear(&rt);
 }
 
-// Each call that makes a message, and what stays behind its session.
+// Each call that makes a message, and what stays after its session.
 const CALLS: Visitor = Visitor {
     id: "alice",
     incarnation: 1,
@@ -258,7 +258,7 @@ fn two_visitors_meet(rt: HostRuntime) {
     place.clear(&rt);
 }
 
-// The lines have to be told as bad before there is a connection: nobody listens there.
+// The lines must be printed as bad before there is a connection: nobody listens there.
 fn check_bad_lines<
     R: Net<Listener = TcpListener, Stream = TcpStream> + RandomSource + Clock + Wait + Abort + Copy,
 >(rt: &R, alloc: Global, lines: &'static str, told: &str) {
@@ -338,7 +338,7 @@ fn told_at<R: Net<Listener = TcpListener, Stream = TcpStream> + Wait + Clock + A
     told
 }
 
-// A server's exit status behind a stranger, and what that was told.
+// A server's exit status after a stranger, and what the stranger got.
 fn met_by<
     R: Net<Listener = TcpListener, Stream = TcpStream> + Threads + Wait + Clock + Abort + Sync,
 >(host: &HostRuntime, rt: &R, place: &ServerFiles, stranger: Stranger) -> (u8, String) {
@@ -371,7 +371,7 @@ Content-Type: text/plain\r
 A WebSocket is served here.
 ";
 
-// Who opens no WebSocket is told what is served.
+// A peer that opens no WebSocket gets a text that says what is served.
 #[test]
 fn a_request_for_a_page_is_answered(rt: HostRuntime) {
     let place = new_place(&rt, &rt, "page");
@@ -394,7 +394,7 @@ Sec-WebSocket-Version: 13\r
     second: b"\x83\x80\x00\x00\x00\x00",
 };
 
-// Who opened a WebSocket hears nothing behind such a frame, and no HTTP.
+// A peer that opened a WebSocket hears nothing after such a frame, and no HTTP.
 #[test]
 fn a_broken_frame_is_no_request(rt: HostRuntime) {
     let place = new_place(&rt, &rt, "frame");

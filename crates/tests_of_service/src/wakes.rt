@@ -41,12 +41,12 @@ fn read(stream: &mut Wakeable<'_>) -> Result<usize, ErrorKind> {
     stream.read(&mut [0u8; 64]).map_err(|e| e.kind())
 }
 
-// A read has to come to this.
+// A read must have this result.
 fn expect_read(rt: &impl Abort, stream: &mut Wakeable<'_>, wanted: Result<usize, ErrorKind>) {
     assert_eq!(rt; read(stream), wanted);
 }
 
-// It has to be soon behind the start.
+// It must be soon after the start.
 fn expect_soon<R: Clock + Abort>(rt: &R, start: &Instant) {
     let elapsed = start.elapsed(rt).expect(rt, "a clock");
     assert!(rt; elapsed < Duration::from_millis(LONG_MILLIS));

@@ -1,6 +1,6 @@
 //! Scripts of a world, and what each makes. A script is data, so a new one costs no proof. A whole
-//! script has, after each line, what it makes, and at its end how the world is, each line after `> `.
-//! A told script has the same without the packets.
+//! script has, after each line, what it makes, and at its end how the world is, each line after `>
+//! `. A told script has the same without the packets.
 
 use pres_service::ServiceFault;
 use pres_sim::sim_run;
@@ -215,7 +215,7 @@ down 4
 > tree {"a":3}
 > status 0"#;
 
-// A client that starts again goes on behind the writes that the server has. The first Hello of its
+// A client that starts again goes on after the writes that the server has. The first Hello of its
 // second start is lost.
 const RESTARTED: &str = r#"clients alice
 call alice set /a 1
@@ -367,9 +367,9 @@ down 6
 > view bob /a 5 1
 > status 0"#;
 
-// What a client shows of a path stays over the end of its session, until the next one shows it anew;
-// once it doesn't listen any more it shows nothing. Each part goes on from those before it, and ends
-// with how the world is then.
+// What a client shows of a path stays over the end of its session, until the next one sends it
+// again; once it doesn't listen any more it shows nothing. Each part goes on from those before it,
+// and ends with how the world is then.
 const ACROSS_A_LOSS: &[(&str, &str)] = &[
     (
         r#"clients alice bob
@@ -671,7 +671,7 @@ fn check(rt: &impl Abort, alloc: Global, script: &str, makes: &str) {
     assert_eq!(rt; made.as_str(), makes, "{script}");
 }
 
-// The lines of a told script that are told, or the others.
+// The lines of a told script that are expected, or the others.
 fn lines_of(rt: &impl Abort, alloc: Global, script: &str, told: bool) -> String {
     let mut lines = String::new(alloc);
     for line in script.lines() {

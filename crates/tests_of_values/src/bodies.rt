@@ -132,7 +132,7 @@ fn other_texts_are_none(rt: HostRuntime) {
     check(&rt, rt.alloc(), NO_PUTS);
 }
 
-// An end with a write of the value at a path of so many keys.
+// An end with a write of the value at a path of this many keys.
 fn deep_text(rt: &impl Abort, alloc: Global, keys: usize, value: &str) -> String {
     let mut path = String::new(alloc);
     for _ in 0..keys {

@@ -50,7 +50,7 @@ fn read_by_client(rt: &impl Abort, alloc: Global, text: &str) -> (String, bool) 
     (printed.expect(rt, "memory"), false)
 }
 
-// The text comes to this, or has this refusal.
+// The text has this result, or has this refusal.
 fn expect_read(rt: &impl Abort, alloc: Global, reader: Reader, text: &str, wanted: &str) {
     let (answer, _) = read_by(rt, alloc, reader, text);
     expect_text(rt, answer, wanted);
@@ -81,7 +81,7 @@ fn beginnings_are_no_json(rt: HostRuntime) {
     expect_no_beginning(&rt, rt.alloc(), Reader::Client, SNAP);
 }
 
-// The text so many times.
+// The text this many times.
 fn repeated(rt: &impl Abort, alloc: Global, text: &str, times: usize) -> String {
     let mut made = String::new(alloc);
     for _ in 0..times {
@@ -90,7 +90,7 @@ fn repeated(rt: &impl Abort, alloc: Global, text: &str, times: usize) -> String 
     made
 }
 
-// An Op that sets the root to so many objects, each in the one before, with 1 in the last.
+// An Op that sets the root to this many objects, each in the one before, with 1 in the last.
 fn nested_op(rt: &impl Abort, alloc: Global, depth: usize) -> String {
     let opened = repeated(rt, alloc, r#"{"a":"#, depth);
     let closed = repeated(rt, alloc, "}", depth);

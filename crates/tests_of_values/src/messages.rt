@@ -172,7 +172,7 @@ fn left_text(rt: &impl Abort, alloc: Global, case: &str) -> String {
 
 const HELLO: &str = r#"{"m":"hello","s":["a",1,1]}"#;
 
-// A Hello, filled up with spaces to so many bytes, and an end, of a case such as `40+x`.
+// A Hello, filled up with spaces to this many bytes, and an end, of a case such as `40+x`.
 fn filled_text(rt: &impl Abort, alloc: Global, case: &str) -> String {
     let (bytes, end) = case.split_once('+').expect(rt, "an end");
     let bytes: usize = bytes.parse().expect(rt, "a number");

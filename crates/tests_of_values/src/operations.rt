@@ -186,7 +186,7 @@ fn number_text(rt: &impl Abort, alloc: Global, text: &str) -> String {
         .expect(rt, "memory")
 }
 
-// A path of so many keys.
+// A path of this many keys.
 fn path_of(rt: &impl Abort, alloc: Global, keys: usize) -> String {
     let mut text = String::new(alloc);
     for _ in 0..keys {
@@ -195,14 +195,14 @@ fn path_of(rt: &impl Abort, alloc: Global, keys: usize) -> String {
     text
 }
 
-// The set of a value below so many keys.
+// The set of a value below this many keys.
 fn set_below(rt: &impl Abort, alloc: Global, case: &str) -> String {
     let (keys, value) = case.split_once(' ').expect(rt, "a value");
     let path = path_of(rt, alloc, keys.parse().expect(rt, "a number"));
     format!(in alloc; r#"{{"op":"set","path":"{path}","value":{value}}}"#).expect(rt, "memory")
 }
 
-// An update of so many places.
+// An update of this many places.
 fn update_of(rt: &impl Abort, alloc: Global, places: usize) -> String {
     let text = String::from_str(alloc, r#"{"op":"update","path":"/","values":{"p":1"#);
     let mut text = text.expect(rt, "memory");
@@ -230,7 +230,7 @@ fn compare(rt: &impl Abort, alloc: Global, expect: &str) -> Op {
     op_of(rt, alloc, text.as_str())
 }
 
-// What the comparison comes to on a tree.
+// The result of the comparison on a tree.
 fn compared(rt: &impl Abort, alloc: Global, expect: &str) -> Outcome {
     let tree = tree_of(rt, alloc, r#"{"n":{"0":1,"2":{"a":"x"}}}"#);
     let op = compare(rt, alloc, expect);

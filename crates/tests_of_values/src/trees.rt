@@ -138,7 +138,7 @@ fn first_keys(rt: &impl Abort, alloc: Global, path: &str, len: usize) -> String 
     first.text(alloc).expect(rt, "memory")
 }
 
-// The text of a case such as `33 /a+/[`: so many times a part, and an end.
+// The text of a case such as `33 /a+/[`: this many times a part, and an end.
 fn repeated_text(rt: &impl Abort, alloc: Global, case: &str) -> String {
     let (count, rest) = case.split_once(' ').expect(rt, "a part");
     let (part, end) = rest.split_once('+').expect(rt, "an end");
@@ -222,14 +222,14 @@ fn value_answer(rt: &impl Abort, alloc: Global, text: &str) -> String {
     }
 }
 
-// A value below so many keys.
+// A value below this many keys.
 fn nested(rt: &impl Abort, alloc: Global, value: &str, keys: usize) -> String {
     let before = repeated(rt, alloc, "{\"a\":", keys);
     let after = repeated(rt, alloc, "}", keys);
     format!(in alloc; "{before}{value}{after}").expect(rt, "memory")
 }
 
-// The answer for a value below so many keys.
+// The answer for a value below this many keys.
 fn nested_answer(rt: &impl Abort, alloc: Global, case: &str) -> String {
     let (keys, value) = case.split_once(' ').expect(rt, "a value");
     let text = nested(rt, alloc, value, keys.parse().expect(rt, "a number"));
@@ -304,7 +304,7 @@ fn left_answer(rt: &impl Abort, alloc: Global, writes: &str) -> String {
     said
 }
 
-// The numbers from 0 on, so many, each at itself, but 100 at 10 and nothing at 11.
+// The numbers from 0 on, this many, each at itself, but 100 at 10 and nothing at 11.
 fn numbers(rt: &impl Abort, alloc: Global, count: usize) -> Tree {
     let mut tree = Tree::empty();
     for number in 0..count {

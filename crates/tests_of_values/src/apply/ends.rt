@@ -8,7 +8,7 @@ const SET_A: &str = r#"{"now":1000,"op":"set","path":"/a","value":1}"#;
 
 const SET_AB: &str = r#"{"now":1001,"op":"set","path":"/a/b","value":2}"#;
 
-// An input that breaks behind these bytes has to be answered so.
+// An input that breaks after these bytes must be answered so.
 fn check_broken(rt: &impl Abort, alloc: Global, bytes: &[u8], output: &str) {
     let mut input = Drops {
         rest: bytes,
@@ -28,7 +28,7 @@ fn stops_where_a_read_fails(rt: HostRuntime) {
     check_broken(&rt, alloc, text.as_bytes(), "1 wrote\nrefused 12 NotJson\n");
 }
 
-// An output that takes so many writes has to hold this, and the run to come to this.
+// An output that takes this many writes must hold this, and the run must end so.
 fn check_clogged(rt: &impl Abort, alloc: Global, writes: usize, wanted: &str, end: End) {
     let text = format!(in alloc; "{SET_A}\n{SET_AB}\n").expect(rt, "memory");
     let mut input = Drops {

@@ -172,7 +172,7 @@ fn refuses_lines(rt: HostRuntime) {
     check_fault(&rt, alloc, b"\"\xff\"\n", "12 NotJson");
 }
 
-// A `set` of null at the path of so many parts, with spaces behind it up to so many bytes.
+// A `set` of null at the path of this many parts, with spaces after it up to this many bytes.
 fn padded(rt: &impl Abort, alloc: Global, part: &str, count: usize, bytes: usize) -> String {
     let path = part.repeat(alloc, count).expect(rt, "memory");
     let line = format!(in alloc; r#"{{"now":1,"op":"set","path":"{path}","value":null}}"#);

@@ -29,7 +29,7 @@ impl<'a> Read for Drops<'a> {
     }
 }
 
-// Takes what it is given at so many writes, and fails from then on.
+// Takes what it is given for this many writes, and fails from then on.
 #[derive(Drop)]
 pub(crate) struct Clogs {
     pub(crate) taken: Vec<u8>,
@@ -68,7 +68,7 @@ pub(crate) fn ended<R: Read, W: Write>(alloc: Global, input: &mut R, output: &mu
     }
 }
 
-/// Whether a run over the input writes this, and comes to this.
+/// Whether a run over the input writes this, and ends so.
 pub(crate) fn answers<R: Read>(alloc: Global, input: &mut R, wanted: &str, end: End) -> bool {
     let mut output = Vec::new(alloc);
     let came = ended(alloc, input, &mut output);
