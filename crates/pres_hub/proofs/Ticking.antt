@@ -80,8 +80,8 @@ module _ {A : Type 0} (works : A → Type 0) (keeps : A → Log → Type 0) (now
       let k = since log stands in
       let l = k.2 here.run.server here.lines (0, (refl, refl)) in
       subst
-          (λ behind. (last : Option SumState) × (ended : AreLateEnded now old.run.server last old.lines behind)
-          × IsEventRefused input.Tick now last new.run.server e × IsCoreLog works keeps (log_late log now ended.0 old.run.server last old.lines behind ended.1) new)
+      (λ behind. (last : Option SumState) × (ended : AreLateEnded now old.run.server last old.lines behind)
+      × IsEventRefused input.Tick now last new.run.server e × IsCoreLog works keeps (log_late log now ended.0 old.run.server last old.lines behind ended.1) new)
       (sym lines) (here.run.server, l.0, refused, subst (λ x. IsCoreLog works keeps x new) (sym l.1) (still k.0 k.1))
 
   -- ---- a tick that stops
