@@ -4,28 +4,9 @@ ghost use Rattle.std.specs.Prelude.{◌≡◌, IfOk};
 
 use crate::parts::{BaseParts, ClientPart, SessionPart};
 use pres_plan::{Action, PlanRow};
-use pres_retry::Answers;
 use pres_tree::Path;
 use pres_write::Items;
 use std::alloc::{AllocError, Global};
-
-// Equal answers.
-fn copy_answers(alloc: Global, answers: &Answers) -> Result<Answers, AllocError>
-    ensures { IfOk result (λ made. made ≡ answers.now) }
-{
-    // it ensures that they are few
-    let _ = answers.count().get();
-    let mut made = Answers::new(alloc);
-    for answer in answers.iter() {
-        let Some(n) = made.count().next() else {
-            unreachable!()
-        };
-        let Ok(()) = made.push(alloc, n, answer.done, answer.kept.copy(alloc)?) else {
-            return Err(AllocError);
-        };
-    }
-    Ok(made)
-}
 
 // An equal client.
 fn copy_client(alloc: Global, client: &ClientPart) -> Result<ClientPart, AllocError>
@@ -34,7 +15,7 @@ fn copy_client(alloc: Global, client: &ClientPart) -> Result<ClientPart, AllocEr
     Ok(ClientPart {
         id: client.id.copy(alloc)?,
         last: client.last,
-        rows: copy_answers(alloc, &client.rows)?,
+        rows: client.rows.copy(alloc)?,
     })
 }
 

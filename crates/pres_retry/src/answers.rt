@@ -242,6 +242,24 @@ impl Answers {
         Ok(rows)
     }
 
+    /// Equal answers.
+    pub fn copy(&self, alloc: Global) -> Result<Answers, AllocError>
+        ensures { IfOk result (λ made. made ≡ self.now) }
+    {
+        // it ensures that they are few
+        let _ = self.count().get();
+        let mut made = Answers::new(alloc);
+        for answer in self.iter() {
+            let Some(n) = made.count().next() else {
+                unreachable!()
+            };
+            let Ok(()) = made.push(alloc, n, answer.done, answer.kept.copy(alloc)?) else {
+                return Err(AllocError);
+            };
+        }
+        Ok(made)
+    }
+
     /// Keeps the answer to the next write. Memory is the one refusal.
     pub fn push(
         &mut self,
