@@ -1,5 +1,5 @@
 -- Numbers in shelves, and the rows that they stand for.
-use Rattle.std.proofs.Common.{◌≡◌, false, ℕ, zero, suc, ◌+◌, ◌-◌, ◌*◌, ◌<◌, ◌≤◌, List, [], ◌∷◌, ◌++◌, length, Option, Some, None, Vec, Global, All, Bor, is_eq, refl, sym, ◌∙◌, ap, subst, append_assoc, append-nil, length-append, drop, drop-cons, arith}
+use Rattle.std.proofs.Common.{◌≡◌, false, ℕ, zero, suc, ◌+◌, ◌-◌, ◌*◌, ◌<◌, ◌≤◌, List, [], ◌∷◌, ◌++◌, length, Option, Some, None, All, Bor, is_eq, refl, sym, ◌∙◌, ap, subst, append_assoc, append-nil, length-append, drop, drop-cons, arith}
 use Rattle.std.proofs.Math.ListN.{drop_of_length-le}
 use Rattle.std.specs.List.{flat_map, slice_get}
 use Rattle.std.specs.Option.{option_map, option_copied}
@@ -55,23 +55,23 @@ module _ {X : Type 0} where
 -- ---- shelves of k numbers each
 
 abbrev pub AreLong : ℕ → Shelves → Type 0
-AreLong k full = All (λ (shelf : Vec ℕ Global). length shelf.items ≡ k) full
+AreLong k full = All (λ (shelf : List ℕ). length shelf ≡ k) full
 
-first_long : (k : ℕ) (shelf : Vec ℕ Global) (full : Shelves) → AreLong k (shelf ∷ full) → length shelf.items ≡ k
-first_long k shelf full long = All-head (λ (s : Vec ℕ Global). length s.items ≡ k) shelf full long
+first_long : (k : ℕ) (shelf : List ℕ) (full : Shelves) → AreLong k (shelf ∷ full) → length shelf ≡ k
+first_long k shelf full long = All-head (λ (s : List ℕ). length s ≡ k) shelf full long
 
-others_long : (k : ℕ) (shelf : Vec ℕ Global) (full : Shelves) → AreLong k (shelf ∷ full) → AreLong k full
-others_long k shelf full long = All-tail (λ (s : Vec ℕ Global). length s.items ≡ k) shelf full long
+others_long : (k : ℕ) (shelf : List ℕ) (full : Shelves) → AreLong k (shelf ∷ full) → AreLong k full
+others_long k shelf full long = All-tail (λ (s : List ℕ). length s ≡ k) shelf full long
 
 abbrev shelved : Shelves → List ℕ
-shelved full = flat_map (λ (shelf : Vec ℕ Global). shelf.items) full
+shelved full = flat_map (λ (shelf : List ℕ). shelf) full
 
 shelved_counted : (k : ℕ) (full : Shelves) → AreLong k full → length (shelved full) ≡ length full * k
 shelved_counted k [] long = omega arith
 shelved_counted k (shelf ∷ full) long =
     let first = first_long k shelf full long in
     let later = shelved_counted k full (others_long k shelf full long) in
-    length-append shelf.items (shelved full) ∙ omega (arith, first, later)
+    length-append shelf (shelved full) ∙ omega (arith, first, later)
 
 -- how many numbers there are
 pub numbers_counted : (k : ℕ) (full : Shelves) (last : List ℕ) → AreLong k full → length (numbers_in full last) ≡ length full * k + length last
@@ -80,23 +80,23 @@ numbers_counted k full last long =
     length-append (shelved full) last ∙ ap (λ n. n + length last) e
 
 -- a number that stands in a full shelf
-pub number_within : (k : ℕ) (full : Shelves) (last : List ℕ) (q r : ℕ) (shelf : Vec ℕ Global) → AreLong k full → slice_get full q ≡ Some shelf → r < k
-    → slice_get (numbers_in full last) (q * k + r) ≡ slice_get shelf.items r
+pub number_within : (k : ℕ) (full : Shelves) (last : List ℕ) (q r : ℕ) (shelf : List ℕ) → AreLong k full → slice_get full q ≡ Some shelf → r < k
+    → slice_get (numbers_in full last) (q * k + r) ≡ slice_get shelf r
 number_within k [] last q r shelf long has below = absurd (cc)
 number_within k (s ∷ full) last zero r shelf long has below =
     let first = first_long k s full long in
     let e : zero * k + r ≡ r = omega arith in
-    let within : r < length s.items = omega (arith, first) in
-    ap (λ xs. slice_get xs (zero * k + r)) (append_assoc s.items (shelved full) last)
-    ∙ ap (slice_get (s.items ++ numbers_in full last)) e
-    ∙ slice_get-front s.items (numbers_in full last) r within
-    ∙ ap (λ (it : Vec ℕ Global). slice_get it.items r) (same_Some s shelf has)
+    let within : r < length s = omega (arith, first) in
+    ap (λ xs. slice_get xs (zero * k + r)) (append_assoc s (shelved full) last)
+    ∙ ap (slice_get (s ++ numbers_in full last)) e
+    ∙ slice_get-front s (numbers_in full last) r within
+    ∙ ap (λ (it : List ℕ). slice_get it r) (same_Some s shelf has)
 number_within k (s ∷ full) last (suc q) r shelf long has below =
     let first = first_long k s full long in
-    let e : suc q * k + r ≡ length s.items + (q * k + r) = omega (arith, first) in
-    ap (λ xs. slice_get xs (suc q * k + r)) (append_assoc s.items (shelved full) last)
-    ∙ ap (slice_get (s.items ++ numbers_in full last)) e
-    ∙ slice_get-back s.items (numbers_in full last) (q * k + r)
+    let e : suc q * k + r ≡ length s + (q * k + r) = omega (arith, first) in
+    ap (λ xs. slice_get xs (suc q * k + r)) (append_assoc s (shelved full) last)
+    ∙ ap (slice_get (s ++ numbers_in full last)) e
+    ∙ slice_get-back s (numbers_in full last) (q * k + r)
     ∙ number_within k full last q r shelf (others_long k s full long) has below
 
 -- one that stands past them
@@ -108,11 +108,11 @@ number_past k full last place long past =
     ap (slice_get (numbers_in full last)) e ∙ slice_get-back (shelved full) last (place - length full * k)
 
 -- a shelf more, with no numbers past it
-pub numbers_shelved : (full : Shelves) (shelf : Vec ℕ Global) → numbers_in (full ++ shelf ∷ []) [] ≡ numbers_in full shelf.items
+pub numbers_shelved : (full : Shelves) (shelf : List ℕ) → numbers_in (full ++ shelf ∷ []) [] ≡ numbers_in full shelf
 numbers_shelved full shelf =
     append-nil (shelved (full ++ shelf ∷ []))
-    ∙ flat_map-append (λ (s : Vec ℕ Global). s.items) full (shelf ∷ [])
-    ∙ ap (λ xs. shelved full ++ xs) (append-nil shelf.items)
+    ∙ flat_map-append (λ (s : List ℕ). s) full (shelf ∷ [])
+    ∙ ap (λ xs. shelved full ++ xs) (append-nil shelf)
 
 -- a number more
 pub numbers_more : (full : Shelves) (last : List ℕ) (done : ℕ) → numbers_in full (last ++ done ∷ []) ≡ numbers_in full last ++ done ∷ []

@@ -1,4 +1,5 @@
 pub mod Faults
+pub mod Offsets
 pub mod Shelves
 pub mod Tables
 pub mod Verdicts

@@ -1,10 +1,9 @@
 -- The numbers of a client's writes in shelves, and the rows that they stand for.
-use Rattle.std.specs.Prelude.{◌≡◌, ◌+◌, ◌<◌, ◌≤◌, ℕ, List, [], ◌∷◌, ◌++◌, Option, None, Some, Vec, All, length}
+use Rattle.std.specs.Prelude.{◌≡◌, ◌+◌, ◌<◌, ◌≤◌, ℕ, List, [], ◌∷◌, ◌++◌, Option, None, Some, All, length}
 use Rattle.std.specs.List.{flat_map}
 use Rattle.std.specs.Map.{lookup}
 use Rattle.std.specs.BTreeMap.{is_at}
 use Rattle.std.specs.Ordering.{nat_cmp}
-use Rattle.std.specs.declared.alloc.Global.{Global}
 use Rattle.pres_ids.specs.Numbers.{greatest_number}
 use Rattle.pres_tree.specs.Rows.{Rows}
 use Rattle.pres_tree.specs.declared.scalar.Scalar.{Scalar}
@@ -15,17 +14,17 @@ use Rattle.pres_retry.specs.Tables.{row}
 
 -- how many numbers a shelf holds
 abbrev pub shelf_length : ℕ
-shelf_length = 4096
+shelf_length = 1024
 
 abbrev pub Shelves : Type 0
-Shelves = List (Vec ℕ Global)
+Shelves = List (List ℕ)
 
 -- the numbers of the full shelves and of the last one, in order
 abbrev pub numbers_in : Shelves → List ℕ → List ℕ
-numbers_in full last = flat_map (λ (shelf : Vec ℕ Global). shelf.items) full ++ last
+numbers_in full last = flat_map (λ (shelf : List ℕ). shelf) full ++ last
 
 abbrev pub AreFull : Shelves → Type 0
-AreFull full = All (λ (shelf : Vec ℕ Global). length shelf.items ≡ shelf_length) full
+AreFull full = All (λ (shelf : List ℕ). length shelf ≡ shelf_length) full
 
 -- what the places of stale writes held, by the writes' numbers
 abbrev pub StaleValues : Type 0

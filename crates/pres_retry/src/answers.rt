@@ -10,6 +10,7 @@ ghost use Rattle.pres_retry.specs.Verdicts.{lent_kept, lent_row, verdict, status
 ghost use Rattle.pres_retry.specs.declared.fault.RetryFault.TheVariants.{Memory};
 
 use crate::fault::RetryFault;
+use crate::shelf::Shelf;
 use crate::table::Row;
 use pres_ids::{Count, Number};
 use pres_tree::Tree;
@@ -20,7 +21,7 @@ use std::marker::Model;
 use std::mem;
 
 /// How many numbers a shelf holds.
-const SHELF: usize = 4096;
+const SHELF: usize = 1024;
 
 /// What an answered write came to, lent.
 #[derive(Clone, Copy)]
@@ -76,25 +77,20 @@ pub enum Verdict<'a> {
     Gap,
 }
 
-// Puts the last shelf behind the full ones, where it is full too. The numbers stay the same, also
+// Puts the last shelf after the full ones, where it is full too. The numbers stay the same, also
 // where memory is refused.
-fn shelve(
-    alloc: Global,
-    full: &mut Vec<Vec<Number>>,
-    last: &mut Vec<Number>,
-) -> Result<(), AllocError>
+fn shelve(alloc: Global, full: &mut Vec<Shelf>, last: &mut Shelf) -> Result<(), AllocError>
     requires shelves { AreFull full.old.items }
-    requires room { length last.old.items ≤ shelf_length }
-    ensures numbers { numbers_in full.new.items last.new.items
-        ≡ numbers_in full.old.items last.old.items }
+    requires room { length last.old ≤ shelf_length }
+    ensures numbers { numbers_in full.new.items last.new ≡ numbers_in full.old.items last.old }
     ensures shelves { AreFull full.new.items }
-    ensures room { length last.new.items ≤ shelf_length }
-    ensures more { OnOk result (length last.new.items < shelf_length) }
+    ensures room { length last.new ≤ shelf_length }
+    ensures more { OnOk result (length last.new < shelf_length) }
 {
-    if last.len() < SHELF {
+    if last.count() < SHELF {
         return Ok(());
     }
-    let shelf = mem::replace(last, Vec::new(alloc));
+    let shelf = mem::replace(last, Shelf::new(alloc));
     match full.push(shelf) {
         Ok(()) => Ok(()),
         Err(refused) => {
@@ -105,23 +101,23 @@ fn shelve(
 }
 
 // How many numbers there are.
-fn count_in(full: &[Vec<Number>], last: &[Number]) -> u64
+fn count_in(full: &[Shelf], last: &Shelf) -> u64
     requires shelves { AreFull full.now }
     requires few { length (numbers_in full.now last.now) ≤ greatest_number }
     ensures { result ≡ length (numbers_in full.now last.now) }
 {
-    (full.len() * SHELF + last.len()) as u64
+    (full.len() * SHELF + last.count()) as u64
 }
 
 // The number at the place, none past the last.
-fn number_at(full: &[Vec<Number>], last: &[Number], place: usize) -> Option<Number>
+fn number_at(full: &[Shelf], last: &Shelf, place: usize) -> Option<Number>
     requires { AreFull full.now }
     ensures { result ≡ slice_get (numbers_in full.now last.now) place }
 {
     if let Some(shelf) = full.get(place / SHELF) {
-        return shelf.get(place % SHELF).copied();
+        return shelf.get(place % SHELF);
     }
-    last.get(place - full.len() * SHELF).copied()
+    last.get(place - full.len() * SHELF)
 }
 
 // Keeps what the place of the next write held, where it is stale. At a refusal nothing has changed.
@@ -142,13 +138,13 @@ fn keep_held(stale: &mut BTreeMap<u64, Option<Tree>>, n: u64, kept: Kept) -> Res
 }
 
 /// The answers to the writes of one client, which are numbered 1, 2, .. Contracts see the list of
-/// their rows. One that wrote takes eight bytes, and a growing list copies at most one shelf of
+/// their rows. One that wrote takes a few bytes, and a growing list copies at most one shelf of
 /// them.
 #[derive(Drop)]
 pub struct Answers {
     // The numbers at which the writes were done, in shelves of which each but the last is full.
-    full: Vec<Vec<Number>>,
-    last: Vec<Number>,
+    full: Vec<Shelf>,
+    last: Shelf,
     // By the numbers of the stale writes, what their places held.
     stale: BTreeMap<u64, Option<Tree>>,
 }
@@ -160,9 +156,9 @@ impl Model for Answers {
 
     ghost Value = { List Row };
 
-    ghost view = { λ a. rows_in a.full.items a.last.items a.stale.entries };
+    ghost view = { λ a. rows_in a.full.items a.last a.stale.entries };
 
-    ghost invariant = { λ a. AreKept a.full.items a.last.items a.stale.entries };
+    ghost invariant = { λ a. AreKept a.full.items a.last a.stale.entries };
 }
 
 impl Answers {
@@ -172,7 +168,7 @@ impl Answers {
     {
         Answers {
             full: Vec::new(alloc),
-            last: Vec::new(alloc),
+            last: Shelf::new(alloc),
             stale: BTreeMap::new(alloc),
         }
     }
@@ -181,7 +177,7 @@ impl Answers {
     pub fn count(&self) -> Count
         ensures { result ≡ length self.now }
     {
-        let Some(count) = Count::new(count_in(self.full.as_slice(), self.last.as_slice())) else {
+        let Some(count) = Count::new(count_in(self.full.as_slice(), &self.last)) else {
             unreachable!()
         };
         count
@@ -192,7 +188,7 @@ impl Answers {
         ensures answer { option_map lent_row result ≡ slice_get self.now place }
         ensures few { length self.now ≤ greatest_number }
     {
-        let done = number_at(self.full.as_slice(), self.last.as_slice(), place)?;
+        let done = number_at(self.full.as_slice(), &self.last, place)?;
         let kept = match self.stale.get(&(place as u64 + 1)) {
             Some(held) => KeptRef::Stale(held.as_ref()),
             None => KeptRef::Wrote,
@@ -274,11 +270,11 @@ impl Answers {
     {
         let number = n.get();
         shelve(alloc, &mut self.full, &mut self.last)?;
-        self.last.reserve(1)?;
-        keep_held(&mut self.stale, number, kept)?;
-        let Ok(()) = self.last.push(done) else {
-            unreachable!()
-        };
+        self.last.push(alloc, done)?;
+        if let Err(refused) = keep_held(&mut self.stale, number, kept) {
+            self.last.pop();
+            return Err(refused);
+        }
         Ok(())
     }
 }

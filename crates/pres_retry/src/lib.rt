@@ -4,6 +4,7 @@
 
 mod answers;
 mod fault;
+mod shelf;
 mod table;
 
 pub use answers::{Answer, Answers, AnswersIter, KeptRef, Verdict};

@@ -5,13 +5,13 @@ use Rattle.pres_retry.proofs.answers.count_in.Goals as goal
 
 pub overflow_mul-result : goal.overflow_mul-result
 overflow_mul-result c =
-    let counted = numbers_counted 4096 c.args.full.now c.args.last.now c.requires.shelves in
+    let counted = numbers_counted 1024 c.args.full.now c.args.last.now c.requires.shelves in
     omega (arith, counted, c.requires.few)
 
 pub overflow_add-result : goal.overflow_add-result
 overflow_add-result c =
-    let counted = numbers_counted 4096 c.args.full.now c.args.last.now c.requires.shelves in
+    let counted = numbers_counted 1024 c.args.full.now c.args.last.now c.requires.shelves in
     omega (arith, counted, c.requires.few)
 
 pub returns : goal.returns
-returns c = sym (numbers_counted 4096 c.args.full.now c.args.last.now c.requires.shelves)
+returns c = sym (numbers_counted 1024 c.args.full.now c.args.last.now c.requires.shelves)

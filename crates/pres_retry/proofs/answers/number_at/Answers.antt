@@ -10,14 +10,11 @@ returns-in-Some c =
     let full = c.args.full.now in
     let last = c.args.last.now in
     let place = c.args.place in
-    let has = sym (item_is full (place / 4096) (Some c.in-Some.shelf) c.in-Some.ensures.lookup) in
-    let inner = item_is c.deref.result.now (place % 4096) c.get-in-Some.result c.get-in-Some.ensures.lookup in
-    let below : place % 4096 < 4096 = omega arith in
-    let is : place / 4096 * 4096 + place % 4096 ≡ place = omega arith in
-    c.copied.ensures
-    ∙ inner
-    ∙ ap (λ xs. slice_get xs (place % 4096)) c.deref.ensures.value
-    ∙ sym (number_within 4096 full last (place / 4096) (place % 4096) c.in-Some.shelf.now c.requires has below)
+    let has = sym (item_is full (place / 1024) (Some c.in-Some.shelf) c.in-Some.ensures.lookup) in
+    let below : place % 1024 < 1024 = omega arith in
+    let is : place / 1024 * 1024 + place % 1024 ≡ place = omega arith in
+    c.get-in-Some.ensures
+    ∙ sym (number_within 1024 full last (place / 1024) (place % 1024) c.in-Some.shelf.now c.requires has below)
     ∙ ap (slice_get (numbers_in full last)) is
 
 pub returns : goal.returns
@@ -25,8 +22,6 @@ returns c =
     let full = c.args.full.now in
     let last = c.args.last.now in
     let place = c.args.place in
-    let none : length full ≤ place / 4096 = c.in_default.ensures.lookup.3 in
-    let past : length full * 4096 ≤ place = omega (arith, none) in
-    c.copied-2.ensures
-    ∙ item_is last (place - length full * 4096) c.get-2.result c.get-2.ensures.lookup
-    ∙ sym (number_past 4096 full last place c.requires past)
+    let none : length full ≤ place / 1024 = c.in_default.ensures.lookup.3 in
+    let past : length full * 1024 ≤ place = omega (arith, none) in
+    c.get-2.ensures ∙ sym (number_past 1024 full last place c.requires past)

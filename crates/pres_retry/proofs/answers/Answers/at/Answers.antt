@@ -13,35 +13,35 @@ use Rattle.pres_retry.proofs.answers.Answers.at.Goals.{in-Some, in-None}
 pub returns-in_err-done-clause-answer : goal.returns-in_err-done-clause-answer
 returns-in_err-done-clause-answer c =
     let inside = c.self.inside in
-    let found = c.in_err-done.ensures ∙ ap (λ full. slice_get (numbers_in full c.as_slice-2.result.now) c.args.place) c.as_slice.ensures.value ∙ ap (λ last. slice_get (numbers_in inside.full.items last) c.args.place) c.as_slice-2.ensures.value in
-    rw c.from_residual.ensures (answer_at inside.full.items inside.last.items inside.stale.entries c.args.self.now c.self.view_is c.args.place None found)
+    let found = c.in_err-done.ensures ∙ ap (λ full. slice_get (numbers_in full inside.last) c.args.place) c.as_slice.ensures.value in
+    rw c.from_residual.ensures (answer_at inside.full.items inside.last inside.stale.entries c.args.self.now c.self.view_is c.args.place None found)
 
 pub returns-in_err-done-clause-few : goal.returns-in_err-done-clause-few
 returns-in_err-done-clause-few c =
     let inside = c.self.inside in
-    answers_few inside.full.items inside.last.items inside.stale.entries c.args.self.now c.self.view_is c.self.invariant
+    answers_few inside.full.items inside.last inside.stale.entries c.args.self.now c.self.view_is c.self.invariant
 
 pub overflow_add-place : goal.overflow_add-place
 overflow_add-place c =
     let inside = c.self.inside in
-    let found = c.in_ok-done.ensures ∙ ap (λ full. slice_get (numbers_in full c.as_slice-2.result.now) c.args.place) c.as_slice.ensures.value ∙ ap (λ last. slice_get (numbers_in inside.full.items last) c.args.place) c.as_slice-2.ensures.value in
-    let within = slice_get_within (numbers_in inside.full.items inside.last.items) c.args.place c.in_ok-done.done (sym found) in
+    let found = c.in_ok-done.ensures ∙ ap (λ full. slice_get (numbers_in full inside.last) c.args.place) c.as_slice.ensures.value in
+    let within = slice_get_within (numbers_in inside.full.items inside.last) c.args.place c.in_ok-done.done (sym found) in
     omega (arith, within, c.self.invariant.few)
 
 pub returns-clause-answer : goal.returns-clause-answer
 returns-clause-answer c =
     let inside = c.self.inside in
     let stale = inside.stale.entries in
-    let found = c.in_ok-done.ensures ∙ ap (λ full. slice_get (numbers_in full c.as_slice-2.result.now) c.args.place) c.as_slice.ensures.value ∙ ap (λ last. slice_get (numbers_in inside.full.items last) c.args.place) c.as_slice-2.ensures.value in
+    let found = c.in_ok-done.ensures ∙ ap (λ full. slice_get (numbers_in full inside.last) c.args.place) c.as_slice.ensures.value in
     let lent : lent_kept c.match-get.kept ≡ kept_at (c.args.place + 1) stale =
     elim c.match-get.branch [
       | in-Some w ↦ ap lent_kept w.kept-is ∙ ap (λ held. kept.Stale held) w.as_ref.ensures.value ∙ ap kept_by w.in-Some.ensures.value
       | in-None w ↦ ap lent_kept w.kept-is ∙ ap kept_by w.in-None.ensures.value
     ] in
     ap (λ k. Some (row c.in_ok-done.done k)) lent
-    ∙ answer_at inside.full.items inside.last.items stale c.args.self.now c.self.view_is c.args.place (Some c.in_ok-done.done) found
+    ∙ answer_at inside.full.items inside.last stale c.args.self.now c.self.view_is c.args.place (Some c.in_ok-done.done) found
 
 pub returns-clause-few : goal.returns-clause-few
 returns-clause-few c =
     let inside = c.self.inside in
-    answers_few inside.full.items inside.last.items inside.stale.entries c.args.self.now c.self.view_is c.self.invariant
+    answers_few inside.full.items inside.last inside.stale.entries c.args.self.now c.self.view_is c.self.invariant

@@ -9,6 +9,5 @@ returns c =
     let inside = c.self.inside in
     c.in-Some.ensures.1
     ∙ c.count_in.ensures
-    ∙ ap (λ full. length (numbers_in full c.as_slice-2.result.now)) c.as_slice.ensures.value
-    ∙ ap (λ last. length (numbers_in inside.full.items last)) c.as_slice-2.ensures.value
-    ∙ answers_counted inside.full.items inside.last.items inside.stale.entries c.args.self.now c.self.view_is
+    ∙ ap (λ full. length (numbers_in full inside.last)) c.as_slice.ensures.value
+    ∙ answers_counted inside.full.items inside.last inside.stale.entries c.args.self.now c.self.view_is
