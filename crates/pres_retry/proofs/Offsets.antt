@@ -1,5 +1,5 @@
 -- Numbers as what they are past a first one.
-use Rattle.std.proofs.Common.{◌≡◌, ℕ, ◌+◌, ◌<◌, ◌≤◌, List, [], ◌∷◌, ◌++◌, ◌-◌, All, Option, Some, None, length, take, map, subst, sym, ◌∙◌, ap, arith}
+use Rattle.std.proofs.Common.{◌≡◌, ℕ, ◌+◌, ◌<◌, ◌≤◌, List, [], ◌∷◌, ◌++◌, ◌-◌, All, Option, Some, None, length, take, map, refl, subst, sym, ◌∙◌, ap, arith}
 use Rattle.std.specs.List.{slice_get}
 use Rattle.std.specs.Option.{SomeIff, option_map}
 use Rattle.std.proofs.lemmas.List.{map_more, map-append, take-map, length-map}
@@ -42,3 +42,10 @@ pub numbers_more : (start : ℕ) (offsets : List ℕ) (n : ℕ) → start ≤ n 
 numbers_more start offsets n past =
     let is : start + (n - start) ≡ n = omega (arith, past) in
     map-append (λ o. start + o) offsets ((n - start) ∷ []) ∙ ap (λ m. map (λ o. start + o) offsets ++ m ∷ []) is
+
+-- numbers past 0 are what they are past it
+pub from_zero : (numbers : List ℕ) → map (λ o. 0 + o) numbers ≡ numbers
+from_zero [] = refl
+from_zero (n ∷ numbers) =
+    let is : 0 + n ≡ n = omega arith in
+    ap (λ m. m ∷ map (λ o. 0 + o) numbers) is ∙ ap (λ ns. n ∷ ns) (from_zero numbers)
