@@ -137,6 +137,32 @@ fn keep_held(stale: &mut BTreeMap<u64, Option<Tree>>, n: u64, kept: Kept) -> Res
     }
 }
 
+// Keeps the number at which the next write was done, and what its place held, where it is stale.
+// At a refusal nothing has changed.
+fn keep_next(
+    alloc: Global,
+    last: &mut Shelf,
+    stale: &mut BTreeMap<u64, Option<Tree>>,
+    n: u64,
+    done: Number,
+    kept: Kept,
+) -> Result<(), RetryFault>
+    requires { stale_at n stale.old.entries ≡ None }
+    ensures number { OnOk result (last.new ≡ last.old ++ done ∷ []) }
+    ensures kept { OnOk result (kept_at n stale.new.entries ≡ kept) }
+    ensures others { (m : ℕ) → m ≢ n
+        → stale_at m stale.new.entries ≡ stale_at m stale.old.entries }
+    ensures err { IfErr result (λ e. (e ≡ Memory)
+        × ((last.new ≡ last.old) × (stale.new.entries ≡ stale.old.entries))) }
+{
+    last.push(alloc, done)?;
+    if let Err(refused) = keep_held(stale, n, kept) {
+        last.pop();
+        return Err(refused);
+    }
+    Ok(())
+}
+
 /// The answers to the writes of one client, which are numbered 1, 2, .. Contracts see the list of
 /// their rows. One that wrote takes a few bytes, and a growing list copies at most one shelf of
 /// them.
@@ -270,11 +296,7 @@ impl Answers {
     {
         let number = n.get();
         shelve(alloc, &mut self.full, &mut self.last)?;
-        self.last.push(alloc, done)?;
-        if let Err(refused) = keep_held(&mut self.stale, number, kept) {
-            self.last.pop();
-            return Err(refused);
-        }
+        keep_next(alloc, &mut self.last, &mut self.stale, number, done, kept)?;
         Ok(())
     }
 }
