@@ -1,5 +1,5 @@
 -- Numbers as what they are past a first one.
-use Rattle.std.proofs.Common.{◌≡◌, ℕ, ◌+◌, ◌<◌, ◌≤◌, List, [], ◌∷◌, ◌++◌, ◌-◌, All, Option, Some, None, length, take, map, refl, subst, sym, ◌∙◌, ap, arith}
+use Rattle.std.proofs.Common.{◌≡◌, ℕ, ◌+◌, ◌≤◌, List, [], ◌∷◌, ◌++◌, ◌-◌, All, Option, Some, None, length, take, map, refl, subst, sym, ◌∙◌, ap, arith}
 use Rattle.std.specs.List.{slice_get}
 use Rattle.std.specs.Option.{SomeIff, option_map}
 use Rattle.std.proofs.lemmas.List.{map_more, map-append, take-map, length-map}

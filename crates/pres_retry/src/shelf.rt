@@ -102,15 +102,10 @@ fn start_with(start: u64, offsets: &Offsets, number: u64) -> u64
 
 // Appends the number as its offset. It is false where the number is below the first or too far past
 // it: then nothing has changed, as at a refusal.
-fn append(
-    alloc: Global,
-    start: u64,
-    offsets: &mut Offsets,
-    number: u64,
-) -> Result<bool, AllocError>
+fn append(alloc: Global, start: u64, offsets: &mut Offsets, number: u64) -> Result<bool, AllocError>
     ensures pushed { IfOk result (λ fits. numbers_from start offsets.new
         ≡ (if fits then numbers_from start offsets.old ++ number ∷ []
-           else numbers_from start offsets.old)) }
+        else numbers_from start offsets.old)) }
     ensures err { OnErr result
         (numbers_from start offsets.new ≡ numbers_from start offsets.old) }
 {

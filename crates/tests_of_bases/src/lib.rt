@@ -1,6 +1,8 @@
-//! Tests of bases, over the public calls of the crate that checks them. They stand in a crate of
+//! Tests of bases and of kept answers, over the public calls of their crates. They stand in a crate of
 //! their own, since a crate with tests is proved twice.
 #![tactic(auto)]
 
+#[cfg(test)]
+mod answers;
 #[cfg(test)]
 mod bases;

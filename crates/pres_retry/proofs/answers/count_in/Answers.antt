@@ -1,5 +1,5 @@
 -- as many as the full shelves hold, and those of the last one
-use Rattle.std.proofs.Common.{sym, arith}
+use Rattle.std.proofs.Common.{◌+◌, ◌*◌, length, sym, ◌∙◌, ap, arith}
 use Rattle.pres_retry.proofs.Shelves.{numbers_counted}
 use Rattle.pres_retry.proofs.answers.count_in.Goals as goal
 
@@ -14,4 +14,4 @@ overflow_add-result c =
     omega (arith, counted, c.requires.few)
 
 pub returns : goal.returns
-returns c = sym (numbers_counted 1024 c.args.full.now c.args.last.now c.requires.shelves)
+returns c = ap (λ n. length c.args.full.now * 1024 + n) c.count.ensures ∙ sym (numbers_counted 1024 c.args.full.now c.args.last.now c.requires.shelves)

@@ -1,5 +1,5 @@
 -- the number is in its full shelf, or past all of them in the last one
-use Rattle.std.proofs.Common.{◌≡◌, ◌+◌, ◌-◌, ◌*◌, ◌/◌, ◌%◌, ◌<◌, ◌≤◌, Some, length, sym, ◌∙◌, ap, arith}
+use Rattle.std.proofs.Common.{◌≡◌, ◌+◌, ◌*◌, ◌/◌, ◌%◌, ◌<◌, ◌≤◌, Some, length, sym, ◌∙◌, ap, arith}
 use Rattle.std.specs.List.{slice_get}
 use Rattle.pres_retry.specs.Shelves.{numbers_in}
 use Rattle.pres_retry.proofs.Shelves.{item_is, number_within, number_past}

@@ -1,5 +1,5 @@
 -- the number at the place is that of its offset
-use Rattle.std.proofs.Common.{◌≡◌, ◌+◌, ◌++◌, [], ◌∷◌, sym, ◌∙◌, ap, arith}
+use Rattle.std.proofs.Common.{◌+◌, ◌++◌, [], ◌∷◌, sym, ◌∙◌, ap, arith}
 use Rattle.pres_retry.specs.Offsets.{offsets_of, numbers_from}
 use Rattle.pres_retry.proofs.Offsets.{number_of, is_number, numbers_so_far}
 use Rattle.pres_retry.proofs.shelf.in_eight_bytes.Goals as goal

@@ -1,5 +1,5 @@
 -- the number stands last, and the outcome is that of its write
-use Rattle.std.proofs.Common.{◌++◌, ◌≤◌, [], ◌∷◌, sym, ◌∙◌, ap, subst, arith}
+use Rattle.std.proofs.Common.{◌≤◌, sym, ◌∙◌, ap, subst, arith}
 use Rattle.pres_ids.specs.Numbers.{greatest_number}
 use Rattle.pres_retry.specs.Shelves.{AreKept, rows_in}
 use Rattle.pres_retry.proofs.Shelves.{IsNext, answers_counted, rows_after, kept_after}

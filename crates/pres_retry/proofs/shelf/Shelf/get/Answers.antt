@@ -1,5 +1,5 @@
 -- the number is the offset past the first one, and stands among numbers
-use Rattle.std.proofs.Common.{◌≡◌, ◌+◌, sym, ◌∙◌, ap, arith}
+use Rattle.std.proofs.Common.{◌+◌, sym, ◌∙◌, ap, arith}
 use Rattle.std.specs.List.{slice_get}
 use Rattle.pres_ids.specs.Numbers.{IsNumber}
 use Rattle.pres_retry.specs.Offsets.{offsets_of, numbers_from}

@@ -1,5 +1,5 @@
 -- what is left of numbers are numbers
-use Rattle.std.proofs.Common.{◌≡◌, ◌+◌, ◌-◌, ℕ, All, length, take, map, sym, ◌∙◌, ap, subst}
+use Rattle.std.proofs.Common.{◌-◌, All, length, take, sym, ◌∙◌, ap, subst}
 use Rattle.pres_ids.specs.Numbers.{IsNumber}
 use Rattle.std.proofs.lemmas.List.Elements.{All-take}
 use Rattle.pres_retry.specs.Offsets.{offsets_of, numbers_from}
