@@ -3,7 +3,7 @@
 ghost use Rattle.std.specs.Prelude.{◌≡◌, IfOk};
 
 use crate::parts::{BaseParts, ClientPart, SessionPart};
-use pres_plan::{Action, PlanRow};
+use pres_plan::PlanRow;
 use pres_tree::Path;
 use pres_write::Items;
 use std::alloc::{AllocError, Global};
@@ -29,23 +29,12 @@ fn copy_clients(alloc: Global, clients: &[ClientPart]) -> Result<Items<ClientPar
     Ok(Items::of(made))
 }
 
-// An equal row.
-pub(crate) fn copy_row(alloc: Global, row: &PlanRow) -> Result<PlanRow, AllocError>
-    ensures { IfOk result (λ made. made ≡ row.now) }
-{
-    let action = match &row.action {
-        Action::Put(placement) => Action::Put(placement.copy(alloc)?),
-        Action::Keep(path) => Action::Keep(path.copy(alloc)?),
-    };
-    Ok(PlanRow { q: row.q, action })
-}
-
 fn copy_rows(alloc: Global, rows: &[PlanRow]) -> Result<Items<PlanRow>, AllocError>
     ensures { IfOk result (λ made. made ≡ rows.now) }
 {
     let mut made = Vec::with_capacity(alloc, rows.len())?;
     for row in rows {
-        made.push(copy_row(alloc, row)?)?;
+        made.push(row.copy(alloc)?)?;
     }
     Ok(Items::of(made))
 }

@@ -1,4 +1,4 @@
-//! What a server is, as data that can be kept, and a server made from again: a base.
+//! A base: what a server is, as data that can be kept and that a server can begin from.
 #![tactic(auto)]
 
 mod base;

@@ -3,7 +3,6 @@
 ghost use Rattle.std.specs.Prelude.{◌≡◌, ◌++◌, ◌∷◌, [], IfOk, OnOk};
 ghost use Rattle.pres_plan.specs.Plans.{IsPlan};
 
-use crate::copies::copy_row;
 use pres_plan::{Action, Plan, PlanFault, PlanRow};
 use std::alloc::{AllocError, Global};
 
@@ -31,7 +30,7 @@ pub fn plan_of_rows(alloc: Global, rows: &[PlanRow]) -> Result<Plan, AllocError>
 {
     let mut plan = Plan::new(alloc);
     for row in rows {
-        add_row(alloc, &mut plan, copy_row(alloc, row)?)?;
+        add_row(alloc, &mut plan, row.copy(alloc)?)?;
     }
     Ok(plan)
 }

@@ -131,6 +131,18 @@ impl Listeners {
         self.paths.count(session)
     }
 
+    /// Copies of the places that the session listens to, in path order. Memory is the one refusal.
+    pub fn copy_paths(
+        &self,
+        alloc: Global,
+        session: &SessionId,
+    ) -> Result<Vec<Path>, AllocError>
+        ensures paths { IfOk result (λ made. made.items ≡ paths_of session.now self.now) }
+        ensures listeners { IsListeners self.now }
+    {
+        self.paths.copy_paths(alloc, session)
+    }
+
     /// Whether the session listens to at most `MOST_PATHS` places with this one. It takes no
     /// memory.
     pub fn may_listen(&self, session: &SessionId, path: &Path) -> bool

@@ -1,6 +1,6 @@
 //! What each session listens to.
 
-ghost use Rattle.std.specs.Prelude.{List, ◌≡◌, [], length, is_some, IfSome, OnOk, OnErr};
+ghost use Rattle.std.specs.Prelude.{List, ◌≡◌, [], length, is_some, IfOk, IfSome, OnOk, OnErr};
 ghost use Rattle.std.specs.List.{list_any};
 ghost use Rattle.pres_fan.specs.Listeners.{paths_of, listener_of, same_listener, with_listener, without, without_session};
 ghost use Rattle.pres_fan.specs.Sets.{keys_in};
@@ -30,6 +30,17 @@ impl Model for SessionPaths {
     ghost invariant = { λ p. AreInOrder p.sets.entries };
 }
 
+// Copies of the paths, in order.
+fn copy_set(alloc: Global, paths: &BTreeSet<Path>) -> Result<Vec<Path>, AllocError>
+    ensures { IfOk result (λ made. made.items ≡ paths.now.keys) }
+{
+    let mut made = Vec::with_capacity(alloc, paths.len())?;
+    for path in paths.iter() {
+        made.push(path.copy(alloc)?)?;
+    }
+    Ok(made)
+}
+
 impl SessionPaths {
     // Nobody listens to anything. It takes no memory.
     pub(crate) fn new(alloc: Global) -> SessionPaths
@@ -57,6 +68,20 @@ impl SessionPaths {
         match self.sets.get(session) {
             Some(paths) => paths.contains(path),
             None => false,
+        }
+    }
+
+    // Copies of the paths that the session listens to, in order.
+    pub(crate) fn copy_paths(
+        &self,
+        alloc: Global,
+        session: &SessionId,
+    ) -> Result<Vec<Path>, AllocError>
+        ensures { IfOk result (λ made. made.items ≡ paths_of session.now self.now) }
+    {
+        match self.sets.get(session) {
+            Some(paths) => copy_set(alloc, paths),
+            None => Ok(Vec::new(alloc)),
         }
     }
 

@@ -4,7 +4,7 @@ ghost use Rattle.std.specs.Prelude.{◌≡◌, ◌↔◌, ◌<◌, ◌≤◌, �
 ghost use Rattle.std.specs.List.{list_any};
 ghost use Rattle.std.specs.List.Sorted.{IsStrictlySortedBy};
 ghost use Rattle.pres_tree.specs.Paths.{overlap};
-ghost use Rattle.pres_plan.specs.Plans.{most_rows, row_cmp, ComesLast, puts_above, plan_of, puts, cancels, due, due_rows};
+ghost use Rattle.pres_plan.specs.Plans.{IsPlan, most_rows, row_cmp, ComesLast, puts_above, plan_of, puts, cancels, due, due_rows};
 ghost use Rattle.pres_plan.specs.declared.fault.PlanFault.TheVariants.{Full, Memory};
 
 use crate::fault::PlanFault;
@@ -69,6 +69,18 @@ impl Plan {
         ensures in_order { IsStrictlySortedBy row_cmp self.now }
     {
         PlanRows::of(self.standing.rows.as_slice())
+    }
+
+    /// Copies of its rows, in order. Memory is the one refusal.
+    pub fn copy_rows(&self, alloc: Global) -> Result<Vec<PlanRow>, AllocError>
+        ensures rows { IfOk result (λ made. made.items ≡ self.now) }
+        ensures plan { IsPlan self.now }
+    {
+        let mut made = Vec::with_capacity(alloc, self.standing.rows.len())?;
+        for (_, row) in self.standing.rows.as_slice() {
+            made.push(row.copy(alloc)?)?;
+        }
+        Ok(made)
     }
 
     /// Whether an update of these places leaves at most `MOST_ROWS` rows.

@@ -81,6 +81,17 @@ pub struct PlanRow {
 }
 
 impl PlanRow {
+    /// An equal row.
+    pub fn copy(&self, alloc: Global) -> Result<PlanRow, AllocError>
+        ensures { IfOk result (λ made. made ≡ self.now) }
+    {
+        let action = match &self.action {
+            Action::Put(placement) => Action::Put(placement.copy(alloc)?),
+            Action::Keep(path) => Action::Keep(path.copy(alloc)?),
+        };
+        Ok(PlanRow { q: self.q, action })
+    }
+
     // Its number, its path, and its draft, none where the place keeps its value.
     pub(crate) fn parts(&self) -> (Number, &Path, Option<&Draft>)
         ensures { lent_row result ≡ self.now }

@@ -29,10 +29,9 @@ use Rattle.pres_base.specs.declared.parts.BaseParts.{BaseParts}
 use Rattle.pres_base.specs.Bases.{are_done, IsOpenPart, IsBase}
 use Rattle.pres_server.specs.InternalParts.{is_live}
 use Rattle.pres_server.specs.Sums.{OpenSession, last_by, live_of, part_in}
-use Rattle.pres_server.specs.Histories.{IsOpenSession, IsSum}
+use Rattle.pres_server.specs.Histories.{IsOpenSession, AreAnswers, IsSum}
 use Rattle.pres_server.specs.BaseSums.{open_for, sessions_for, is_gone_for, gone_for, sum_for, BaseHasSum, BaseIsKept}
-use Rattle.pres_server.proofs.Since.{client_same}
-use Rattle.pres_server.proofs.AfterEntry.{clients_apart, same_by_cmp}
+use Rattle.pres_server.proofs.Clients.{client_same, clients_apart, same_by_cmp}
 
 abbrev Parts : Type 0
 Parts = List SessionPart
@@ -186,26 +185,7 @@ keys_where test (e ∷ es) = by (test e.0) (keys_where test es) where
   by true r = ap (λ l. e.0 ∷ l) r
   by false r = r
 
--- ---- the sum
-
-pub base_has_sum : (p : BaseParts) → BaseHasSum p
-base_has_sum p h = record {
-  keeps = record {
-    sessions = subst (IsStrictlySortedBy client_cmp) (sym (session_keys p.sessions)) h.sessions;
-    gone = subst (IsStrictlySortedBy client_cmp) (sym (keys_where (is_gone_for p) (map (λ c. (c.id, c.last)) p.clients) ∙ ap (filter (is_gone_for p)) (client_keys p.clients))) (IsStrictlySortedBy-filter client_cmp (is_gone_for p) (map (λ c. c.id) p.clients) h.clients);
-    each = each_open p.number p.sessions h.each;
-    listeners = record { ordered = flat_order p.number p.sessions h.sessions h.each; few = λ t. few_listen p.number t p.sessions h.sessions h.each };
-    listening = λ t shut. silent t p.sessions h.sessions shut;
-  };
-  few = subst (λ n. n ≤ 1024) (sym open_count) h.few;
-  batches = h.batches;
-  room = subst (λ n. p.number + n ≤ 2 ^ 52 - 1) (sym open_count) h.room;
-  moment = h.moment;
-} where
-  open_count : length (sum_for p).sessions ≡ length p.sessions
-  open_count = length-map p.sessions (λ s. (s.session.client, open_for s))
-
--- ---- what a sum needs so that it has a base
+-- ---- clients
 
 abbrev lasts : List ClientPart → List (ClientId × Stamp)
 lasts cs = map (λ c. (c.id, c.last)) cs
@@ -233,14 +213,15 @@ rows_order (c ∷ cs) h = by (has_rows (c.id, c.rows)) (rows_order cs h.1) where
   by true r = (rows_above c.id cs h.0, r)
   by false r = r
 
-rows_done : (n : ℕ) (cs : List ClientPart) → All (λ c. IsTrue (are_done 0 n c.rows)) cs → All (λ e. (0 < length e.1) × IsTrue (are_done 0 n e.1)) (some_rows cs)
-rows_done n [] h = All-nil (λ e. (0 < length e.1) × IsTrue (are_done 0 n e.1))
-rows_done n (c ∷ cs) h = by (has_rows (c.id, c.rows)) refl (rows_done n cs (All-tail (λ c. IsTrue (are_done 0 n c.rows)) c cs h)) where
-  P : ClientId × List Row → Type 0
-  P e = (0 < length e.1) × IsTrue (are_done 0 n e.1)
+rows_done : (n : ℕ) (cs : List ClientPart) → All (λ c. IsTrue (are_done 0 n c.rows)) cs → (k : ClientId) → IfSome (find client_cmp k (some_rows cs)) (AreAnswers n)
+rows_done n [] h k = tt
+rows_done n (c ∷ cs) h k = by (has_rows (c.id, c.rows)) refl (rows_done n cs (All-tail (λ c. IsTrue (are_done 0 n c.rows)) c cs h) k) where
+  own : (b : Bool) → has_rows (c.id, c.rows) ≡ true → IfSome (find client_cmp k (some_rows cs)) (AreAnswers n) → IfSome (cond b (Some c.rows) (find client_cmp k (some_rows cs))) (AreAnswers n)
+  own true some r = (ltb-true 0 (length c.rows) some, All-head (λ c. IsTrue (are_done 0 n c.rows)) c cs h)
+  own false some r = r
 
-  by : (b : Bool) → has_rows (c.id, c.rows) ≡ b → All P (some_rows cs) → All P (cond b ((c.id, c.rows) ∷ some_rows cs) (some_rows cs))
-  by true some r = All-cons P (c.id, c.rows) (some_rows cs) (ltb-true 0 (length c.rows) some, All-head (λ c. IsTrue (are_done 0 n c.rows)) c cs h) r
+  by : (b : Bool) → has_rows (c.id, c.rows) ≡ b → IfSome (find client_cmp k (some_rows cs)) (AreAnswers n) → IfSome (find client_cmp k (cond b ((c.id, c.rows) ∷ some_rows cs) (some_rows cs))) (AreAnswers n)
+  by true some r = own (is_eq (client_cmp k c.id)) some r
   by false some r = r
 
 has_last : (c : ClientId) (cs : List ClientPart) → IsSome (find client_cmp c (some_rows cs)) → IsSome (find client_cmp c (lasts cs))
@@ -267,16 +248,34 @@ none_open p c h = by (find client_cmp c (sessions_for p)) (subst IsSome (gone_at
   by None h = refl
   by (Some session) h = absurd (true≢false (sym h))
 
+-- ---- the sum
+
+pub base_has_sum : (p : BaseParts) → BaseHasSum p
+base_has_sum p h = record {
+  keeps = record {
+    sessions = subst (IsStrictlySortedBy client_cmp) (sym (session_keys p.sessions)) h.sessions;
+    gone = subst (IsStrictlySortedBy client_cmp) (sym (keys_where (is_gone_for p) (map (λ c. (c.id, c.last)) p.clients) ∙ ap (filter (is_gone_for p)) (client_keys p.clients))) (IsStrictlySortedBy-filter client_cmp (is_gone_for p) (map (λ c. c.id) p.clients) h.clients);
+    answered = rows_order p.clients h.clients;
+    each = each_open p.number p.sessions h.each;
+    answers = rows_done p.number p.clients h.answers;
+    known = λ c some. last_known p c some;
+    apart = λ c some. none_open p c some;
+    listeners = record { ordered = flat_order p.number p.sessions h.sessions h.each; few = λ t. few_listen p.number t p.sessions h.sessions h.each };
+    listening = λ t shut. silent t p.sessions h.sessions shut;
+  };
+  few = subst (λ n. n ≤ 1024) (sym open_count) h.few;
+  batches = h.batches;
+  room = subst (λ n. p.number + n ≤ 2 ^ 52 - 1) (sym open_count) h.room;
+  moment = h.moment;
+} where
+  open_count : length (sum_for p).sessions ≡ length p.sessions
+  open_count = length-map p.sessions (λ s. (s.session.client, open_for s))
+
+-- ---- plans
+
 each_plan : (n : ℕ) (ss : Parts) → All (IsOpenPart n) ss → All (λ (e : ClientId × OpenSession). IsPlan e.1.plan) (map (λ s. (s.session.client, open_for s)) ss)
 each_plan n [] h = All-nil (λ (e : ClientId × OpenSession). IsPlan e.1.plan)
 each_plan n (s ∷ ss) h = All-cons (λ (e : ClientId × OpenSession). IsPlan e.1.plan) (s.session.client, open_for s) (map (λ s. (s.session.client, open_for s)) ss) (All-head (IsOpenPart n) s ss h).plan (each_plan n ss (All-tail (IsOpenPart n) s ss h))
 
 pub base_is_kept : (p : BaseParts) → BaseIsKept p
-base_is_kept p h = record {
-  holds = base_has_sum p h;
-  clients = rows_order p.clients h.clients;
-  answers = rows_done p.number p.clients h.answers;
-  known = λ c some. last_known p c some;
-  apart = λ c some. none_open p c some;
-  plans = each_plan p.number p.sessions h.each;
-}
+base_is_kept p h = record { holds = base_has_sum p h; plans = each_plan p.number p.sessions h.each }

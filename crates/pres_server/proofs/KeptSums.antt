@@ -35,6 +35,7 @@ use Rattle.pres_server.specs.SumTurns.{FollowsSum}
 use Rattle.pres_server.specs.Histories.{IsOpenSession, Keeps, IsSum}
 use Rattle.pres_server.proofs.Keyed.{sorted_with, sorted_others, sorted_changed, find_put, find_others, find_changed, length_put, length_others, length_changed}
 use Rattle.pres_server.proofs.Touching.{IsPushed, part_carried, each_pushed}
+use Rattle.pres_server.proofs.KeptAnswers.{IsOfOpen, none_live, answered_in_order, answers_after, known_after, apart_after}
 
 -- ---- one entry
 
@@ -285,11 +286,27 @@ listening_after sum m (entry.Ended t q w rows) k f s closed = without_session_st
 
 -- ---- what is kept
 
+-- an answer is to a session that is open
+of_open : (sum : Sum) (m : ℕ) (e : Entry) → MayEnter sum m e → IsOfOpen sum e
+of_open sum m (entry.Open s) f = tt
+of_open sum m (entry.Op s q n op outcome) f = next_open s q (part_in sum s.client).live f.0
+of_open sum m (entry.Again s q n) f = tt
+of_open sum m (entry.Left s q puts) f = tt
+of_open sum m (entry.Cancelled s q path) f = tt
+of_open sum m (entry.Denied s q w) f = tt
+of_open sum m (entry.On s q path) f = tt
+of_open sum m (entry.Off s q path) f = tt
+of_open sum m (entry.Ended s q w rows) f = tt
+
 pub kept_after : (sum : Sum) (m : ℕ) (e : Entry) → Keeps sum → MayEnter sum m e → Keeps (sum_after e sum)
 kept_after sum m e k f = record {
   sessions = sessions_in_order e (carried e sum).sessions (carried_in_order e sum k.sessions);
   gone = gone_in_order e sum.gone k.gone;
+  answered = answered_in_order (sum.number + 1) e sum.rows k.answered;
   each = each_after sum m e k f;
+  answers = answers_after sum e k;
+  known = known_after sum e k (of_open sum m e f);
+  apart = apart_after sum e k;
   listeners = held_after sum m e k f;
   listening = listening_after sum m e k f;
 }
@@ -304,10 +321,6 @@ carried_counted e sum = pushed_counted (touched (writes_of e) sum.listeners) sum
 
 own_counted : (e : Entry) (sum : Sum) → length (changed (session_of e).client (answered e) (carried e sum).sessions) ≡ length sum.sessions
 own_counted e sum = length_changed (session_of e).client (answered e) (carried e sum).sessions ∙ carried_counted e sum
-
-none_live : (o : Option OpenSession) → option_map live_of o ≡ None → o ≡ None
-none_live None h = refl
-none_live (Some o) h = absurd (cc)
 
 pub some_live : (o : Option OpenSession) (t : Stamp) → is_live (option_map live_of o) t ≡ true → (x : OpenSession) × (o ≡ Some x) × (same_stamp t x.stamp ≡ true)
 some_live None t h = absurd (true≢false (sym h))
@@ -459,7 +472,17 @@ sum_holds sum b k f =
     let room = f.room in
     let batches = k.batches in
     record {
-      keeps = record { sessions = after.keeps.sessions; gone = after.keeps.gone; each = after.keeps.each; listeners = after.keeps.listeners; listening = after.keeps.listening };
+      keeps = record {
+        sessions = after.keeps.sessions;
+        gone = after.keeps.gone;
+        answered = after.keeps.answered;
+        each = after.keeps.each;
+        answers = after.keeps.answers;
+        known = after.keeps.known;
+        apart = after.keeps.apart;
+        listeners = after.keeps.listeners;
+        listening = after.keeps.listening;
+      };
       few = omega arith;
       batches = omega arith;
       room = omega arith;

@@ -11,6 +11,7 @@ pub mod Rewritten
 pub mod Stands
 pub mod Keyed
 pub mod Touching
+pub mod KeptAnswers
 pub mod KeptSums
 pub mod SumSteps
 pub mod Alike

@@ -268,7 +268,7 @@ nobody_listens = record { ordered = tt; few = λ s. omega arith }
 pub nothing_holds : IsSum nothing
 unfolding IsStrictlySortedBy
 nothing_holds = record {
-  keeps = record { sessions = tt; gone = tt; each = λ c. tt; listeners = nobody_listens; listening = λ s h. refl };
+  keeps = record { sessions = tt; gone = tt; answered = tt; each = λ c. tt; answers = λ c. tt; known = λ c h. h; apart = λ c h. refl; listeners = nobody_listens; listening = λ s h. refl };
   few = omega arith;
   batches = omega arith;
   room = omega arith;

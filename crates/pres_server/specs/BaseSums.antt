@@ -1,8 +1,6 @@
--- The sum that a base stands for, and what a sum needs so that it has a base.
-use Rattle.std.specs.Prelude.{◌≡◌, ◌<◌, ℕ, Bool, not, nat_lt, is_some, IsSome, IsTrue, All, List, map, filter, length, Option, None}
+-- The sum that a base stands for, and what holds of it.
+use Rattle.std.specs.Prelude.{Bool, not, nat_lt, is_some, All, List, map, filter, length}
 use Rattle.std.specs.List.{flat_map}
-use Rattle.std.specs.List.Sorted.{IsStrictlySortedBy}
-use Rattle.std.specs.Map.{keys_of}
 use Rattle.std.specs.FinMap.Entries.{find, where_key}
 use Rattle.pres_ids.specs.declared.id.Stamp.{Stamp}
 use Rattle.pres_ids.specs.Ids.{ClientId, client_cmp, stamp_of}
@@ -12,8 +10,8 @@ use Rattle.pres_fan.specs.declared.listeners.Listener.{Listener}
 use Rattle.pres_fan.specs.Listeners.{listener_of}
 use Rattle.pres_base.specs.declared.parts.SessionPart.{SessionPart}
 use Rattle.pres_base.specs.declared.parts.BaseParts.{BaseParts}
-use Rattle.pres_base.specs.Bases.{are_done, IsBase}
-use Rattle.pres_server.specs.Sums.{Sum, OpenSession, OpenSessions, part_in}
+use Rattle.pres_base.specs.Bases.{IsBase}
+use Rattle.pres_server.specs.Sums.{Sum, OpenSession, OpenSessions}
 use Rattle.pres_server.specs.Histories.{IsSum}
 
 -- ---- the sum of a base
@@ -55,35 +53,17 @@ sum_for p = record {
   listeners = listeners_for p;
 }
 
--- ---- sums that have a base
+-- ---- what holds of it
 
--- what holds of every server's sum, besides what each step asks of it
+-- what holds of every server's sum, and what its plans are
 pub record IsKept (sum : Sum) : Type 0 where
   pub holds : IsSum sum
-  -- clients that have answers stand in byte order, each once
-  pub clients : IsStrictlySortedBy client_cmp (keys_of sum.rows)
-  -- each has some, and its writes were done one after another
-  pub answers : All (λ e. (0 < length e.1) × IsTrue (are_done 0 sum.number e.1)) sum.rows
-  -- a client that has answers had a session
-  pub known : (client : ClientId) → IsSome (find client_cmp client sum.rows) → IsSome (part_in sum client).last
-  -- a client whose last session is gone has none open
-  pub apart : (client : ClientId) → IsSome (find client_cmp client sum.gone) → find client_cmp client sum.sessions ≡ None
   -- what an open session leaves is a plan
   pub plans : All (λ e. IsPlan e.1.plan) sum.sessions
 
 -- A base's sum is one that a server may have.
 abbrev pub BaseIsKept : BaseParts → Type 0
 BaseIsKept p = IsBase p → IsKept (sum_for p)
-
--- the sum of a base
-pub record HasBase (sum : Sum) : Type 0 where
-  pub parts : BaseParts
-  pub base : IsBase parts
-  pub same : sum_for parts ≡ sum
-
--- Each sum that a server may have is a base's.
-abbrev pub KeptHasBase : Sum → Type 0
-KeptHasBase sum = IsKept sum → HasBase sum
 
 -- What holds of every server's sum holds of the sum of a base.
 abbrev pub BaseHasSum : BaseParts → Type 0

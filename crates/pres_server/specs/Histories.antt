@@ -1,5 +1,5 @@
 -- Histories: a sum, and the batches since. Nobody holds one. That there is one says where a server's sum comes from.
-use Rattle.std.specs.Prelude.{ℕ, ◌≡◌, ◌≤◌, ◌+◌, ◌-◌, ◌*◌, ◌^◌, false, List, [], ◌∷◌, ◌++◌, length, Some, IfSome}
+use Rattle.std.specs.Prelude.{ℕ, ◌≡◌, ◌≤◌, ◌<◌, ◌+◌, ◌-◌, ◌*◌, ◌^◌, false, IsTrue, List, [], ◌∷◌, ◌++◌, length, Some, None, IfSome, IsSome}
 use Rattle.std.specs.Map.{keys_of}
 use Rattle.std.specs.List.Sorted.{IsStrictlySortedBy}
 use Rattle.std.specs.FinMap.Entries.{find}
@@ -7,11 +7,13 @@ use Rattle.pres_write.specs.Moments as moments
 use Rattle.pres_ids.specs.declared.id.SessionId.{SessionId}
 use Rattle.pres_ids.specs.Ids.{ClientId, client_cmp}
 use Rattle.pres_wire.specs.declared.down.Down.{Down}
+use Rattle.pres_retry.specs.declared.table.Row.{Row}
 use Rattle.pres_fan.specs.Listeners.{IsListeners}
+use Rattle.pres_base.specs.Bases.{are_done}
 use Rattle.pres_log.specs.declared.entry.Batch.{Batch}
 use Rattle.pres_log.specs.Logs.{Log}
 use Rattle.pres_server.specs.InternalParts.{IsAsked}
-use Rattle.pres_server.specs.Sums.{Sum, OpenSession, nothing, live_of, is_open_in, paths_in, sum_with, sum_from}
+use Rattle.pres_server.specs.Sums.{Sum, OpenSession, nothing, live_of, part_in, is_open_in, paths_in, sum_with, sum_from}
 use Rattle.pres_server.specs.SumAnswers.{answers_by}
 use Rattle.pres_server.specs.SumTurns.{FollowAll}
 
@@ -26,12 +28,22 @@ pub record IsOpenSession (number : ℕ) (session : OpenSession) : Type 0 where
   -- what it leaves was asked for by its messages so far
   pub asked : IsAsked (Some (live_of session))
 
+-- what holds of the answers of a client that has any: its writes were done one after another
+abbrev pub AreAnswers : ℕ → List Row → Type 0
+AreAnswers number rows = (0 < length rows) × IsTrue (are_done 0 number rows)
+
 -- what holds of the sum between the entries of a batch too
 pub record Keeps (sum : Sum) : Type 0 where
   -- clients stand in byte order, each once
   pub sessions : IsStrictlySortedBy client_cmp (keys_of sum.sessions)
   pub gone : IsStrictlySortedBy client_cmp (keys_of sum.gone)
+  pub answered : IsStrictlySortedBy client_cmp (keys_of sum.rows)
   pub each : (client : ClientId) → IfSome (find client_cmp client sum.sessions) (IsOpenSession sum.number)
+  pub answers : (client : ClientId) → IfSome (find client_cmp client sum.rows) (AreAnswers sum.number)
+  -- a client that has answers had a session
+  pub known : (client : ClientId) → IsSome (find client_cmp client sum.rows) → IsSome (part_in sum client).last
+  -- a client whose last session is gone has none open
+  pub apart : (client : ClientId) → IsSome (find client_cmp client sum.gone) → find client_cmp client sum.sessions ≡ None
   pub listeners : IsListeners sum.listeners
   -- only open sessions listen
   pub listening : (session : SessionId) → is_open_in session sum ≡ false → paths_in sum session ≡ []

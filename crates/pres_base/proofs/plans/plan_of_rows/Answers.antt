@@ -10,5 +10,5 @@ add_row-requires c =
     let i = c.loop-row.row-index in
     let row = c.row-item.result in
     let more = take_more rows i row c.loop-row-test.true ∙ ap (λ r. take i rows ++ r ∷ []) (sym c.row-item.is) in
-    subst IsPlan (more ∙ (λ j. sym c.loop-row.invariant j ++ sym c.in_ok-copy_row.ensures j ∷ []))
+    subst IsPlan (more ∙ (λ j. sym c.loop-row.invariant j ++ sym c.in_ok-copy.ensures j ∷ []))
     (front_plan (take (i + 1) rows) (drop (i + 1) rows) (subst IsPlan (sym (take-append-drop (i + 1) rows)) c.requires))
