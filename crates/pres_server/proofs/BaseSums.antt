@@ -30,19 +30,16 @@ use Rattle.pres_base.specs.Bases.{are_done, IsOpenPart, IsBase}
 use Rattle.pres_server.specs.InternalParts.{is_live}
 use Rattle.pres_server.specs.Sums.{OpenSession, last_by, live_of, part_in}
 use Rattle.pres_server.specs.Histories.{IsOpenSession, AreAnswers, IsSum}
-use Rattle.pres_server.specs.BaseSums.{open_for, sessions_for, is_gone_for, gone_for, sum_for, BaseHasSum, BaseIsKept}
+use Rattle.pres_server.specs.BaseSums.{open_for, sessions_for, is_gone_for, gone_for, answers_for, listeners_for, sum_for, BaseHasSum, BaseIsKept}
+use Rattle.pres_server.specs.InternalBases.{lasts_in}
 use Rattle.pres_server.proofs.Clients.{client_same, clients_apart, same_by_cmp}
 
-abbrev Parts : Type 0
+abbrev pub Parts : Type 0
 Parts = List SessionPart
 
 -- the clients of sessions
-abbrev clients_of : Parts → List ClientId
+abbrev pub clients_of : Parts → List ClientId
 clients_of ss = map (λ s. s.session.client) ss
-
--- who listens to what
-abbrev flat : Parts → List Listener
-flat ss = flat_map (λ s. map (listener_of s.session) s.listens) ss
 
 -- ---- what a session listens to
 
@@ -55,29 +52,29 @@ one_listener t s p rest = by (same_session t s) where
   by true = refl
   by false = refl
 
-own_block : (t s : SessionId) (paths : List Path) (ls : List Listener) → same_session t s ≡ true → paths_of t (map (listener_of s) paths ++ ls) ≡ paths ++ paths_of t ls
+pub own_block : (t s : SessionId) (paths : List Path) (ls : List Listener) → same_session t s ≡ true → paths_of t (map (listener_of s) paths ++ ls) ≡ paths ++ paths_of t ls
 own_block t s [] ls h = refl
 own_block t s (p ∷ ps) ls h =
     one_listener t s p (map (listener_of s) ps ++ ls)
     ∙ (λ i. cond (h i) (p ∷ own_block t s ps ls h i) (own_block t s ps ls h i))
 
-other_block : (t s : SessionId) (paths : List Path) (ls : List Listener) → same_session t s ≡ false → paths_of t (map (listener_of s) paths ++ ls) ≡ paths_of t ls
+pub other_block : (t s : SessionId) (paths : List Path) (ls : List Listener) → same_session t s ≡ false → paths_of t (map (listener_of s) paths ++ ls) ≡ paths_of t ls
 other_block t s [] ls h = refl
 other_block t s (p ∷ ps) ls h =
     one_listener t s p (map (listener_of s) ps ++ ls)
     ∙ (λ i. cond (h i) (p ∷ other_block t s ps ls h i) (other_block t s ps ls h i))
 
-none_listen : (t : SessionId) (ss : Parts) → AllByRecursion (λ s. same_session t s.session ≡ false) ss → paths_of t (flat ss) ≡ []
+pub none_listen : (t : SessionId) (ss : Parts) → AllByRecursion (λ s. same_session t s.session ≡ false) ss → paths_of t (listeners_for ss) ≡ []
 none_listen t [] h = refl
-none_listen t (s ∷ ss) h = other_block t s.session s.listens (flat ss) h.0 ∙ none_listen t ss h.1
+none_listen t (s ∷ ss) h = other_block t s.session s.listens (listeners_for ss) h.0 ∙ none_listen t ss h.1
 
 -- ---- sessions of other clients
 
-other_client : (t s : SessionId) → is_eq (client_cmp t.client s.client) ≡ false → same_session t s ≡ false
+pub other_client : (t s : SessionId) → is_eq (client_cmp t.client s.client) ≡ false → same_session t s ≡ false
 other_client t s h = ap (λ b. b && t.incarnation == s.incarnation && t.attempt == s.attempt) (sym (same_by_cmp t.client s.client) ∙ h)
 
 -- sessions whose clients come after that of the session
-later_apart : (c : ClientId) (t : SessionId) (ss : Parts) → t.client ≡ c → AllByRecursion (λ k. client_cmp c k ≡ Less) (clients_of ss) → AllByRecursion (λ s. same_session t s.session ≡ false) ss
+pub later_apart : (c : ClientId) (t : SessionId) (ss : Parts) → t.client ≡ c → AllByRecursion (λ k. client_cmp c k ≡ Less) (clients_of ss) → AllByRecursion (λ s. same_session t s.session ≡ false) ss
 later_apart c t [] is h = tt
 later_apart c t (s ∷ ss) is h = (other_client t s.session (ap (λ k. is_eq (client_cmp k s.session.client)) is ∙ ap is_eq h.0), later_apart c t ss is h.1)
 
@@ -86,7 +83,7 @@ same_then true a b h = h
 same_then false a b h = refl
 
 -- the clients are the same of one session
-client_in : (t s : SessionId) → is_eq (client_cmp t.client s.client) ≡ true → t.client ≡ s.client
+pub client_in : (t s : SessionId) → is_eq (client_cmp t.client s.client) ≡ true → t.client ≡ s.client
 client_in t s h = client_same t.client s.client (sym (same_by_cmp t.client s.client) ∙ h)
 
 first_part : (x a b : Bool) → (x && a && b) ≡ true → x ≡ true
@@ -96,18 +93,18 @@ first_part false a b h = h
 -- ---- listeners
 
 module _ (n : ℕ) where
-  few_listen : (t : SessionId) (ss : Parts) → IsStrictlySortedBy client_cmp (clients_of ss) → All (IsOpenPart n) ss → length (paths_of t (flat ss)) ≤ most_paths
+  pub few_listen : (t : SessionId) (ss : Parts) → IsStrictlySortedBy client_cmp (clients_of ss) → All (IsOpenPart n) ss → length (paths_of t (listeners_for ss)) ≤ most_paths
   few_listen t [] sorted each = omega arith
   few_listen t (s ∷ ss) sorted each = by (same_session t s.session) refl (few_listen t ss (sorted_tail client_cmp s.session.client (clients_of ss) sorted) (All-tail (IsOpenPart n) s ss each)) where
-    alone : same_session t s.session ≡ true → paths_of t (flat (s ∷ ss)) ≡ s.listens
+    alone : same_session t s.session ≡ true → paths_of t (listeners_for (s ∷ ss)) ≡ s.listens
     alone h =
-        own_block t s.session s.listens (flat ss) h
+        own_block t s.session s.listens (listeners_for ss) h
         ∙ ap (λ l. s.listens ++ l) (none_listen t ss (later_apart s.session.client t ss (client_same t.client s.session.client (first_part (same_client t.client s.session.client) _ _ h)) (sorted_head client_cmp s.session.client (clients_of ss) sorted)))
         ∙ append-nil s.listens
 
-    by : (b : Bool) → same_session t s.session ≡ b → length (paths_of t (flat ss)) ≤ most_paths → length (paths_of t (flat (s ∷ ss))) ≤ most_paths
+    by : (b : Bool) → same_session t s.session ≡ b → length (paths_of t (listeners_for ss)) ≤ most_paths → length (paths_of t (listeners_for (s ∷ ss))) ≤ most_paths
     by true h r = subst (λ ps. length ps ≤ most_paths) (sym (alone h)) (All-head (IsOpenPart n) s ss each).few_listens
-    by false h r = subst (λ ps. length ps ≤ most_paths) (sym (other_block t s.session s.listens (flat ss) h)) r
+    by false h r = subst (λ ps. length ps ≤ most_paths) (sym (other_block t s.session s.listens (listeners_for ss) h)) r
 
   -- ---- open sessions
 
@@ -125,14 +122,14 @@ Shut t s ss b = is_live (option_map live_of (cond b (Some (open_for s)) (find cl
 
 -- who isn't open listens to nothing
 silent : (t : SessionId) (ss : Parts) → IsStrictlySortedBy client_cmp (clients_of ss)
-    → is_live (option_map live_of (find client_cmp t.client (map (λ s. (s.session.client, open_for s)) ss))) (stamp_of t) ≡ false → paths_of t (flat ss) ≡ []
+    → is_live (option_map live_of (find client_cmp t.client (map (λ s. (s.session.client, open_for s)) ss))) (stamp_of t) ≡ false → paths_of t (listeners_for ss) ≡ []
 silent t [] sorted shut = refl
 silent t (s ∷ ss) sorted shut = by (is_eq (client_cmp t.client s.session.client)) refl shut (silent t ss (sorted_tail client_cmp s.session.client (clients_of ss) sorted)) where
-  by : (b : Bool) → is_eq (client_cmp t.client s.session.client) ≡ b → Shut t s ss b → (Shut t s ss false → paths_of t (flat ss) ≡ []) → paths_of t (flat (s ∷ ss)) ≡ []
+  by : (b : Bool) → is_eq (client_cmp t.client s.session.client) ≡ b → Shut t s ss b → (Shut t s ss false → paths_of t (listeners_for ss) ≡ []) → paths_of t (listeners_for (s ∷ ss)) ≡ []
   by true h shut r =
-      other_block t s.session s.listens (flat ss) (same_then (same_client t.client s.session.client) (t.incarnation == s.session.incarnation) (t.attempt == s.session.attempt) shut)
+      other_block t s.session s.listens (listeners_for ss) (same_then (same_client t.client s.session.client) (t.incarnation == s.session.incarnation) (t.attempt == s.session.attempt) shut)
       ∙ none_listen t ss (later_apart s.session.client t ss (client_in t s.session h) (sorted_head client_cmp s.session.client (clients_of ss) sorted))
-  by false h shut r = other_block t s.session s.listens (flat ss) (other_client t s.session h) ∙ r shut
+  by false h shut r = other_block t s.session s.listens (listeners_for ss) (other_client t s.session h) ∙ r shut
 
 -- ---- the order of listeners
 
@@ -148,9 +145,9 @@ block_later : (s r : SessionId) (p : Path) (qs : List Path) → client_cmp s.cli
 block_later s r p [] h = tt
 block_later s r p (q ∷ qs) h = (ap (λ o. ordering_then (ordering_then o (ordering_then (nat_cmp s.incarnation r.incarnation) (nat_cmp s.attempt r.attempt))) (path_cmp p q)) h, block_later s r p qs h)
 
-flat_later : (s : SessionId) (p : Path) (ss : Parts) → AllByRecursion (λ k. client_cmp s.client k ≡ Less) (clients_of ss) → AllByRecursion (λ l. listener_cmp (listener_of s p) l ≡ Less) (flat ss)
+flat_later : (s : SessionId) (p : Path) (ss : Parts) → AllByRecursion (λ k. client_cmp s.client k ≡ Less) (clients_of ss) → AllByRecursion (λ l. listener_cmp (listener_of s p) l ≡ Less) (listeners_for ss)
 flat_later s p [] h = tt
-flat_later s p (r ∷ ss) h = all_join (λ l. listener_cmp (listener_of s p) l ≡ Less) (map (listener_of r.session) r.listens) (flat ss) (block_later s r.session p r.listens h.0) (flat_later s p ss h.1)
+flat_later s p (r ∷ ss) h = all_join (λ l. listener_cmp (listener_of s p) l ≡ Less) (map (listener_of r.session) r.listens) (listeners_for ss) (block_later s r.session p r.listens h.0) (flat_later s p ss h.1)
 
 join_block : (s : SessionId) (ps : List Path) (ls : List Listener) → IsStrictlySortedBy path_cmp ps → ((p : Path) → AllByRecursion (λ l. listener_cmp (listener_of s p) l ≡ Less) ls) → IsStrictlySortedBy listener_cmp ls → IsStrictlySortedBy listener_cmp (map (listener_of s) ps ++ ls)
 unfolding IsStrictlySortedBy
@@ -161,10 +158,10 @@ none_order : IsStrictlySortedBy listener_cmp []
 unfolding IsStrictlySortedBy
 none_order = tt
 
-flat_order : (n : ℕ) (ss : Parts) → IsStrictlySortedBy client_cmp (clients_of ss) → All (IsOpenPart n) ss → IsStrictlySortedBy listener_cmp (flat ss)
+pub flat_order : (n : ℕ) (ss : Parts) → IsStrictlySortedBy client_cmp (clients_of ss) → All (IsOpenPart n) ss → IsStrictlySortedBy listener_cmp (listeners_for ss)
 flat_order n [] sorted each = none_order
 flat_order n (s ∷ ss) sorted each =
-    join_block s.session s.listens (flat ss) (All-head (IsOpenPart n) s ss each).listens (λ p. flat_later s.session p ss (sorted_head client_cmp s.session.client (clients_of ss) sorted))
+    join_block s.session s.listens (listeners_for ss) (All-head (IsOpenPart n) s ss each).listens (λ p. flat_later s.session p ss (sorted_head client_cmp s.session.client (clients_of ss) sorted))
     (flat_order n ss (sorted_tail client_cmp s.session.client (clients_of ss) sorted) (All-tail (IsOpenPart n) s ss each))
 
 -- ---- orders of clients
@@ -187,64 +184,57 @@ keys_where test (e ∷ es) = by (test e.0) (keys_where test es) where
 
 -- ---- clients
 
-abbrev lasts : List ClientPart → List (ClientId × Stamp)
-lasts cs = map (λ c. (c.id, c.last)) cs
-
 -- the client has answers
 abbrev has_rows : ClientId × List Row → Bool
 has_rows e = nat_lt 0 (length e.1)
 
--- the answers of those clients that have any
-abbrev some_rows : List ClientPart → Table
-some_rows cs = filter has_rows (map (λ c. (c.id, c.rows)) cs)
-
-rows_above : (k : ClientId) (cs : List ClientPart) → AllByRecursion (λ y. client_cmp k y ≡ Less) (map (λ c. c.id) cs) → AllByRecursion (λ y. client_cmp k y ≡ Less) (keys_of (some_rows cs))
+pub rows_above : (k : ClientId) (cs : List ClientPart) → AllByRecursion (λ y. client_cmp k y ≡ Less) (map (λ c. c.id) cs) → AllByRecursion (λ y. client_cmp k y ≡ Less) (keys_of (answers_for cs))
 rows_above k [] h = tt
 rows_above k (c ∷ cs) h = by (has_rows (c.id, c.rows)) (rows_above k cs h.1) where
-  by : (b : Bool) → AllByRecursion (λ y. client_cmp k y ≡ Less) (keys_of (some_rows cs)) → AllByRecursion (λ y. client_cmp k y ≡ Less) (keys_of (cond b ((c.id, c.rows) ∷ some_rows cs) (some_rows cs)))
+  by : (b : Bool) → AllByRecursion (λ y. client_cmp k y ≡ Less) (keys_of (answers_for cs)) → AllByRecursion (λ y. client_cmp k y ≡ Less) (keys_of (cond b ((c.id, c.rows) ∷ answers_for cs) (answers_for cs)))
   by true r = (h.0, r)
   by false r = r
 
-rows_order : (cs : List ClientPart) → IsStrictlySortedBy client_cmp (map (λ c. c.id) cs) → IsStrictlySortedBy client_cmp (keys_of (some_rows cs))
+pub rows_order : (cs : List ClientPart) → IsStrictlySortedBy client_cmp (map (λ c. c.id) cs) → IsStrictlySortedBy client_cmp (keys_of (answers_for cs))
 unfolding IsStrictlySortedBy
 rows_order [] h = tt
 rows_order (c ∷ cs) h = by (has_rows (c.id, c.rows)) (rows_order cs h.1) where
-  by : (b : Bool) → IsStrictlySortedBy client_cmp (keys_of (some_rows cs)) → IsStrictlySortedBy client_cmp (keys_of (cond b ((c.id, c.rows) ∷ some_rows cs) (some_rows cs)))
+  by : (b : Bool) → IsStrictlySortedBy client_cmp (keys_of (answers_for cs)) → IsStrictlySortedBy client_cmp (keys_of (cond b ((c.id, c.rows) ∷ answers_for cs) (answers_for cs)))
   by true r = (rows_above c.id cs h.0, r)
   by false r = r
 
-rows_done : (n : ℕ) (cs : List ClientPart) → All (λ c. IsTrue (are_done 0 n c.rows)) cs → (k : ClientId) → IfSome (find client_cmp k (some_rows cs)) (AreAnswers n)
+rows_done : (n : ℕ) (cs : List ClientPart) → All (λ c. IsTrue (are_done 0 n c.rows)) cs → (k : ClientId) → IfSome (find client_cmp k (answers_for cs)) (AreAnswers n)
 rows_done n [] h k = tt
 rows_done n (c ∷ cs) h k = by (has_rows (c.id, c.rows)) refl (rows_done n cs (All-tail (λ c. IsTrue (are_done 0 n c.rows)) c cs h) k) where
-  own : (b : Bool) → has_rows (c.id, c.rows) ≡ true → IfSome (find client_cmp k (some_rows cs)) (AreAnswers n) → IfSome (cond b (Some c.rows) (find client_cmp k (some_rows cs))) (AreAnswers n)
+  own : (b : Bool) → has_rows (c.id, c.rows) ≡ true → IfSome (find client_cmp k (answers_for cs)) (AreAnswers n) → IfSome (cond b (Some c.rows) (find client_cmp k (answers_for cs))) (AreAnswers n)
   own true some r = (ltb-true 0 (length c.rows) some, All-head (λ c. IsTrue (are_done 0 n c.rows)) c cs h)
   own false some r = r
 
-  by : (b : Bool) → has_rows (c.id, c.rows) ≡ b → IfSome (find client_cmp k (some_rows cs)) (AreAnswers n) → IfSome (find client_cmp k (cond b ((c.id, c.rows) ∷ some_rows cs) (some_rows cs))) (AreAnswers n)
+  by : (b : Bool) → has_rows (c.id, c.rows) ≡ b → IfSome (find client_cmp k (answers_for cs)) (AreAnswers n) → IfSome (find client_cmp k (cond b ((c.id, c.rows) ∷ answers_for cs) (answers_for cs))) (AreAnswers n)
   by true some r = own (is_eq (client_cmp k c.id)) some r
   by false some r = r
 
-has_last : (c : ClientId) (cs : List ClientPart) → IsSome (find client_cmp c (some_rows cs)) → IsSome (find client_cmp c (lasts cs))
+has_last : (c : ClientId) (cs : List ClientPart) → IsSome (find client_cmp c (answers_for cs)) → IsSome (find client_cmp c (lasts_in cs))
 has_last c [] h = h
 has_last c (x ∷ cs) h = by (has_rows (x.id, x.rows)) (is_eq (client_cmp c x.id)) refl h (has_last c cs) where
-  by : (some same : Bool) → is_eq (client_cmp c x.id) ≡ same → IsSome (find client_cmp c (cond some ((x.id, x.rows) ∷ some_rows cs) (some_rows cs)))
-      → (IsSome (find client_cmp c (some_rows cs)) → IsSome (find client_cmp c (lasts cs))) → IsSome (cond same (Some x.last) (find client_cmp c (lasts cs)))
+  by : (some same : Bool) → is_eq (client_cmp c x.id) ≡ same → IsSome (find client_cmp c (cond some ((x.id, x.rows) ∷ answers_for cs) (answers_for cs)))
+      → (IsSome (find client_cmp c (answers_for cs)) → IsSome (find client_cmp c (lasts_in cs))) → IsSome (cond same (Some x.last) (find client_cmp c (lasts_in cs)))
   by some true is h r = refl
-  by true false is h r = r (subst (λ b. IsSome (cond b (Some x.rows) (find client_cmp c (some_rows cs)))) is h)
+  by true false is h r = r (subst (λ b. IsSome (cond b (Some x.rows) (find client_cmp c (answers_for cs)))) is h)
   by false false is h r = r h
 
-gone_at : (p : BaseParts) (c : ClientId) → find client_cmp c (gone_for p) ≡ cond (is_gone_for p c) (find client_cmp c (lasts p.clients)) None
-gone_at p c = find-where_key client_cmp (is_gone_for p) c (λ x e. ap (is_gone_for p) (sym (clients_apart c x e))) (lasts p.clients)
+pub gone_at : (p : BaseParts) (c : ClientId) → find client_cmp c (gone_for p) ≡ cond (is_gone_for p c) (find client_cmp c (lasts_in p.clients)) None
+gone_at p c = find-where_key client_cmp (is_gone_for p) c (λ x e. ap (is_gone_for p) (sym (clients_apart c x e))) (lasts_in p.clients)
 
-last_known : (p : BaseParts) (c : ClientId) → IsSome (find client_cmp c (some_rows p.clients)) → IsSome (part_in (sum_for p) c).last
+last_known : (p : BaseParts) (c : ClientId) → IsSome (find client_cmp c (answers_for p.clients)) → IsSome (part_in (sum_for p) c).last
 last_known p c h = subst (λ o. IsSome (last_by (find client_cmp c (sessions_for p)) o)) (sym (gone_at p c)) (by (find client_cmp c (sessions_for p))) where
-  by : (o : Option OpenSession) → IsSome (last_by o (cond (not (is_some o)) (find client_cmp c (lasts p.clients)) None))
+  by : (o : Option OpenSession) → IsSome (last_by o (cond (not (is_some o)) (find client_cmp c (lasts_in p.clients)) None))
   by None = has_last c p.clients h
   by (Some session) = refl
 
 none_open : (p : BaseParts) (c : ClientId) → IsSome (find client_cmp c (gone_for p)) → find client_cmp c (sessions_for p) ≡ None
 none_open p c h = by (find client_cmp c (sessions_for p)) (subst IsSome (gone_at p c) h) where
-  by : (o : Option OpenSession) → IsSome (cond (not (is_some o)) (find client_cmp c (lasts p.clients)) None) → o ≡ None
+  by : (o : Option OpenSession) → IsSome (cond (not (is_some o)) (find client_cmp c (lasts_in p.clients)) None) → o ≡ None
   by None h = refl
   by (Some session) h = absurd (true≢false (sym h))
 

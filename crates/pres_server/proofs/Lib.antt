@@ -19,3 +19,5 @@ pub mod Superseded
 pub mod Turning
 pub mod SumServers
 pub mod BaseSums
+pub mod Resumed
+pub mod Based

@@ -8,6 +8,7 @@ use Rattle.pres_retry.specs.Tables.{Table}
 use Rattle.pres_plan.specs.Plans.{IsPlan}
 use Rattle.pres_fan.specs.declared.listeners.Listener.{Listener}
 use Rattle.pres_fan.specs.Listeners.{listener_of}
+use Rattle.pres_base.specs.declared.parts.ClientPart.{ClientPart}
 use Rattle.pres_base.specs.declared.parts.SessionPart.{SessionPart}
 use Rattle.pres_base.specs.declared.parts.BaseParts.{BaseParts}
 use Rattle.pres_base.specs.Bases.{IsBase}
@@ -33,12 +34,12 @@ abbrev pub gone_for : BaseParts → List (ClientId × Stamp)
 gone_for p = where_key client_cmp (is_gone_for p) (map (λ c. (c.id, c.last)) p.clients)
 
 -- the answers of those clients that have any
-abbrev pub rows_for_base : BaseParts → Table
-rows_for_base p = filter (λ e. nat_lt 0 (length e.1)) (map (λ c. (c.id, c.rows)) p.clients)
+abbrev pub answers_for : List ClientPart → Table
+answers_for clients = filter (λ e. nat_lt 0 (length e.1)) (map (λ c. (c.id, c.rows)) clients)
 
 -- who listens to what
-abbrev pub listeners_for : BaseParts → List Listener
-listeners_for p = flat_map (λ s. map (listener_of s.session) s.listens) p.sessions
+abbrev pub listeners_for : List SessionPart → List Listener
+listeners_for sessions = flat_map (λ s. map (listener_of s.session) s.listens) sessions
 
 -- the sum that the parts stand for
 abbrev pub sum_for : BaseParts → Sum
@@ -47,10 +48,10 @@ sum_for p = record {
   moment = p.moment;
   number = p.number;
   tree = p.tree;
-  rows = rows_for_base p;
+  rows = answers_for p.clients;
   gone = gone_for p;
   sessions = sessions_for p;
-  listeners = listeners_for p;
+  listeners = listeners_for p.sessions;
 }
 
 -- ---- what holds of it

@@ -18,3 +18,4 @@ pub mod InternalGrowth
 pub mod Replays
 pub mod Faults
 pub mod BaseSums
+pub mod InternalBases

@@ -2,6 +2,7 @@
 //! of entries. The batch is committed by the caller before the turn is done and anything answered.
 #![tactic(auto)]
 
+mod base;
 mod client_sessions;
 mod follow;
 mod grow;
@@ -11,13 +12,15 @@ pub mod laws;
 mod push;
 mod reopen;
 mod replay;
+mod resume;
 mod server;
 mod turn;
 
 pub use input::Input;
+pub use pres_base::{Base, BaseParts, ClientPart, SessionPart};
 pub use pres_log::{Batch, Entry, Fault, Log, LogAbove};
 pub use pres_plan::{Action, Plan, PlanRow};
-pub use pres_retry::Row;
+pub use pres_retry::{Answers, Row};
 pub use pres_tree::{Path, Tree};
 pub use pres_wire::{
     ClientId, Code, Count, Down, Limit, Number, PathValue, SessionId, Stamp, Up, Values, Why,

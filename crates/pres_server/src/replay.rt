@@ -1,15 +1,17 @@
 //! Servers that are made anew from the batches of their log.
 
 ghost use Rattle.std.specs.Prelude.{◌≡◌, ◌+◌, ℕ, IfErr, IfOk, OnErr, OnOk};
-ghost use Rattle.pres_server.specs.declared.replay.ReplayFault.TheVariants.{NotLegal};
+ghost use Rattle.pres_server.specs.declared.replay.ReplayFault.TheVariants.{Memory, NotLegal};
 ghost use Rattle.pres_server.specs.Faults.{number_of, name_of};
 ghost use Rattle.pres_server.specs.Sums.{nothing, sum_with, sum_from};
 ghost use Rattle.pres_server.specs.SumTurns.{FollowsSum, FollowAll};
 ghost use Rattle.pres_server.specs.Histories.{IsSum};
+ghost use Rattle.pres_server.specs.BaseSums.{sum_for};
 ghost use Rattle.pres_server.specs.Replays.{resumed, IsNotAdded, IsNoLog};
 
 use crate::reopen::Reopen;
 use crate::server::Server;
+use pres_base::Base;
 use pres_log::Batch;
 use pres_wire::Number;
 use std::alloc::{AllocError, AllocFailed, Global};
@@ -104,6 +106,17 @@ impl Replay {
         Replay {
             server: Server::new(alloc),
         }
+    }
+
+    /// The batches so far are those of the base, which is moved. Memory is the one refusal. What is
+    /// added later is numbered after them.
+    pub fn resume(alloc: Global, base: Base) -> Result<Replay, ReplayFault>
+        ensures resumed { IfOk result (λ replay. replay ≡ sum_for base) }
+        ensures memory { IfErr result (λ e. e ≡ Memory) }
+    {
+        Ok(Replay {
+            server: Server::of_base(alloc, base)?,
+        })
     }
 
     /// How many entries there are so far.

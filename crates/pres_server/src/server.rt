@@ -1,9 +1,11 @@
 //! The server.
 
-ghost use Rattle.std.specs.Prelude.{◌≡◌, ◌↔◌, IsTrue, IfOk, IfErr, IfSome, IfNone, OnOk, OnErr, MatchOption, true, false, is_some, option_copied, []};
+ghost use Rattle.std.specs.Prelude.{◌≡◌, ◌↔◌, All, List, IsTrue, IfOk, IfErr, IfSome, IfNone, OnOk, OnErr, MatchOption, true, false, is_some, option_copied, []};
 ghost use Rattle.pres_tree.specs.Rows.{is_null, value_at};
 ghost use Rattle.pres_log.specs.declared.fault.Fault.TheVariants.{Busy as OutOfMemory};
+ghost use Rattle.pres_ids.specs.declared.id.Stamp.{Stamp};
 ghost use Rattle.pres_ids.specs.Ids.{ClientId};
+ghost use Rattle.pres_plan.specs.Plans.{IsPlan};
 ghost use Rattle.pres_retry.specs.Tables.{rows_of};
 ghost use Rattle.pres_server.specs.ServerStates.{heard_last, heard_again, first_client};
 ghost use Rattle.pres_server.specs.Turns.{IsRefusal};
@@ -13,11 +15,14 @@ ghost use Rattle.pres_server.specs.SumAnswers.{answers_by};
 ghost use Rattle.pres_server.specs.SumTurns.{FollowsSum, turn_by, batch_by, after_commit, IsTurn};
 ghost use Rattle.pres_server.specs.Histories.{IsSum};
 ghost use Rattle.pres_server.specs.Replays.{resumed};
+ghost use Rattle.pres_server.specs.BaseSums.{sum_for};
+ghost use Rattle.pres_server.specs.InternalBases.{AreLasts, parts_of};
 
 use crate::index::{Index, LogPosition, take_all};
 use crate::input::Input;
 use crate::reopen::Reopen;
 use crate::turn::{TurnEffect, TurnTime};
+use pres_base::{Base, BaseParts};
 use pres_log::{Batch, Entry, Fault, Log, LogAbove};
 use pres_retry::Row;
 use pres_tree::{Path, Tree};
@@ -131,6 +136,63 @@ impl Server {
         ensures counts { result ≡ record { number = self.now.sum.number; batches = self.now.sum.batches } }
     {
         Log::above(self.number, self.batches)
+    }
+
+    // The parts of its base.
+    fn parts(&self) -> Result<BaseParts, AllocError>
+        ensures parts { IfOk result (λ parts. (lasts : List (ClientId × Stamp))
+            × AreLasts self.now.sum lasts × (parts ≡ parts_of self.now.sum lasts)) }
+        ensures plans { IfOk result (λ _. All (λ e. IsPlan e.1.plan) self.now.sum.sessions) }
+        ensures sum { IsSum self.now.sum }
+    {
+        let (Some(batches), Some(number)) = (Count::new(self.batches), Count::new(self.number))
+        else {
+            unreachable!()
+        };
+        let clients = self.index.client_parts(self.alloc)?;
+        let sessions = self.index.session_parts(self.alloc)?;
+        let tree = self.index.tree.copy(self.alloc)?;
+        Ok(BaseParts {
+            batches,
+            moment: self.moment,
+            number,
+            tree,
+            clients,
+            sessions,
+        })
+    }
+
+    /// What the server is, as data that can be kept: a server that begins from it has the same sum.
+    /// Busy, for want of memory, is the one refusal.
+    pub fn base(&self) -> Result<Base, Fault>
+        ensures base { IfOk result (λ base. sum_for base ≡ self.now.sum) }
+        ensures busy { IfErr result (λ e. e ≡ OutOfMemory) }
+    {
+        let Ok(parts) = self.parts() else {
+            return Err(Fault::Busy);
+        };
+        let Ok(base) = Base::from_parts(parts) else {
+            unreachable!()
+        };
+        Ok(base)
+    }
+
+    /// The server of a base, which is moved.
+    pub(crate) fn of_base(alloc: Global, base: Base) -> Result<Server, AllocError>
+        ensures sum { IfOk result (λ server. server.sum ≡ sum_for base) }
+    {
+        let parts = base.into_parts();
+        let batches = parts.batches.get();
+        let number = parts.number.get();
+        let moment = parts.moment;
+        let index = Index::of_base(alloc, parts)?;
+        Ok(Server {
+            alloc,
+            batches,
+            number,
+            moment,
+            index,
+        })
     }
 
     /// The value at the path, where something stands there.

@@ -5,6 +5,8 @@
 #![tactic(auto)]
 
 #[cfg(test)]
+mod bases;
+#[cfg(test)]
 mod disconnections;
 #[cfg(test)]
 mod exchanges;
@@ -22,6 +24,10 @@ mod pushes;
 mod replays;
 #[cfg(test)]
 mod said;
+#[cfg(test)]
+mod schedule_lists;
+#[cfg(test)]
+mod schedules;
 #[cfg(test)]
 mod sessions;
 #[cfg(test)]

@@ -5,8 +5,11 @@
 //! `abandon`, whose commit is refused; or a question about the server: `seen`, `log`, `moments`,
 //! `counts`, `value` and a path, `history` and a client; or `replay`, from which on the server is
 //! one that is rebuilt from all batches, or that and numbers of batches, whose result is what
-//! becomes of these in a server of their own.
+//! becomes of these in a server of their own; or `base`, whose result is the server's base,
+//! `resume`, from which on the server is one that begins from its base, or `add again`, whose
+//! result is what becomes of all batches after its base.
 
+use crate::bases::{base_text, refused_after, resumed};
 use crate::replays::{ordered, replayed};
 use crate::said::expect_said;
 use pres_batch_json::print_entries;
@@ -97,7 +100,7 @@ fn quiet(rt: &impl Abort, alloc: Global, answers: &[Down]) -> String {
 }
 
 // The server after the input, and what it answers.
-fn turn(
+pub(crate) fn turn(
     rt: &impl Abort,
     alloc: Global,
     server: Server,
@@ -227,6 +230,8 @@ fn answer(
             "log" => log_text(rt, alloc, log),
             "moments" => moments(rt, alloc, log),
             "counts" => counts(rt, alloc, server),
+            "base" => base_text(rt, alloc, server),
+            "add again" => refused_after(rt, alloc, server, log),
             _ => seen(rt, alloc, server),
         },
     }
@@ -284,6 +289,7 @@ fn step(
         Some(("abandon", case)) => abandoned(rt, alloc, server, log.as_slice(), case),
         Some(("replay", order)) => ordered(rt, alloc, server, log.as_slice(), order),
         None if case == "replay" => replayed(rt, alloc, server, log.as_slice()),
+        None if case == "resume" => resumed(rt, alloc, server),
         _ => asked(rt, alloc, server, log.as_slice(), case),
     }
 }
