@@ -132,11 +132,7 @@ impl Listeners {
     }
 
     /// Copies of the places that the session listens to, in path order. Memory is the one refusal.
-    pub fn copy_paths(
-        &self,
-        alloc: Global,
-        session: &SessionId,
-    ) -> Result<Vec<Path>, AllocError>
+    pub fn copy_paths(&self, alloc: Global, session: &SessionId) -> Result<Vec<Path>, AllocError>
         ensures paths { IfOk result (λ made. made.items ≡ paths_of session.now self.now) }
         ensures listeners { IsListeners self.now }
     {

@@ -238,7 +238,7 @@ pub opens_none : (sessions : List SessionPart) → Opens sessions sessions []
 opens_none sessions = record { front = []; parts = refl; listening = refl }
 
 module _ (n : ℕ) (sessions : List SessionPart) (x : SessionPart) (rest : List SessionPart) (listeners : List Listener) (o : Opens sessions (x ∷ rest) listeners) (each : All (IsOpenPart n) sessions)
-         (sorted : IsStrictlySortedBy client_cmp (map (λ s. s.session.client) sessions)) where
+    (sorted : IsStrictlySortedBy client_cmp (map (λ s. s.session.client) sessions)) where
   in_two : (o.front ++ x ∷ []) ++ rest ≡ sessions
   in_two = append_assoc o.front (x ∷ []) rest ∙ o.parts
 

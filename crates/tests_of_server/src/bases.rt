@@ -58,7 +58,9 @@ fn client_text(rt: &impl Abort, alloc: Global, client: &ClientPart) -> String {
     let id = client.id.text();
     let (incarnation, attempt) = (client.last.incarnation.get(), client.last.attempt.get());
     let rows = answers_text(rt, alloc, &client.rows);
-    let text = format!(in alloc; r#"{{"id":"{id}","last":[{incarnation},{attempt}],"rows":{rows}}}"#);
+    let text = format!(in alloc;
+        r#"{{"id":"{id}","last":[{incarnation},{attempt}],"rows":{rows}}}"#
+    );
     text.expect(rt, "memory")
 }
 
@@ -92,9 +94,7 @@ fn session_text(rt: &impl Abort, alloc: Global, session: &SessionId) -> String {
 fn paths_text(rt: &impl Abort, alloc: Global, paths: &[Path]) -> String {
     let mut texts = Vec::new(alloc);
     for path in paths {
-        texts
-            .push(path_text(rt, alloc, path))
-            .expect(rt, "memory");
+        texts.push(path_text(rt, alloc, path)).expect(rt, "memory");
     }
     list(rt, alloc, texts)
 }
@@ -112,7 +112,9 @@ fn open_text(rt: &impl Abort, alloc: Global, open: &SessionPart) -> String {
     let plan = plan_text(rt, alloc, open.plan.as_slice());
     let (q, r) = (open.q.get(), open.r.get());
     let s = session_text(rt, alloc, &open.session);
-    let text = format!(in alloc; r#"{{"listens":{listens},"plan":{plan},"q":{q},"r":{r},"s":{s}}}"#);
+    let text = format!(in alloc;
+        r#"{{"listens":{listens},"plan":{plan},"q":{q},"r":{r},"s":{s}}}"#
+    );
     text.expect(rt, "memory")
 }
 

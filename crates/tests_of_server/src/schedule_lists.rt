@@ -1,7 +1,8 @@
 //! Schedules of a server, one a line, as `bench/schedule_lists.py` prints them.
 
 /// The schedules.
-pub(crate) const SCHEDULES: &str = r#"0 h al 1; 1 h cy 1; 3 h cy 2; 4 t cy 2 1 1 /c true {"b":2}; 6 t al 1 1 1 /b {"b":2} 1; 7 o al 1 2 2 /a/b {".sv":"timestamp"}; 8 h bo 1; 10 t bo 1 1 1 /b 1 {"b":2}; 13 l al 1 3 /b {".sv":"timestamp"}
+pub(crate) const SCHEDULES: &str =
+    r#"0 h al 1; 1 h cy 1; 3 h cy 2; 4 t cy 2 1 1 /c true {"b":2}; 6 t al 1 1 1 /b {"b":2} 1; 7 o al 1 2 2 /a/b {".sv":"timestamp"}; 8 h bo 1; 10 t bo 1 1 1 /b 1 {"b":2}; 13 l al 1 3 /b {".sv":"timestamp"}
 2 h cy 1; 5 x cy 1; 8 h al 1; 9 h cy 2; 12 k; 15 l al 1 1 /a/b {".sv":"timestamp"}; 15 h bo 1
 1 h cy 1; 1 h al 1; 1 k; 2 l al 1 1 / null; 4 + al 1 2 /; 4 h al 2; 4 - al 2 1 /a; 5 o al 2 2 1 /a 1; 5 o al 2 2 1 /a 1
 0 h bo 1; 0 h cy 1; 0 k; 1 h al 1; 3 l al 1 1 /a {".sv":"timestamp"}; 6 t bo 1 1 1 /a/b true {"b":2}; 6 + al 1 2 /a/b

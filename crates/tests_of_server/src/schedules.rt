@@ -115,9 +115,10 @@ fn check_schedule(rt: &impl Abort, alloc: Global, schedule: &str) {
     let mut server = Server::new(alloc);
     let mut log = Vec::new(alloc);
     let (mut rest, mut wanted_rest) = (cases.as_slice(), wanted.as_slice());
-    while let (Some((case, later)), Some((_, wanted_later))) =
-        (rest.split_first(), wanted_rest.split_first())
-    {
+    while let (Some((case, later)), Some((_, wanted_later))) = (
+        rest.split_first(),
+        wanted_rest.split_first(),
+    ) {
         check_rest(rt, alloc, &server, rest, wanted_rest);
         let (after, _) = turn(rt, alloc, server, &mut log, case.as_str());
         server = after;
