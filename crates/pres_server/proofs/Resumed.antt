@@ -1,16 +1,16 @@
 -- An index that is made from a base, part by part.
-use Rattle.std.proofs.Common.{refl, sym, ◌∙◌, ap, subst, ◌≡◌, ℕ, ◌+◌, ◌≤◌, List, [], ◌∷◌, ◌++◌, append-nil, append_assoc, map, filter, length, Bool, true, false, cond, not, arith, Option, Some, None, is_some, Ordering, Less, Equal, Greater, is_eq}
+use Rattle.std.proofs.Common.{refl, sym, ◌∙◌, ap, subst, ◌≡◌, ℕ, suc, ◌+◌, ◌<◌, ◌≤◌, List, [], ◌∷◌, ◌++◌, append-nil, append_assoc, map, filter, length, Bool, true, false, cond, not, arith, Option, Some, None, is_some, unwrap_or, Ordering, Less, Equal, Greater, is_eq}
 use Rattle.std.specs.Prelude.{nat_lt}
 use Rattle.std.specs.List.{All, AllByRecursion}
 use Rattle.std.specs.List.Sorted.{IsStrictlySortedBy}
 use Rattle.std.specs.Map.{keys_of}
 use Rattle.std.specs.Option.{option_map, option_or}
 use Rattle.std.specs.Ordering.{match_ordering, ordering_reverse}
-use Rattle.std.specs.Cmp.{IsTotalOrder}
 use Rattle.std.specs.BTreeSet.{insert_key}
 use Rattle.std.specs.BTreeMap.{BTreeMap, get, Updates}
 use Rattle.std.specs.FinMap.Entries.{by_order, find, put}
-use Rattle.std.proofs.lemmas.List.Elements.{All-cons}
+use Rattle.std.proofs.lemmas.Bool.{lt-ltb}
+use Rattle.std.proofs.lemmas.List.Elements.{All-nil, All-cons, All-head, All-tail}
 use Rattle.std.proofs.lemmas.Map.Keys.{sorted_head, sorted_tail}
 use Rattle.pres_tree.specs.Paths.{Path}
 use Rattle.pres_ids.specs.declared.id.SessionId.{SessionId}
@@ -47,7 +47,7 @@ none_after k [] h = refl
 none_after k (e ∷ es) h = ap (λ o. cond (is_eq o) (Some e.1) (find client_cmp k es)) h.0 ∙ none_after k es h.1
 
 pub told_found : {X : Type 0} (es : List (ClientId × X)) (c : ClientId) (before : Option X) → IsStrictlySortedBy client_cmp (keys_of es) → told es c before ≡ option_or (find client_cmp c es) before
-told_found [] c before h = refl
+told_found {X} [] c before h = refl
 told_found {X} (e ∷ es) c before h = told_found es c (cond (same_client e.0 c) (Some e.1) before) (sorted_tail client_cmp e.0 (keys_of es) h) ∙ by (same_client e.0 c) refl where
   same : is_eq (client_cmp c e.0) ≡ same_client e.0 c
   same = same_by_cmp c e.0 ∙ client_sym c e.0
@@ -69,6 +69,11 @@ told_all es c h = told_found es c None h ∙ or_none (find client_cmp c es)
 -- one more entry that is put in
 pub told_next : {X : Type 0} (old new : BTreeMap ClientId X) (k : ClientId) (v : X) (rest : List (ClientId × X)) → Updates client_cmp old new k (Some v) → (c : ClientId) → told rest c (get client_cmp new c) ≡ told ((k, v) ∷ rest) c (get client_cmp old c)
 told_next old new k v rest u c = ap (told rest c) (u.0 c ∙ ap (λ b. cond b (Some v) (get client_cmp old c)) (same_by_cmp k c))
+
+-- one entry more of those that are left
+pub told_step : {X : Type 0} (old new : BTreeMap ClientId X) (k : ClientId) (v : X) (es : List (ClientId × X)) (e : ClientId × X) (rest : List (ClientId × X)) → Updates client_cmp old new k (Some v) → es ≡ e ∷ rest → k ≡ e.0 → v ≡ e.1 → (c : ClientId)
+    → told rest c (get client_cmp new c) ≡ told es c (get client_cmp old c)
+told_step old new k v es e rest u left key value c = told_next old new k v rest u c ∙ (λ i. told ((key i, value i) ∷ rest) c (get client_cmp old c)) ∙ ap (λ l. told l c (get client_cmp old c)) (sym left)
 
 -- ---- items in the order of their clients
 
@@ -122,6 +127,13 @@ answers_next (p ∷ front) x later h = by (nat_lt 0 (length p.rows)) (nat_lt 0 (
   by false true = refl
   by false false = refl
 
+pub with_none : (client : ClientId) (answers : List Row) (table : Table) → length answers ≡ 0 → table ≡ with_answers client answers table
+with_none client [] table h = refl
+with_none client (row ∷ answers) table h = absurd (omega (arith, h))
+
+pub with_some : (client : ClientId) (answers : List Row) (table : Table) → 0 < length answers → put client_cmp client answers table ≡ with_answers client answers table
+with_some client answers table h = ap (λ b. cond b (put client_cmp client answers table) table) (sym (lt-ltb 0 (length answers) h))
+
 -- ---- who listens
 
 before_last : (xs : List Listener) (l : Listener) (later : List Listener) → IsStrictlySortedBy listener_cmp (xs ++ l ∷ later) → insert_key listener_cmp xs l ≡ xs ++ l ∷ []
@@ -134,6 +146,9 @@ before_last (x ∷ xs) l later h =
     above [] a = listener_total.antisymm l x ∙ ap ordering_reverse a.0
     above (y ∷ ys) a = above ys a.1
 
+one_more : (m n : ℕ) → m ≤ n → suc m ≤ suc n
+one_more m n h = omega (arith, h)
+
 -- a session listens to no fewer places, the more listeners there are
 fewer : (s : SessionId) (xs ys : List Listener) → length (paths_of s xs) ≤ length (paths_of s (xs ++ ys))
 fewer s [] ys = omega arith
@@ -142,7 +157,7 @@ fewer s (x ∷ xs) ys = by (same_session s x.session) (fewer s xs ys) where
   own ls = filter (λ l. same_session s l.session) ls
 
   by : (b : Bool) → length (paths_of s xs) ≤ length (paths_of s (xs ++ ys)) → length (map (λ (l : Listener). l.path) (cond b (x ∷ own xs) (own xs))) ≤ length (map (λ (l : Listener). l.path) (cond b (x ∷ own (xs ++ ys)) (own (xs ++ ys))))
-  by true h = omega (arith, h)
+  by true h = one_more (length (paths_of s xs)) (length (paths_of s (xs ++ ys))) h
   by false h = h
 
 mapped_more : (s : SessionId) (ps : List Path) (p : Path) (rest : List Path) → map (listener_of s) (ps ++ p ∷ rest) ≡ map (listener_of s) ps ++ listener_of s p ∷ map (listener_of s) rest
@@ -212,10 +227,7 @@ module _ (clients : List ClientPart) (x : ClientPart) (rest : List ClientPart) (
   in_three = subst (λ cs. IsStrictlySortedBy client_cmp (map (λ c. c.id) cs)) (sym k.parts) sorted
 
   pub knows_stranger : rows_of x.id table ≡ []
-  knows_stranger = ap (rows_of x.id) k.answers ∙ ap (λ o. unwrap o) (stranger k.front x rest in_three) where
-    unwrap : Option (List Row) → List Row
-    unwrap None = []
-    unwrap (Some rows) = rows
+  knows_stranger = ap (rows_of x.id) k.answers ∙ ap (λ (o : Option (List Row)). unwrap_or o []) (stranger k.front x rest in_three)
 
   pub knows_more : (new : Table) → new ≡ with_answers x.id x.rows table → Knows clients rest new
   knows_more new h = record {
@@ -245,8 +257,8 @@ module _ (n : ℕ) (sessions : List SessionPart) (x : SessionPart) (rest : List 
   pub opens_part : IsOpenPart n x
   opens_part = part o.front (subst (All (IsOpenPart n)) (sym o.parts) each) where
     part : (front : List SessionPart) → All (IsOpenPart n) (front ++ x ∷ rest) → IsOpenPart n x
-    part [] a = a 0 x (omega arith)
-    part (y ∷ front) a = part front (λ k d l. a (k + 1) d (omega (arith, l)))
+    part [] a = All-head (IsOpenPart n) x rest a
+    part (y ∷ front) a = part front (All-tail (IsOpenPart n) y (front ++ x ∷ rest) a)
 
   pub opens_listeners : IsListeners (listeners ++ map (listener_of x.session) x.listens)
   opens_listeners = subst IsListeners (sym (ap (λ ls. ls ++ map (listener_of x.session) x.listens) o.listening ∙ sym (listeners_more o.front x))) (record {
@@ -257,8 +269,8 @@ module _ (n : ℕ) (sessions : List SessionPart) (x : SessionPart) (rest : List 
     front_in_order = front_sorted (λ (s : SessionPart). s.session.client) (o.front ++ x ∷ []) rest (subst (λ ss. IsStrictlySortedBy client_cmp (map (λ s. s.session.client) ss)) (sym in_two) sorted)
 
     first_ones : (front later : List SessionPart) → All (IsOpenPart n) (front ++ later) → All (IsOpenPart n) front
-    first_ones [] later a = λ k d l. absurd (omega arith)
-    first_ones (y ∷ front) later a = All-cons (IsOpenPart n) y front (a 0 y (omega arith)) (first_ones front later (λ k d l. a (k + 1) d (omega (arith, l))))
+    first_ones [] later a = All-nil (IsOpenPart n)
+    first_ones (y ∷ front) later a = All-cons (IsOpenPart n) y front (All-head (IsOpenPart n) y (front ++ later) a) (first_ones front later (All-tail (IsOpenPart n) y (front ++ later) a))
 
     front_each : All (IsOpenPart n) (o.front ++ x ∷ [])
     front_each = first_ones (o.front ++ x ∷ []) rest (subst (All (IsOpenPart n)) (sym in_two) each)

@@ -225,3 +225,119 @@ fn each_check_refuses_alone(rt: HostRuntime) {
         assert!(&rt; !is_base(&rt, alloc, plain));
     }
 }
+
+// A client of a crowd, by its place.
+fn one_of(rt: &impl Abort, alloc: Global, place: u64) -> ClientId {
+    let text = format!(in alloc; "c{place}").expect(rt, "memory");
+    client(rt, alloc, text.as_str())
+}
+
+fn stranger(rt: &impl Abort, alloc: Global, place: u64) -> ClientPart {
+    ClientPart {
+        id: one_of(rt, alloc, place),
+        last: stamp(rt, 1),
+        rows: Answers::new(alloc),
+    }
+}
+
+fn opened(rt: &impl Abort, alloc: Global, place: u64) -> SessionPart {
+    SessionPart {
+        session: SessionId::of(one_of(rt, alloc, place), stamp(rt, 1)),
+        q: Count::zero(),
+        r: Count::zero(),
+        listens: Items::of(Vec::new(alloc)),
+        plan: Items::of(Vec::new(alloc)),
+    }
+}
+
+// Clients at these places, of whom those at the others have a session open.
+fn crowd(rt: &impl Abort, alloc: Global, clients: &[u64], open: &[u64]) -> BaseParts {
+    let mut known = Vec::new(alloc);
+    for place in clients {
+        known.push(stranger(rt, alloc, *place)).expect(rt, "memory");
+    }
+    let mut sessions = Vec::new(alloc);
+    for place in open {
+        sessions
+            .push(opened(rt, alloc, *place))
+            .expect(rt, "memory");
+    }
+    BaseParts {
+        batches: count(rt, 2000),
+        moment: Moment::at(0),
+        number: count(rt, 2000),
+        tree: Tree::empty(),
+        clients: Items::of(known),
+        sessions: Items::of(sessions),
+    }
+}
+
+// So many places from 1001 on, whose texts are in byte order.
+fn places(rt: &impl Abort, alloc: Global, count: u64) -> Vec<u64> {
+    let mut made = Vec::new(alloc);
+    for place in 0..count {
+        made.push(1001 + place).expect(rt, "memory");
+    }
+    made
+}
+
+#[test]
+fn clients_and_sessions_stand_in_order(rt: HostRuntime) {
+    let alloc = rt.alloc();
+    let is_base = |clients: &[u64], open: &[u64]| {
+        let parts = crowd(&rt, alloc, clients, open);
+        Base::from_parts(parts).is_ok()
+    };
+    assert!(&rt; is_base(&[1, 2], &[1, 2]));
+    assert!(&rt; is_base(&[1, 2, 3], &[2]));
+    assert!(&rt; !is_base(&[2, 1], &[]));
+    assert!(&rt; !is_base(&[1, 1], &[1]));
+    assert!(&rt; !is_base(&[1, 2], &[2, 1]));
+    assert!(&rt; !is_base(&[1, 2], &[1, 1]));
+    assert!(&rt; !is_base(&[1], &[2]));
+}
+
+#[test]
+fn at_most_1024_sessions_are_open(rt: HostRuntime) {
+    let alloc = rt.alloc();
+    let most = places(&rt, alloc, 1024);
+    let parts = crowd(&rt, alloc, most.as_slice(), most.as_slice());
+    assert!(&rt; Base::from_parts(parts).is_ok());
+    let more = places(&rt, alloc, 1025);
+    let parts = crowd(&rt, alloc, more.as_slice(), more.as_slice());
+    assert!(&rt; Base::from_parts(parts).is_err());
+}
+
+// So many places that are listened to, or a draft at each.
+fn each_place(rt: &impl Abort, alloc: Global, count: u64, plan: bool) -> String {
+    let mut text = String::new(alloc);
+    for place in places(rt, alloc, count) {
+        let part = if plan {
+            format!(in alloc; ", 1 /p{place} 1")
+        } else {
+            format!(in alloc; " /p{place}")
+        };
+        text.push_str(part.expect(rt, "memory").as_str())
+            .expect(rt, "memory");
+    }
+    text
+}
+
+#[test]
+fn a_session_has_at_most_256_places_and_rows(rt: HostRuntime) {
+    let alloc = rt.alloc();
+    for (count, wanted) in [(256, true), (257, false)] {
+        let listens = each_place(&rt, alloc, count, false);
+        let listening = Plain {
+            listens: listens.as_str(),
+            ..FIRST
+        };
+        assert!(&rt; is_base(&rt, alloc, listening) == wanted);
+        let plan = each_place(&rt, alloc, count, true);
+        let leaving = Plain {
+            plan: plan.as_str(),
+            ..FIRST
+        };
+        assert!(&rt; is_base(&rt, alloc, leaving) == wanted);
+    }
+}

@@ -311,7 +311,8 @@ seen
 => fault 2 [1,1]
 
 3000 lost ["alice",1,1]
-=> {"m":"gone","r":6,"s":["alice",1,1],"why":"lost","z":11}
+=> {"m":"push","r":6,"s":["alice",1,1],"values":[["/u",{"a":7}]],"z":11}
+{"m":"gone","r":7,"s":["alice",1,1],"why":"lost","z":11}
 
 value /
 => {"u":{"a":7}}"#;
