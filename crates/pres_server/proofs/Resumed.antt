@@ -26,13 +26,15 @@ use Rattle.pres_base.specs.declared.parts.SessionPart.{SessionPart}
 use Rattle.pres_base.specs.declared.parts.BaseParts.{BaseParts}
 use Rattle.pres_base.specs.Bases.{IsOpenPart}
 use Rattle.pres_server.specs.declared.index.Index.{Index}
-use Rattle.pres_server.specs.InternalSessions.{Session}
+use Rattle.pres_server.specs.InternalSessions.{Session, last_stamp}
 use Rattle.pres_server.specs.InternalIndex.{session_at, gone_at}
 use Rattle.pres_server.specs.InternalSums.{open_of, Agrees}
 use Rattle.pres_server.specs.Sums.{OpenSession}
 use Rattle.pres_server.specs.BaseSums.{open_for, sessions_for, is_gone_for, gone_for, answers_for, listeners_for, sum_for}
 use Rattle.pres_server.specs.InternalBases.{lasts_in, with_answers, reopened, live_in}
 use Rattle.pres_server.proofs.Clients.{client_same, client_sym, clients_total, same_by_cmp}
+use Rattle.pres_server.proofs.Heard.{find_behind, keys_behind}
+use Rattle.pres_server.proofs.Keyed.{at_client, found}
 use Rattle.pres_server.proofs.BaseSums as bases
 
 -- ---- a map into which entries are put, one after another
@@ -74,6 +76,18 @@ told_next old new k v rest u c = ap (told rest c) (u.0 c ∙ ap (λ b. cond b (S
 pub told_step : {X : Type 0} (old new : BTreeMap ClientId X) (k : ClientId) (v : X) (es : List (ClientId × X)) (e : ClientId × X) (rest : List (ClientId × X)) → Updates client_cmp old new k (Some v) → es ≡ e ∷ rest → k ≡ e.0 → v ≡ e.1 → (c : ClientId)
     → told rest c (get client_cmp new c) ≡ told es c (get client_cmp old c)
 told_step old new k v es e rest u left key value c = told_next old new k v rest u c ∙ (λ i. told ((key i, value i) ∷ rest) c (get client_cmp old c)) ∙ ap (λ l. told l c (get client_cmp old c)) (sym left)
+
+-- the last stamps: those of the open sessions count, where there are any
+pub lasts_told : (live : List (ClientId × Session)) (gone : List (ClientId × Stamp)) → IsStrictlySortedBy client_cmp (keys_of live) → IsStrictlySortedBy client_cmp (keys_of gone) → (c : ClientId)
+    → told (map (λ e. (e.0, e.1.stamp)) live) c (told gone c None) ≡ last_stamp (at_client c live) (at_client c gone)
+lasts_told live gone open past c =
+    told_found (map (λ e. (e.0, e.1.stamp)) live) c (told gone c None) (subst (IsStrictlySortedBy client_cmp) (sym (keys_behind (λ _ (session : Session). session.stamp) live)) open)
+    ∙ (λ i. option_or (find_behind (λ _ (session : Session). session.stamp) c live i) ((told_all gone c past ∙ found c gone) i))
+    ∙ by (at_client c live) (at_client c gone)
+  where
+    by : (o : Option Session) (last : Option Stamp) → option_or (option_map (λ (session : Session). session.stamp) o) last ≡ last_stamp o last
+    by None last = refl
+    by (Some session) last = refl
 
 -- ---- items in the order of their clients
 

@@ -29,9 +29,6 @@ impl ClientSessions {
             ≡ last_stamp (get client_cmp self.now.live c) (get client_cmp self.now.gone c)) }
         ensures ordered { IfOk result (λ lasts. IsOrdered client_cmp lasts) }
     {
-        // they ensure that the clients are in order
-        let _ = self.gone.len();
-        let _ = self.live.len();
         let mut lasts = BTreeMap::new(alloc);
         for (client, gone) in self.gone.iter() {
             drop(lasts.insert(client.copy(alloc)?, gone.last())?);

@@ -1,6 +1,6 @@
 //! The server.
 
-ghost use Rattle.std.specs.Prelude.{◌≡◌, ◌↔◌, All, List, IsTrue, IfOk, IfErr, IfSome, IfNone, OnOk, OnErr, MatchOption, true, false, is_some, option_copied, []};
+ghost use Rattle.std.specs.Prelude.{◌≡◌, ◌↔◌, ◌<◌, ◌^◌, All, List, IsTrue, IfOk, IfErr, IfSome, IfNone, OnOk, OnErr, MatchOption, true, false, is_some, option_copied, []};
 ghost use Rattle.pres_tree.specs.Rows.{is_null, value_at};
 ghost use Rattle.pres_log.specs.declared.fault.Fault.TheVariants.{Busy as OutOfMemory};
 ghost use Rattle.pres_ids.specs.declared.id.Stamp.{Stamp};
@@ -100,6 +100,17 @@ pub enum Turn {
     Busy(Busy),
 }
 
+// The number as a count, far from the last one.
+fn count_of(number: u64) -> Count
+    requires { number < 2 ^ 52 }
+    ensures { result ≡ number }
+{
+    let Some(count) = Count::new(number) else {
+        unreachable!()
+    };
+    count
+}
+
 impl Server {
     /// A server without a history. It keeps the allocator and takes no memory.
     pub fn new(alloc: Global) -> Server
@@ -145,10 +156,8 @@ impl Server {
         ensures plans { IfOk result (λ _. All (λ e. IsPlan e.1.plan) self.now.sum.sessions) }
         ensures sum { IsSum self.now.sum }
     {
-        let (Some(batches), Some(number)) = (Count::new(self.batches), Count::new(self.number))
-        else {
-            unreachable!()
-        };
+        let batches = count_of(self.batches);
+        let number = count_of(self.number);
         let clients = self.index.client_parts(self.alloc)?;
         let sessions = self.index.session_parts(self.alloc)?;
         let tree = self.index.tree.copy(self.alloc)?;
