@@ -21,9 +21,6 @@ ghost use Rattle.pres_hub.specs.Cores.{CoreInvariant, IsCoreLog, GoesOn, end_by}
 ghost use Rattle.pres_hub.specs.CoreCalls.{IsCarriedOut, IsJoinAnswered, IsHeldBack, HasSameCount, accepted_of, IsOwnMessage, IsSayAnswered, IsEventRefused, IsSayRefused, IsJoinRefused, IsEndRefused, IsMarked, NoneMarked, AreMarkedEnded, AreLateEnded, IsTickDone, StopsAtMark, IsTickStopped};
 ghost use Rattle.pres_faults.specs.declared.hub_fault.HubFault.TheVariants.{Down as Gone, Memory};
 
-#[cfg(test)]
-mod tests;
-
 use pres_accounting::{Parting, Report, Seat, Tally};
 use pres_dispatch::{
     Bell, Count, Dispatcher, Fault, Input, Keeper, Moment, Outbox, Server, SessionId, Up, Why,
@@ -32,6 +29,9 @@ use pres_faults::HubFault;
 use std::alloc::Global;
 use std::marker::Model;
 use std::sync::ledger::{Blank, Ledger};
+
+#[cfg(test)]
+mod tests;
 
 /// A hub's answer to a message that was taken: the number of the server's last entry then.
 #[derive(Clone, Copy, Debug, PartialEq, Eq)]
