@@ -8,8 +8,14 @@ mod list_plan;
 #[cfg(test)]
 mod listener_lists;
 #[cfg(test)]
+mod listener_tables;
+#[cfg(test)]
 mod listeners;
 #[cfg(test)]
 mod plan_lists;
 #[cfg(test)]
+mod plan_tables;
+#[cfg(test)]
 mod plans;
+#[cfg(test)]
+mod texts;

@@ -5,56 +5,19 @@
 //! answers whether there is room, why the place is refused, and how many places that session has
 //! then.
 
-use crate::said::{expect_said, expect_text};
+use crate::texts::{check_table, listener_of, session_of, writes_at};
 use pres_fan::{FanFault, Listeners, Touched};
-use pres_tree::Path;
-use pres_wire::{ClientId, Number, SessionId, Stamp};
-use pres_write::Basic;
 use std::alloc::Global;
 use std::process::Abort;
-
-// What a line of a table is about.
-#[derive(Clone, Copy)]
-enum Table {
-    Touches,
-    Rooms,
-}
-
-fn number(rt: &impl Abort, text: &str) -> Number {
-    Number::new(text.parse().expect(rt, "a number")).expect(rt, "a number")
-}
-
-// The session of a text as `alice/1.2`.
-fn session_of(rt: &impl Abort, alloc: Global, text: &str) -> SessionId {
-    let (client, stamp) = text.split_once('/').expect(rt, "a stamp");
-    let (incarnation, attempt) = stamp.split_once('.').expect(rt, "an attempt");
-    let stamp = Stamp {
-        incarnation: number(rt, incarnation),
-        attempt: number(rt, attempt),
-    };
-    SessionId::of(
-        ClientId::parse(alloc, client).expect(rt, "a client's name"),
-        stamp,
-    )
-}
-
-// A session and a path after it.
-fn listener(rt: &impl Abort, alloc: Global, text: &str) -> (SessionId, Path) {
-    let (session, path) = text.split_once(' ').expect(rt, "a path");
-    (
-        session_of(rt, alloc, session),
-        Path::parse(alloc, path).expect(rt, "a path"),
-    )
-}
 
 fn act(rt: &impl Abort, alloc: Global, listeners: &mut Listeners, action: &str) {
     match action.split_once(' ') {
         Some(("on", text)) => {
-            let (session, path) = listener(rt, alloc, text);
+            let (session, path) = listener_of(rt, alloc, text);
             listeners.on(alloc, &session, path).expect(rt, "memory");
         }
         Some(("off", text)) => {
-            let (session, path) = listener(rt, alloc, text);
+            let (session, path) = listener_of(rt, alloc, text);
             listeners.off(&session, &path);
         }
         Some(("drop", text)) => listeners.drop_session(&session_of(rt, alloc, text)),
@@ -69,17 +32,6 @@ fn acted(rt: &impl Abort, alloc: Global, actions: &str) -> Listeners {
         act(rt, alloc, &mut listeners, action);
     }
     listeners
-}
-
-// Writes that remove at these places.
-fn writes_at(rt: &impl Abort, alloc: Global, paths: &str) -> Vec<Basic> {
-    let mut writes = Vec::new(alloc);
-    for path in paths.split(", ") {
-        let path = Path::parse(alloc, path).expect(rt, "a path");
-        let write = Basic::new(path, None).expect(rt, "a write");
-        writes.push(write).expect(rt, "memory");
-    }
-    writes
 }
 
 // A session with its touched places.
@@ -126,7 +78,7 @@ fn filled(rt: &impl Abort, alloc: Global, places: u64) -> Listeners {
 
 // Whether there is room for the place, and the result.
 fn tried(rt: &impl Abort, alloc: Global, mut listeners: Listeners, text: &str) -> String {
-    let (session, path) = listener(rt, alloc, text);
+    let (session, path) = listener_of(rt, alloc, text);
     let room = listeners.may_listen(&session, &path);
     let fault: Option<FanFault> = listeners.on(alloc, &session, path).err();
     let count = listeners.count(&session);
@@ -139,27 +91,12 @@ fn rooms(rt: &impl Abort, alloc: Global, case: &str) -> String {
     tried(rt, alloc, listeners, text)
 }
 
-fn answer(rt: &impl Abort, alloc: Global, table: Table, case: &str) -> String {
-    match table {
-        Table::Touches => touches(rt, alloc, case),
-        Table::Rooms => rooms(rt, alloc, case),
-    }
-}
-
-// Each line has to answer what it says.
-fn check(rt: &impl Abort, alloc: Global, table: Table, lines: &str) {
-    for line in lines.lines() {
-        let (case, wanted) = line.split_once(" => ").expect(rt, "an answer");
-        expect_said(rt, case, answer(rt, alloc, table, case), wanted);
-    }
-}
-
 const TOUCHES: &str = "on a/1.1 /x; on a/1.1 /x; write /x => [a/1.1 /x]
 on a/1.1 /x/y; write /x => [a/1.1 /x/y]
 on a/1.1 /x; write /x/y/z => [a/1.1 /x]
 on a/1.1 /x; on b/1.1 /y; write /y => [b/1.1 /y]
 on a/1.1 /xy; on b/1.1 /; write /x => [b/1.1 /]
-on a/1.1 /z; on a/1.1 /y; on a/1.1 /x; write /x/1, /y, /x/2 => [a/1.1 /x /y]
+on a/1.1 /z; on a/1.1 /y; on a/1.1 /x; write /x/1 /y /x/2 => [a/1.1 /x /y]
 on a/1.1 /b; on a/1.1 /a/z; on a/1.1 /a; write / => [a/1.1 /a /a/z /b]
 on b/1.1 /x; on B/9.9 /x; on ab/1.1 /x; on a/1.1 /x; write / => [B/9.9 /x][a/1.1 /x][ab/1.1 /x][b/1.1 /x]
 on a/2.1 /x; on a/1.10 /x; on a/1.9 /y; write / => [a/1.9 /y][a/1.10 /x][a/2.1 /x]
@@ -169,7 +106,7 @@ on a/1.1 /x; on a/1.2 /x; on a/1.1 /y; drop a/1.1; write / => [a/1.2 /x]";
 
 #[test]
 fn writes_touch_places_that_meet_theirs(rt: HostRuntime) {
-    check(&rt, rt.alloc(), Table::Touches, TOUCHES);
+    check_table(&rt, TOUCHES, |case| touches(&rt, rt.alloc(), case));
 }
 
 const ROOMS: &str = "0 a/1.1 /p => true None 1
@@ -180,16 +117,10 @@ const ROOMS: &str = "0 a/1.1 /p => true None 1
 
 #[test]
 fn a_session_listens_to_at_most_256_places(rt: HostRuntime) {
-    check(&rt, rt.alloc(), Table::Rooms, ROOMS);
-}
-
-#[test]
-fn faults_are_numbered_and_named(rt: HostRuntime) {
-    assert_eq!(rt;
-        (FanFault::Memory.number(), FanFault::Full.number()),
-        (1, 2)
-    );
+    check_table(&rt, ROOMS, |case| rooms(&rt, rt.alloc(), case));
+    let numbers = (FanFault::Memory.number(), FanFault::Full.number());
+    assert_eq!(rt; numbers, (1, 2));
     assert_eq!(rt; FanFault::Full.name(), "Full");
     let text = FanFault::Full.to_string(rt.alloc()).expect(&rt, "memory");
-    expect_text(&rt, text, "a session listens to more than 256 places");
+    assert_eq!(rt; text.as_str(), "a session listens to more than 256 places");
 }

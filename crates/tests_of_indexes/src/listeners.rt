@@ -2,8 +2,9 @@
 //! calls both tell the same refusals and the same touched listeners, in the same order.
 
 use crate::listener_lists::LISTS;
+use crate::texts::{listener_of, session_of, writes_at};
 use pres_fan::{FanFault, Listener, Listeners, MOST_PATHS, Touched};
-use pres_ids::{ClientId, Number, SessionId, Stamp};
+use pres_ids::SessionId;
 use pres_tree::Path;
 use pres_write::Basic;
 use std::alloc::Global;
@@ -114,7 +115,7 @@ impl Both {
     }
 
     fn on(&mut self, rt: &impl Abort, alloc: Global, text: &str) {
-        let Listener { session, path } = listener(rt, alloc, text);
+        let (session, path) = listener_of(rt, alloc, text);
         say_refusal(
             rt,
             alloc,
@@ -186,42 +187,10 @@ fn say_refusal(rt: &impl Abort, alloc: Global, said: &mut String, answer: Result
     );
 }
 
-fn number(rt: &impl Abort, text: &str) -> Number {
-    Number::new(text.parse().expect(rt, "a number")).expect(rt, "a number")
-}
-
-// The session of a text as `alice/1.2`.
-fn session_of(rt: &impl Abort, alloc: Global, text: &str) -> SessionId {
-    let (client, stamp) = text.split_once('/').expect(rt, "a stamp");
-    let (incarnation, attempt) = stamp.split_once('.').expect(rt, "an attempt");
-    let stamp = Stamp {
-        incarnation: number(rt, incarnation),
-        attempt: number(rt, attempt),
-    };
-    SessionId::of(
-        ClientId::parse(alloc, client).expect(rt, "a client's name"),
-        stamp,
-    )
-}
-
 // The listener of a session and a path after it.
 fn listener(rt: &impl Abort, alloc: Global, text: &str) -> Listener {
-    let (session, path) = text.split_once(' ').expect(rt, "a path");
-    Listener {
-        session: session_of(rt, alloc, session),
-        path: Path::parse(alloc, path).expect(rt, "a path"),
-    }
-}
-
-// Writes that remove at these paths.
-fn writes_at(rt: &impl Abort, alloc: Global, paths: &str) -> Vec<Basic> {
-    let mut writes = Vec::new(alloc);
-    for path in paths.split(' ') {
-        let path = Path::parse(alloc, path).expect(rt, "a path");
-        let write = Basic::new(path, None).expect(rt, "a write");
-        writes.push(write).expect(rt, "memory");
-    }
-    writes
+    let (session, path) = listener_of(rt, alloc, text);
+    Listener { session, path }
 }
 
 // The results of the tree and of the list, once all calls of a line were made.

@@ -4,87 +4,19 @@
 //! case of room is how many puts were left, and one action more; it answers whether there is room,
 //! why the action is refused, and how many rows there are then.
 
-ghost use Rattle.std.specs.Prelude.{◌<◌, All, IsTrue};
-
-use crate::said::{expect_said, expect_text};
+use crate::texts::{check_table, is_later, path_of, placement_of, puts_of, tree_of};
+use pres_ids::Number;
 use pres_plan::{Plan, PlanFault};
-use pres_tree::{Path, Tree, TreeJson};
-use pres_wire::Number;
-use pres_write::{Basic, Draft, DraftJson, Moment, Placement, Puts, apply};
-use serde_json::Value;
+use pres_tree::{Tree, TreeJson};
+use pres_write::{Basic, Moment, apply};
 use std::alloc::Global;
 use std::process::Abort;
-
-// What a line of a table is about.
-#[derive(Clone, Copy)]
-enum Table {
-    Ends,
-    Rooms,
-}
-
-fn value_of(rt: &impl Abort, alloc: Global, text: &str) -> Value {
-    Value::from_str(alloc, text).expect(rt, "JSON")
-}
-
-fn tree_of(rt: &impl Abort, alloc: Global, text: &str) -> Tree {
-    let value = value_of(rt, alloc, text);
-    let tree = Tree::from_value(alloc, &value);
-    drop(value);
-    tree.expect(rt, "a tree")
-}
-
-fn draft_of(rt: &impl Abort, alloc: Global, text: &str) -> Draft {
-    let value = value_of(rt, alloc, text);
-    let draft = Draft::from_value(alloc, &value);
-    drop(value);
-    draft.expect(rt, "a value")
-}
 
 fn printed(rt: &impl Abort, alloc: Global, tree: &Tree) -> String {
     let value = tree.to_value(alloc).expect(rt, "memory");
     let text = value.to_string(alloc);
     drop(value);
     text.expect(rt, "memory")
-}
-
-// A path and a value after it.
-fn placement(rt: &impl Abort, alloc: Global, text: &str) -> Placement {
-    let (path, value) = text.split_once(' ').expect(rt, "a value");
-    let path = Path::parse(alloc, path).expect(rt, "a path");
-    let draft = draft_of(rt, alloc, value);
-    Placement::new(path, draft).expect(rt, "a placement")
-}
-
-// The one put of a path and a value.
-fn one_put(rt: &impl Abort, alloc: Global, text: &str) -> Puts {
-    let mut places = Vec::new(alloc);
-    places.push(placement(rt, alloc, text)).expect(rt, "memory");
-    Puts::new(places).expect(rt, "a put")
-}
-
-// Two puts, one after the other.
-fn two_puts(rt: &impl Abort, alloc: Global, text: &str) -> Puts {
-    let (first, second) = text.split_once(", ").expect(rt, "two places");
-    let mut places = Vec::new(alloc);
-    places
-        .push(placement(rt, alloc, first))
-        .expect(rt, "memory");
-    places
-        .push(placement(rt, alloc, second))
-        .expect(rt, "memory");
-    Puts::new(places).expect(rt, "places in path order, and apart")
-}
-
-// Whether the number is later than that of each row.
-fn is_later(plan: &Plan, q: Number) -> bool
-    ensures { IsTrue result → All (λ row. row.q < q) plan.now }
-{
-    for (number, _, _) in plan.rows() {
-        if number >= q {
-            return false;
-        }
-    }
-    true
 }
 
 // Why the action is refused, where it is.
@@ -99,11 +31,9 @@ fn refusal(
         panic!(rt; "an earlier number");
     }
     match action.split_once(' ') {
-        Some(("put", text)) => plan.put(alloc, q, placement(rt, alloc, text)).err(),
-        Some(("update", text)) => plan.update(alloc, q, two_puts(rt, alloc, text)).err(),
-        Some(("cancel", text)) => plan
-            .cancel(alloc, q, &Path::parse(alloc, text).expect(rt, "a path"))
-            .err(),
+        Some(("put", text)) => plan.put(alloc, q, placement_of(rt, alloc, text)).err(),
+        Some(("update", text)) => plan.update(alloc, q, puts_of(rt, alloc, text)).err(),
+        Some(("cancel", text)) => plan.cancel(alloc, q, &path_of(rt, alloc, text)).err(),
         _ => panic!(rt; "no action"),
     }
 }
@@ -203,9 +133,8 @@ fn filled(rt: &impl Abort, alloc: Global, rows: u64) -> Plan {
 // Whether the plan has room for the action.
 fn has_room(rt: &impl Abort, alloc: Global, plan: &Plan, action: &str) -> bool {
     match action.split_once(' ') {
-        Some(("put", text)) => plan.may_update(&one_put(rt, alloc, text)),
-        Some(("update", text)) => plan.may_update(&two_puts(rt, alloc, text)),
-        Some(("cancel", text)) => plan.may_cancel(&Path::parse(alloc, text).expect(rt, "a path")),
+        Some(("cancel", text)) => plan.may_cancel(&path_of(rt, alloc, text)),
+        Some((_, text)) => plan.may_update(&puts_of(rt, alloc, text)),
         _ => panic!(rt; "no action"),
     }
 }
@@ -226,21 +155,6 @@ fn tried(rt: &impl Abort, alloc: Global, case: &str) -> String {
     format!(in alloc; "{room} {after}").expect(rt, "memory")
 }
 
-fn answer(rt: &impl Abort, alloc: Global, table: Table, case: &str) -> String {
-    match table {
-        Table::Ends => ended(rt, alloc, case),
-        Table::Rooms => tried(rt, alloc, case),
-    }
-}
-
-// Each line has to answer what it says.
-fn check(rt: &impl Abort, alloc: Global, table: Table, lines: &str) {
-    for line in lines.lines() {
-        let (case, wanted) = line.split_once(" => ").expect(rt, "an answer");
-        expect_said(rt, case, answer(rt, alloc, table, case), wanted);
-    }
-}
-
 const ENDS: &str =
     r#"{"u":{"a":9,"c":3}}; put /u {"a":1,"b":2}; cancel /u/a => put keep ; 1 /u {"a":1,"b":2}; 2 /u/a 9; {"u":{"a":9,"b":2}}
 {"a":5}; put /a/b 1; cancel /a/b => ; {"a":5}
@@ -254,7 +168,7 @@ null; put /a/b 1; update /a 2, /b {"c":{".sv":"timestamp"}} => put put ; 2 /a 2;
 
 #[test]
 fn an_end_pays_what_is_left(rt: HostRuntime) {
-    check(&rt, rt.alloc(), Table::Ends, ENDS);
+    check_table(&rt, ENDS, |case| ended(&rt, rt.alloc(), case));
 }
 
 const ROOMS: &str = "255 put /a 1 => true None 256
@@ -269,16 +183,10 @@ const ROOMS: &str = "255 put /a 1 => true None 256
 
 #[test]
 fn a_plan_has_at_most_256_rows(rt: HostRuntime) {
-    check(&rt, rt.alloc(), Table::Rooms, ROOMS);
-}
-
-#[test]
-fn faults_are_numbered_and_named(rt: HostRuntime) {
-    assert_eq!(rt;
-        (PlanFault::Memory.number(), PlanFault::Full.number()),
-        (1, 2)
-    );
+    check_table(&rt, ROOMS, |case| tried(&rt, rt.alloc(), case));
+    let numbers = (PlanFault::Memory.number(), PlanFault::Full.number());
+    assert_eq!(rt; numbers, (1, 2));
     assert_eq!(rt; PlanFault::Full.name(), "Full");
     let text = PlanFault::Full.to_string(rt.alloc()).expect(&rt, "memory");
-    expect_text(&rt, text, "a session leaves more than 256 rows");
+    assert_eq!(rt; text.as_str(), "a session leaves more than 256 rows");
 }

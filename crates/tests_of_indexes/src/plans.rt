@@ -1,15 +1,13 @@
 //! Plans do what a plain list of their rows does: over stored lists of calls both have the same
 //! room and refuse the same, and have the same rows and the same due rows, in the same order.
 
-ghost use Rattle.std.specs.Prelude.{◌<◌, All, IsTrue};
-
 use crate::list_plan::{ListPlan, parts};
 use crate::plan_lists::LISTS;
+use crate::texts::{is_later, path_of, placement_of, puts_of, tree_of};
 use pres_ids::Number;
 use pres_plan::{Plan, PlanFault};
-use pres_tree::{Nested, Path, PrintedForm, Scalar, ScalarForm, Tree, TreeJson, to_value};
-use pres_write::{Basic, Draft, DraftJson, DraftLeaf, DraftLeafForm, Moment, Placement, Puts};
-use serde_json::Value;
+use pres_tree::{Nested, Path, PrintedForm, Scalar, ScalarForm, to_value};
+use pres_write::{Basic, Draft, DraftLeaf, DraftLeafForm, Moment};
 use std::alloc::Global;
 use std::process::Abort;
 
@@ -20,54 +18,6 @@ struct Both {
     list: ListPlan,
     said: String,
     wanted: String,
-}
-
-fn value_of(rt: &impl Abort, alloc: Global, text: &str) -> Value {
-    Value::from_str(alloc, text).expect(rt, "JSON")
-}
-
-fn tree_of(rt: &impl Abort, alloc: Global, text: &str) -> Tree {
-    let value = value_of(rt, alloc, text);
-    let tree = Tree::from_value(alloc, &value);
-    drop(value);
-    tree.expect(rt, "a tree")
-}
-
-fn draft_of(rt: &impl Abort, alloc: Global, text: &str) -> Draft {
-    let value = value_of(rt, alloc, text);
-    let draft = Draft::from_value(alloc, &value);
-    drop(value);
-    draft.expect(rt, "a value")
-}
-
-fn path_of(rt: &impl Abort, alloc: Global, text: &str) -> Path {
-    Path::parse(alloc, text).expect(rt, "a path")
-}
-
-// The puts of paths, each with a value after it.
-fn puts_of(rt: &impl Abort, alloc: Global, text: &str) -> Puts {
-    let mut places = Vec::new(alloc);
-    for part in text.split(", ") {
-        let (path, value) = part.split_once(' ').expect(rt, "a value");
-        let draft = draft_of(rt, alloc, value);
-        let placement = Placement::new(path_of(rt, alloc, path), draft);
-        places
-            .push(placement.expect(rt, "a placement"))
-            .expect(rt, "memory");
-    }
-    Puts::new(places).expect(rt, "places in path order, and apart")
-}
-
-// Whether the number is later than that of each row.
-fn is_later(plan: &Plan, q: Number) -> bool
-    ensures { IsTrue result → All (λ row. row.q < q) plan.now }
-{
-    for (number, _, _) in plan.rows() {
-        if number >= q {
-            return false;
-        }
-    }
-    true
 }
 
 fn printed<L, P: PrintedForm<L>>(rt: &impl Abort, alloc: Global, tree: &Nested<L>) -> String {
@@ -145,10 +95,7 @@ fn put(rt: &impl Abort, alloc: Global, both: &mut Both, q: Number, text: &str) {
     }
     let puts = puts_of(rt, alloc, text);
     let room = both.plan.may_update(&puts);
-    let (path, value) = text.split_once(' ').expect(rt, "a value");
-    let draft = draft_of(rt, alloc, value);
-    let placement = Placement::new(path_of(rt, alloc, path), draft).expect(rt, "a placement");
-    let answer = both.plan.put(alloc, q, placement);
+    let answer = both.plan.put(alloc, q, placement_of(rt, alloc, text));
     tell(rt, alloc, &mut both.said, room, answer);
     let room = both.list.may_update(puts.as_slice());
     let answer = both.list.update(q, puts);

@@ -1,6 +1,6 @@
 //! Runs of a server in which sessions leave what is to be done at their end, and fall silent.
 
-use crate::turns::check;
+use crate::turns::{check, check_long, check_runs};
 use std::alloc::Global;
 use std::process::Abort;
 
@@ -197,11 +197,6 @@ see 70000 {end}
     .expect(rt, "memory")
 }
 
-// The run of an end has to say what it must.
-fn check_ending(rt: &impl Abort, alloc: Global, end: &str, wanted: &str) {
-    check(rt, alloc, ending(rt, alloc, end, wanted).as_str());
-}
-
 // A message that leaves a value at a place of its own, and its answer.
 fn leaving(rt: &impl Abort, alloc: Global, q: u64) -> String {
     let (place, z) = (q.saturating_sub(1), q.saturating_add(1));
@@ -238,53 +233,52 @@ value /p/255
 value /p/256
 => null"#;
 
-// A run in which alice leaves as many rows as she may, and one more.
-fn leavings(rt: &impl Abort, alloc: Global, rows: u64) -> String {
-    let mut run = String::from_str(alloc, OPENING).expect(rt, "memory");
-    for q in 1..=rows {
-        run.push_str(leaving(rt, alloc, q).as_str())
-            .expect(rt, "memory");
-    }
-    run.push_str(ONE_TOO_MANY).expect(rt, "memory");
-    run
-}
-
 #[test]
 fn what_is_left_is_done_at_the_end(rt: HostRuntime) {
-    let alloc = rt.alloc();
-    check(&rt, alloc, CANCELLED_CHILD);
-    check(&rt, alloc, CANCELLED_BELOW_A_SCALAR);
-    check(&rt, alloc, CANCELLED_IN_AN_OBJECT);
-    check(&rt, alloc, LEFT_AGAIN);
-    check(&rt, alloc, TIMESTAMP_AND_REMOVAL);
-    check(&rt, alloc, ORDER);
+    let runs = [
+        CANCELLED_CHILD,
+        CANCELLED_BELOW_A_SCALAR,
+        CANCELLED_IN_AN_OBJECT,
+        LEFT_AGAIN,
+        TIMESTAMP_AND_REMOVAL,
+        ORDER,
+    ];
+    check_runs(&rt, rt.alloc(), &runs);
 }
 
 #[test]
 fn silent_sessions_end(rt: HostRuntime) {
-    let alloc = rt.alloc();
-    check(&rt, alloc, LEASE);
-    check(&rt, alloc, BEATS);
-    check(&rt, alloc, FIRST_CLIENT_ENDS_FIRST);
+    check_runs(&rt, rt.alloc(), &[LEASE, BEATS, FIRST_CLIENT_ENDS_FIRST]);
 }
 
 #[test]
 fn each_end_pays_what_was_left(rt: HostRuntime) {
-    let alloc = rt.alloc();
-    check_ending(&rt, alloc, r#"lost ["alice",1,1]"#, ENDED);
-    check_ending(&rt, alloc, r#"slow ["alice",1,1]"#, ENDED);
-    check_ending(&rt, alloc, "restart alice", ENDED);
-    check_ending(&rt, alloc, "tick", ENDED);
-    check_ending(&rt, alloc, r#"{"m":"bye","q":2,"s":["alice",1,1]}"#, ENDED);
-    check_ending(
-        &rt,
-        alloc,
-        r#"{"m":"hello","s":["alice",1,2]}"#,
-        r#"4 entries, false None, heard Some(70000), {"p":1}"#,
-    );
+    let superseded = r#"4 entries, false None, heard Some(70000), {"p":1}"#;
+    for (end, wanted) in [
+        (r#"lost ["alice",1,1]"#, ENDED),
+        (r#"slow ["alice",1,1]"#, ENDED),
+        ("restart alice", ENDED),
+        ("tick", ENDED),
+        (r#"{"m":"bye","q":2,"s":["alice",1,1]}"#, ENDED),
+        (r#"{"m":"hello","s":["alice",1,2]}"#, superseded),
+    ] {
+        check(
+            &rt,
+            rt.alloc(),
+            ending(&rt, rt.alloc(), end, wanted).as_str(),
+        );
+    }
 }
 
 #[test]
 fn so_many_rows_may_be_left(rt: HostRuntime) {
-    check(&rt, rt.alloc(), leavings(&rt, rt.alloc(), 256).as_str());
+    let alloc = rt.alloc();
+    check_long(
+        &rt,
+        alloc,
+        OPENING,
+        256,
+        |q| leaving(&rt, alloc, q),
+        ONE_TOO_MANY,
+    );
 }

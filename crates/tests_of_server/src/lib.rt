@@ -13,11 +13,7 @@ mod exchanges;
 #[cfg(test)]
 mod lines;
 #[cfg(test)]
-mod listeners;
-#[cfg(test)]
 mod logs;
-#[cfg(test)]
-mod plans;
 #[cfg(test)]
 mod pushes;
 #[cfg(test)]

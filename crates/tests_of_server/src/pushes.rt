@@ -1,6 +1,6 @@
 //! Runs of a server in which sessions listen.
 
-use crate::turns::check;
+use crate::turns::{check, check_long, check_runs};
 use std::alloc::Global;
 use std::process::Abort;
 
@@ -165,29 +165,28 @@ fn listening(rt: &impl Abort, alloc: Global, q: u64) -> String {
     .expect(rt, "memory")
 }
 
-// A run in which alice listens to as many paths as she may, and one more.
-fn listenings(rt: &impl Abort, alloc: Global, paths: u64) -> String {
-    let mut run = String::from_str(alloc, OPENING).expect(rt, "memory");
-    for q in 1..=paths {
-        run.push_str(listening(rt, alloc, q).as_str())
-            .expect(rt, "memory");
-    }
-    run.push_str(ONE_TOO_MANY).expect(rt, "memory");
-    run
-}
-
 #[test]
 fn listeners_see_each_write(rt: HostRuntime) {
-    let alloc = rt.alloc();
-    check(&rt, alloc, PRESENCE);
-    check(&rt, alloc, PUSH_BEFORE_REPLY);
-    check(&rt, alloc, ORDER);
-    check(&rt, alloc, ACROSS_A_LOSS);
-    check(&rt, alloc, OWN_END);
-    check(&rt, alloc, TWO_LISTEN);
+    let runs = [
+        PRESENCE,
+        PUSH_BEFORE_REPLY,
+        ORDER,
+        ACROSS_A_LOSS,
+        OWN_END,
+        TWO_LISTEN,
+    ];
+    check_runs(&rt, rt.alloc(), &runs);
 }
 
 #[test]
 fn so_many_paths_may_be_listened_to(rt: HostRuntime) {
-    check(&rt, rt.alloc(), listenings(&rt, rt.alloc(), 256).as_str());
+    let alloc = rt.alloc();
+    check_long(
+        &rt,
+        alloc,
+        OPENING,
+        256,
+        |q| listening(&rt, alloc, q),
+        ONE_TOO_MANY,
+    );
 }

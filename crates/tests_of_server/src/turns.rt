@@ -308,6 +308,33 @@ pub(crate) fn check(rt: &impl Abort, alloc: Global, run: &str) {
     drop(log);
 }
 
+/// Each run has to say what it must.
+pub(crate) fn check_runs(rt: &impl Abort, alloc: Global, runs: &[&str]) {
+    for run in runs {
+        check(rt, alloc, run);
+    }
+}
+
+/// The first steps, then a step for each number up to this one, and the last steps have to say what
+/// they must.
+pub(crate) fn check_long<F: Fn(u64) -> String>(
+    rt: &impl Abort,
+    alloc: Global,
+    first: &str,
+    count: u64,
+    step: F,
+    last: &str,
+)
+    requires { F.IsAlwaysCallable step }
+{
+    let mut run = String::from_str(alloc, first).expect(rt, "memory");
+    for number in 1..=count {
+        run.push_str(step(number).as_str()).expect(rt, "memory");
+    }
+    run.push_str(last).expect(rt, "memory");
+    check(rt, alloc, run.as_str());
+}
+
 const SUPERSEDED: &str = r#"1000 {"m":"hello","s":["alice",1,1]}
 => {"m":"welcome","ops":0,"s":["alice",1,1],"z":1}
 
@@ -581,17 +608,6 @@ fn opening(rt: &impl Abort, alloc: Global, client: u64) -> String {
     .expect(rt, "memory")
 }
 
-// A run in which this many sessions open, and then one more is to.
-fn openings(rt: &impl Abort, alloc: Global, clients: u64) -> String {
-    let mut run = String::new(alloc);
-    for client in 1..=clients {
-        run.push_str(opening(rt, alloc, client).as_str())
-            .expect(rt, "memory");
-    }
-    run.push_str(FULL).expect(rt, "memory");
-    run
-}
-
 // A run in which alice's session ends for this reason has to say what it must.
 fn check_end(rt: &impl Abort, alloc: Global, line: &str, why: &str) {
     check(rt, alloc, end(rt, alloc, line, why).as_str());
@@ -599,16 +615,18 @@ fn check_end(rt: &impl Abort, alloc: Global, line: &str, why: &str) {
 
 #[test]
 fn runs_say_what_they_must(rt: HostRuntime) {
-    let alloc = rt.alloc();
-    check(&rt, alloc, SUPERSEDED);
-    check(&rt, alloc, SENT_AGAIN);
-    check(&rt, alloc, COUNTED_APART);
-    check(&rt, alloc, OLD_STAMPS);
-    check(&rt, alloc, ORDER);
-    check(&rt, alloc, ABANDONED);
-    check(&rt, alloc, HEARD);
-    check(&rt, alloc, MOMENTS);
-    check(&rt, alloc, STALE);
+    let runs = [
+        SUPERSEDED,
+        SENT_AGAIN,
+        COUNTED_APART,
+        OLD_STAMPS,
+        ORDER,
+        ABANDONED,
+        HEARD,
+        MOMENTS,
+        STALE,
+    ];
+    check_runs(&rt, rt.alloc(), &runs);
 }
 
 #[test]
@@ -628,5 +646,13 @@ fn a_restart_ends_the_session(rt: HostRuntime) {
 
 #[test]
 fn so_many_sessions_may_be_open(rt: HostRuntime) {
-    check(&rt, rt.alloc(), openings(&rt, rt.alloc(), 1024).as_str());
+    let alloc = rt.alloc();
+    check_long(
+        &rt,
+        alloc,
+        "",
+        1024,
+        |client| opening(&rt, alloc, client),
+        FULL,
+    );
 }

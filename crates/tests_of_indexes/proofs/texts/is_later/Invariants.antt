@@ -1,5 +1,5 @@
 use Rattle.std.proofs.Common.{◌<◌, All}
-use Rattle.tests_of_indexes.proofs.plans.is_later.Given as goal
+use Rattle.tests_of_indexes.proofs.texts.is_later.Given as goal
 
 -- where the rows that are left have lesser numbers, all have
 abbrev pub invariant-loop-number : goal.invariant-loop-number
