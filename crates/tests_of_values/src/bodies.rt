@@ -1,7 +1,7 @@
 //! Tests of saved bodies: what is read and printed again, and which texts are none. A table is a
 //! text of lines, each a case and what it must answer.
 
-use crate::said::{expect_said, expect_text};
+use crate::said::{check_tables, expect_text};
 use pres_batch_json::{print_entries, read_entries};
 use pres_log::Entry;
 use pres_write::Items;
@@ -27,15 +27,8 @@ fn body_answer(rt: &impl Abort, alloc: Global, text: &str) -> String {
     again
 }
 
-// Each line has to answer what it says.
-fn check(rt: &impl Abort, alloc: Global, lines: &str) {
-    for line in lines.lines() {
-        let (case, wanted) = line.split_once(" => ").expect(rt, "an answer");
-        expect_said(rt, case, body_answer(rt, alloc, case), wanted);
-    }
-}
-
-const SAVED: &str = r#"[{"e":"open","s":["alice",1,1]}] => same
+const SAVED: &str = r#"saved:
+[{"e":"open","s":["alice",1,1]}] => same
 [{"e":"op","n":1,"op":{"op":"set","path":"/a","value":1},"out":{"wrote":[["/a",1]]},"q":1,"s":["alice",1,1]}] => same
 [{"e":"op","n":2,"op":{"op":"update","path":"/","values":{"a":null,"b":{".sv":"timestamp"}}},"out":{"wrote":[["/a",null],["/b",5]]},"q":2,"s":["alice",1,1]}] => same
 [{"e":"op","n":3,"op":{"expect":0,"op":"tx","path":"/n","value":1},"out":{"stale":null},"q":3,"s":["alice",1,1]}] => same
@@ -56,14 +49,15 @@ const SAVED: &str = r#"[{"e":"open","s":["alice",1,1]}] => same
 [{"e":"ended","q":null,"rows":[],"s":["alice",1,1],"why":"superseded"},{"e":"open","s":["alice",1,2]}] => same"#;
 
 // Spaces, other names and orders, paths and values in other forms.
-const UNTIDY: &str =
-    r#" [ {"s":["a",1,1],"more":{"e":"off"},"e":"on","path":"a//b/","q":2} ] => [{"e":"on","path":"/a/b","q":2,"s":["a",1,1]}]
+const UNTIDY: &str = r#"untidy:
+ [ {"s":["a",1,1],"more":{"e":"off"},"e":"on","path":"a//b/","q":2} ] => [{"e":"on","path":"/a/b","q":2,"s":["a",1,1]}]
 [{"e":"ended","q":null,"rows":[["a",[null,{}]]],"s":["a",1,1],"why":"lost"}] => [{"e":"ended","q":null,"rows":[["/a",null]],"s":["a",1,1],"why":"lost"}]
 [{"e":"op","n":1,"op":{"op":"remove","path":"a"},"out":{"stale":1,"wrote":[]},"q":1,"s":["a",1,1]}] => [{"e":"op","n":1,"op":{"op":"set","path":"/a","value":null},"out":{"wrote":[]},"q":1,"s":["a",1,1]}]
 [{"e":"op","n":1,"op":{"op":"remove","path":"a"},"out":{"stale":[null]},"q":1,"s":["a",1,1]}] => [{"e":"op","n":1,"op":{"op":"set","path":"/a","value":null},"out":{"stale":null},"q":1,"s":["a",1,1]}]"#;
 
 // No lists of one entry, or of an end and an opening.
-const NO_BATCHES: &str = r#"[ => none
+const NO_BATCHES: &str = r#"no batches:
+[ => none
  => none
 null => none
 {} => none
@@ -81,7 +75,8 @@ null => none
 [{"e":"open","s":["a",1,1]},null] => none"#;
 
 // Fields that are missing or wrong.
-const NO_ENTRIES: &str = r#"[{"e":"open"}] => none
+const NO_ENTRIES: &str = r#"no entries:
+[{"e":"open"}] => none
 [{"e":"open","s":["a!",1,1]}] => none
 [{"e":"open","s":["a",0,1]}] => none
 [{"e":"again","n":1,"q":0,"s":["a",1,1]}] => none
@@ -109,7 +104,8 @@ const NO_ENTRIES: &str = r#"[{"e":"open"}] => none
 [{"e":"op","n":1,"op":{"op":"remove","path":"a"},"out":{"stale":1,"wrote":null},"q":1,"s":["a",1,1]}] => none"#;
 
 // Rows of a Left that aren't puts.
-const NO_PUTS: &str = r#"[{"e":"left","q":1,"rows":[["/b",1],["/a",2]],"s":["a",1,1]}] => none
+const NO_PUTS: &str = r#"no puts:
+[{"e":"left","q":1,"rows":[["/b",1],["/a",2]],"s":["a",1,1]}] => none
 [{"e":"left","q":1,"rows":[["/a",1],["/a",2]],"s":["a",1,1]}] => none
 [{"e":"left","q":1,"rows":[["/a",1],["/a/b",2]],"s":["a",1,1]}] => none
 [{"e":"left","q":1,"rows":[["/a/b",1],["/a/c",2],["/b",3]],"s":["a",1,1]}] => same
@@ -117,19 +113,8 @@ const NO_PUTS: &str = r#"[{"e":"left","q":1,"rows":[["/b",1],["/a",2]],"s":["a",
 
 #[test]
 fn bodies_are_read_and_printed(rt: HostRuntime) {
-    check(&rt, rt.alloc(), SAVED);
-}
-
-#[test]
-fn bodies_are_printed_tidily(rt: HostRuntime) {
-    check(&rt, rt.alloc(), UNTIDY);
-}
-
-#[test]
-fn other_texts_are_none(rt: HostRuntime) {
-    check(&rt, rt.alloc(), NO_BATCHES);
-    check(&rt, rt.alloc(), NO_ENTRIES);
-    check(&rt, rt.alloc(), NO_PUTS);
+    let tables = [SAVED, UNTIDY, NO_BATCHES, NO_ENTRIES, NO_PUTS];
+    check_tables(&rt, &tables, |_, case| body_answer(&rt, rt.alloc(), case));
 }
 
 // An end with a write of the value at a path of this many keys.

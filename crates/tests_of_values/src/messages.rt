@@ -1,7 +1,7 @@
 //! Tests of messages: what is read and printed, and why texts are refused. A table is a text of
 //! lines, each a case and what it must answer. Each helper holds one message at most.
 
-use crate::said::{expect_said, expect_text, json_text};
+use crate::said::{check_tables, expect_text, json_text};
 use pres_ids::{read_session, session_value, stamp_value};
 use pres_limits::MAX_SAFE_INTEGER;
 use pres_wire::{
@@ -148,13 +148,17 @@ fn printed_again(rt: &impl Abort, alloc: Global, text: &str) -> String {
     copied_text(rt, alloc, message)
 }
 
-// The text that the message of a text is printed as, or `same`.
-fn message_answer(rt: &impl Abort, alloc: Global, text: &str) -> String {
-    let printed = printed_again(rt, alloc, text);
+// The printed text, or `same` where it is this one.
+fn or_same(rt: &impl Abort, alloc: Global, printed: String, text: &str) -> String {
     if printed.as_str() == text {
         return String::from_str(alloc, "same").expect(rt, "memory");
     }
     printed
+}
+
+// The text that the message of a text is printed as, or `same`.
+fn message_answer(rt: &impl Abort, alloc: Global, text: &str) -> String {
+    or_same(rt, alloc, printed_again(rt, alloc, text), text)
 }
 
 // The text of the client's write 1, of a case such as `2 OPERATION`.
@@ -220,80 +224,60 @@ fn fields_answer(rt: &impl Abort, alloc: Global, case: &str) -> String {
     field_refusals(rt, alloc, message, values)
 }
 
-// What a line of a table is about.
-#[derive(Clone, Copy)]
-enum Table {
-    Ids,
-    Sessions,
-    Messages,
-    Writes,
-    Left,
-    Refusals,
-    RefusedWrites,
-    RefusedLeft,
-    Fields,
-    Filled,
-    RefusedFilled,
-    Read,
-    Unread,
-}
-
-fn answer(rt: &impl Abort, alloc: Global, table: Table, case: &str) -> String {
-    match table {
-        Table::Ids => id_answer(rt, alloc, case),
-        Table::Sessions => session_answer(rt, alloc, case),
-        Table::Messages => message_answer(rt, alloc, case),
-        Table::Writes => message_answer(rt, alloc, write_text(rt, alloc, case).as_str()),
-        Table::Left => message_answer(rt, alloc, left_text(rt, alloc, case).as_str()),
-        Table::Refusals => refusal(rt, alloc, case),
-        Table::RefusedWrites => refusal(rt, alloc, write_text(rt, alloc, case).as_str()),
-        Table::RefusedLeft => refusal(rt, alloc, left_text(rt, alloc, case).as_str()),
-        Table::Fields => fields_answer(rt, alloc, case),
-        Table::Filled => message_answer(rt, alloc, filled_text(rt, alloc, case).as_str()),
-        Table::RefusedFilled => refusal(rt, alloc, filled_text(rt, alloc, case).as_str()),
-        Table::Read => read_answer(rt, alloc, case),
-        Table::Unread => unread_answer(rt, alloc, case),
+// What a case answers in a table with this heading.
+fn answer(rt: &impl Abort, alloc: Global, heading: &str, case: &str) -> String {
+    match heading {
+        "ids" => id_answer(rt, alloc, case),
+        "sessions" => session_answer(rt, alloc, case),
+        "messages" => message_answer(rt, alloc, case),
+        "writes" => message_answer(rt, alloc, write_text(rt, alloc, case).as_str()),
+        "actions" => message_answer(rt, alloc, left_text(rt, alloc, case).as_str()),
+        "the longest" => message_answer(rt, alloc, filled_text(rt, alloc, case).as_str()),
+        "refusals" => refusal(rt, alloc, case),
+        "refused writes" => refusal(rt, alloc, write_text(rt, alloc, case).as_str()),
+        "refused actions" => refusal(rt, alloc, left_text(rt, alloc, case).as_str()),
+        "too long" => refusal(rt, alloc, filled_text(rt, alloc, case).as_str()),
+        "fields" => fields_answer(rt, alloc, case),
+        "messages to clients" => read_answer(rt, alloc, case),
+        "refused by clients" => unread_answer(rt, alloc, case),
+        _ => panic!(rt; "no heading"),
     }
 }
 
-// Each line has to answer what it says.
-fn check(rt: &impl Abort, alloc: Global, table: Table, lines: &str) {
-    for line in lines.lines() {
-        let (case, wanted) = line.split_once(" => ").expect(rt, "an answer");
-        expect_said(rt, case, answer(rt, alloc, table, case), wanted);
-    }
-}
-
-const IDS: &str = "a-Z_09 => a-Z_09
+const IDS: &str = "ids:
+a-Z_09 => a-Z_09
 a! => refused
 a b => refused
  => refused";
 
-const SESSIONS: &str = r#"[ "alice", 1, 2 ] => ["alice",1,2] [1,2]
+const SESSIONS: &str = r#"sessions:
+[ "alice", 1, 2 ] => ["alice",1,2] [1,2]
 ["alice",1] => none
 ["alice",0,1] => none
 ["",1,1] => none
 {"client":"alice"} => none"#;
 
-const MESSAGES: &str = r#"{"m":"hello","s":["alice",1,1]} => same
+// The last one is a Bye with spaces around it, its members in another order, and a further member.
+const MESSAGES: &str = r#"messages:
+{"m":"hello","s":["alice",1,1]} => same
 {"m":"beat","s":["alice",1,1]} => same
 {"m":"cancel","path":"/a/b","q":2,"s":["alice",1,1]} => same
 {"m":"on","path":"/a","q":1,"s":["bob",1,1]} => same
 {"m":"off","path":"/a","q":2,"s":["bob",1,1]} => same
-{"m":"cancel","path":"","q":2,"s":["a",1,1]} => {"m":"cancel","path":"/","q":2,"s":["a",1,1]}"#;
+{"m":"cancel","path":"","q":2,"s":["a",1,1]} => {"m":"cancel","path":"/","q":2,"s":["a",1,1]}
+ {"s":["a",9007199254740991,2],"q":9007199254740991,"m":"bye","more":{"q":0}}  => {"m":"bye","q":9007199254740991,"s":["a",9007199254740991,2]}"#;
 
-// A Bye with spaces around it, its members in another order, and a member that it has not.
-const UNTIDY: &str =
-    r#" {"s":["a",9007199254740991,2],"q":9007199254740991,"m":"bye","more":{"q":0}}  => {"m":"bye","q":9007199254740991,"s":["a",9007199254740991,2]}"#;
-
-const LEFT: &str = r#"1 {"op":"set","path":"/a","value":1} => same
+const LEFT: &str = r#"actions:
+1 {"op":"set","path":"/a","value":1} => same
 1 {"op":"update","path":"/","values":{"last":{".sv":"timestamp"},"online":null}} => same"#;
 
-const WRITES: &str = r#"1 {"op":"set","path":"/a","value":1} => same
+const WRITES: &str = r#"writes:
+1 {"op":"set","path":"/a","value":1} => same
 1 {"op":"update","path":"/","values":{"last":{".sv":"timestamp"},"online":null}} => same
 2 {"expect":0,"op":"tx","path":"/n","value":1} => same"#;
 
-const REFUSALS: &str = r#" => 2 NotJson NotJson
+const REFUSALS: &str = r#"refusals:
+ => 2 NotJson NotJson
 {"m":"beat" => 2 NotJson NotJson
 [] => 4 NoSuchMessage NoSuchMessage
 {} => 4 NoSuchMessage NoSuchMessage
@@ -327,32 +311,28 @@ const REFUSALS: &str = r#" => 2 NotJson NotJson
 {"m":"off","s":["a",1,1],"path":"/a"} => 5 Field Field(Q)
 {"m":"off","s":["a",1,1],"q":1,"path":null} => 5 Field Field(Path)"#;
 
-const REFUSED_LEFT: &str = r#"1 {"expect":0,"op":"tx","path":"/n","value":1} => 5 Field Field(Op)
+const REFUSED_LEFT: &str = r#"refused actions:
+1 {"expect":0,"op":"tx","path":"/n","value":1} => 5 Field Field(Op)
 1 {"op":"tx","path":"/a.b"} => 5 Field Field(Op)
 1 {"op":"set","path":"/a.b","value":1} => 6 Write Write(Tree(BadKey))
 1 null => 6 Write Write(Shape)"#;
 
-const REFUSED_WRITES: &str =
-    r#"1 {"op":"set","path":"/a.b","value":1} => 6 Write Write(Tree(BadKey))
+const REFUSED_WRITES: &str = r#"refused writes:
+1 {"op":"set","path":"/a.b","value":1} => 6 Write Write(Tree(BadKey))
 1 {"op":"update","path":"/","values":{"a":2,"a/b":1}} => 6 Write Write(Overlap)"#;
 
-const HELLO_SESSIONS: &str =
-    r#"{"m":"hello","s":_} with null ; {"s":1} ; ["a",1] => 5 Field Field(Session)
+const FIELDS: &str = r#"fields:
+{"m":"hello","s":_} with null ; {"s":1} ; ["a",1] => 5 Field Field(Session)
 {"m":"hello","s":_} with ["a",1,1,1] ; [1,1,1] ; ["",1,1] => 5 Field Field(Session)
-{"m":"hello","s":_} with ["a",9007199254740992,1] ; ["a",1,"1"] => 5 Field Field(Session)"#;
-
-const OP_SESSIONS: &str =
-    r#"{"m":"op","q":0,"s":_} with null ; "a" ; [] ; ["a",1,0] => 5 Field Field(Session)
+{"m":"hello","s":_} with ["a",9007199254740992,1] ; ["a",1,"1"] => 5 Field Field(Session)
+{"m":"op","q":0,"s":_} with null ; "a" ; [] ; ["a",1,0] => 5 Field Field(Session)
 {"m":"op","q":0,"s":_} with ["a",1.0,1] ; ["a",1,9007199254740992] => 5 Field Field(Session)
-{"m":"op","q":0,"s":_} with ["a b",1,1] ; [null,1,1] => 5 Field Field(Session)"#;
-
-const BYE_SESSIONS: &str =
-    r#"{"m":"bye","q":1,"s":_} with null ; true ; ["a"] => 5 Field Field(Session)
+{"m":"op","q":0,"s":_} with ["a b",1,1] ; [null,1,1] => 5 Field Field(Session)
+{"m":"bye","q":1,"s":_} with null ; true ; ["a"] => 5 Field Field(Session)
 {"m":"bye","q":1,"s":_} with ["a",0,1] ; ["a",1,-1] => 5 Field Field(Session)
 {"m":"bye","q":1,"s":_} with ["a",1,18446744073709551616] => 5 Field Field(Session)
-{"m":"bye","q":1,"s":_} with ["ä",1,1] ; [["a"],1,1] => 5 Field Field(Session)"#;
-
-const NUMBERS: &str = r#"{"m":"op","s":["a",1,1],"q":_} with null ; 0 ; 1.0 ; -1 => 5 Field Field(Q)
+{"m":"bye","q":1,"s":_} with ["ä",1,1] ; [["a"],1,1] => 5 Field Field(Session)
+{"m":"op","s":["a",1,1],"q":_} with null ; 0 ; 1.0 ; -1 => 5 Field Field(Q)
 {"m":"op","s":["a",1,1],"q":_} with 9007199254740992 ; "1" ; [1] ; true => 5 Field Field(Q)
 {"m":"op","op":{},"q":1,"s":["a",1,1],"n":_} with null ; 0 ; 1e2 ; -1 => 5 Field Field(N)
 {"m":"op","op":{},"q":1,"s":["a",1,1],"n":_} with 9007199254740992 => 5 Field Field(N)
@@ -362,44 +342,11 @@ const NUMBERS: &str = r#"{"m":"op","s":["a",1,1],"q":_} with null ; 0 ; 1.0 ; -1
 {"m":"bye","s":["a",1,1],"q":_} with 18446744073709551616 => 5 Field Field(Q)"#;
 
 #[test]
-fn ids_are_plain_words(rt: HostRuntime) {
-    check(&rt, rt.alloc(), Table::Ids, IDS);
-}
-
-#[test]
-fn sessions_are_read_and_printed(rt: HostRuntime) {
-    check(&rt, rt.alloc(), Table::Sessions, SESSIONS);
-}
-
-#[test]
-fn messages_are_read_and_printed(rt: HostRuntime) {
-    check(&rt, rt.alloc(), Table::Messages, MESSAGES);
-    check(&rt, rt.alloc(), Table::Messages, UNTIDY);
-    check(&rt, rt.alloc(), Table::Writes, WRITES);
-    check(&rt, rt.alloc(), Table::Left, LEFT);
-}
-
-#[test]
-fn texts_are_refused(rt: HostRuntime) {
-    check(&rt, rt.alloc(), Table::Refusals, REFUSALS);
-    check(&rt, rt.alloc(), Table::RefusedWrites, REFUSED_WRITES);
-    check(&rt, rt.alloc(), Table::RefusedLeft, REFUSED_LEFT);
-}
-
-#[test]
 fn refusals_are_displayed(rt: HostRuntime) {
     let told = WireFault::Field(Field::N)
         .to_string(rt.alloc())
         .expect(&rt, "memory");
     expect_text(&rt, told, "the field n is missing or wrong");
-}
-
-#[test]
-fn fields_are_checked(rt: HostRuntime) {
-    check(&rt, rt.alloc(), Table::Fields, HELLO_SESSIONS);
-    check(&rt, rt.alloc(), Table::Fields, OP_SESSIONS);
-    check(&rt, rt.alloc(), Table::Fields, BYE_SESSIONS);
-    check(&rt, rt.alloc(), Table::Fields, NUMBERS);
 }
 
 fn q_of(rt: &impl Abort, alloc: Global, text: &str) -> Option<Number> {
@@ -419,16 +366,11 @@ fn messages_are_numbered(rt: HostRuntime) {
     );
 }
 
-const LONGEST: &str = r#"1048576+ => {"m":"hello","s":["a",1,1]}"#;
+const LONGEST: &str = r#"the longest:
+1048576+ => {"m":"hello","s":["a",1,1]}"#;
 
-const TOO_LONG: &str = "1048576+x => 3 TooLong TooLong";
-
-#[test]
-fn long_texts_are_refused_first(rt: HostRuntime) {
-    assert_eq!(rt; MAX_TEXT_BYTES, 1048576);
-    check(&rt, rt.alloc(), Table::Filled, LONGEST);
-    check(&rt, rt.alloc(), Table::RefusedFilled, TOO_LONG);
-}
+const TOO_LONG: &str = "too long:
+1048576+x => 3 TooLong TooLong";
 
 // ---- messages to clients
 
@@ -451,11 +393,7 @@ fn read_text(rt: &impl Abort, alloc: Global, text: &str) -> String {
 
 // The text that the message to a client of a text is printed as, or `same`.
 fn read_answer(rt: &impl Abort, alloc: Global, text: &str) -> String {
-    let said = read_text(rt, alloc, text);
-    if said.as_str() == text {
-        return String::from_str(alloc, "same").expect(rt, "memory");
-    }
-    said
+    or_same(rt, alloc, read_text(rt, alloc, text), text)
 }
 
 // Why the text is refused as a message to a client.
@@ -464,7 +402,8 @@ fn unread_answer(rt: &impl Abort, alloc: Global, text: &str) -> String {
     format!(in alloc; "{fault:?}").expect(rt, "memory")
 }
 
-const READ: &str = r#"{"m":"welcome","ops":0,"s":["alice",1,1],"z":1} => same
+const READ: &str = r#"messages to clients:
+{"m":"welcome","ops":0,"s":["alice",1,1],"z":1} => same
 {"done":5,"m":"reply","n":1,"out":"wrote","q":2,"r":2,"s":["alice",1,1],"z":5} => same
 {"done":7,"m":"reply","n":1,"out":{"stale":1},"q":2,"r":3,"s":["bob",1,1],"z":7} => same
 {"m":"gone","r":3,"s":["alice",1,1],"why":"lost","z":6} => same
@@ -481,7 +420,8 @@ const READ: &str = r#"{"m":"welcome","ops":0,"s":["alice",1,1],"z":1} => same
 {"code":2,"last":[1,1],"m":"fault","s":["alice",1,1]} => same
 {"code":1,"m":"fault","s":null} => same"#;
 
-const UNREAD: &str = r#" => NotJson
+const UNREAD: &str = r#"refused by clients:
+ => NotJson
 [] => NoSuchMessage
 {} => NoSuchMessage
 {"m":"hi"} => NoSuchMessage
@@ -499,7 +439,26 @@ const UNREAD: &str = r#" => NotJson
 {"m":"snap","path":"/a","q":1,"r":1,"s":["bob",1,1],"value":1.5,"z":3} => Field(Value)"#;
 
 #[test]
-fn messages_to_clients_are_read_and_printed(rt: HostRuntime) {
-    check(&rt, rt.alloc(), Table::Read, READ);
-    check(&rt, rt.alloc(), Table::Unread, UNREAD);
+fn cases_have_their_answers(rt: HostRuntime) {
+    let tables = [
+        IDS,
+        SESSIONS,
+        MESSAGES,
+        WRITES,
+        LEFT,
+        LONGEST,
+        REFUSALS,
+        REFUSED_WRITES,
+        REFUSED_LEFT,
+        TOO_LONG,
+        FIELDS,
+        READ,
+        UNREAD,
+    ];
+    check_tables(
+        &rt,
+        &tables,
+        |heading, case| answer(&rt, rt.alloc(), heading, case),
+    );
+    assert_eq!(rt; MAX_TEXT_BYTES, 1048576);
 }

@@ -4,7 +4,7 @@
 ghost use Rattle.pres_write.specs.Basics.{Apart};
 ghost use Rattle.pres_write.specs.Outcomes.{writes_in};
 
-use crate::said::{expect_said, expect_text, json_text};
+use crate::said::{check_tables, expect_text, json_text};
 use pres_tree::{Path, Scalar, Tree, TreeFault, TreeJson, to_value};
 use pres_write::{
     Basic, Draft, DraftJson, DraftLeaf, DraftLeafForm, Items, Kept, Moment, Op, OpJson, Outcome,
@@ -15,21 +15,6 @@ use serde_json::Value;
 use std::alloc::Global;
 use std::process::Abort;
 use std::test::Fail;
-
-// What a line of a table is about.
-#[derive(Clone, Copy)]
-enum Table {
-    Trees,
-    Faults,
-    Depths,
-    Places,
-    Names,
-    Compares,
-    Writes,
-    Sets,
-    Txs,
-    Puts,
-}
 
 fn printed(rt: &impl Abort, alloc: Global, tree: Tree) -> String {
     let value = tree.to_value(alloc);
@@ -203,7 +188,8 @@ fn set_below(rt: &impl Abort, alloc: Global, case: &str) -> String {
 }
 
 // An update of this many places.
-fn update_of(rt: &impl Abort, alloc: Global, places: usize) -> String {
+fn update_of(rt: &impl Abort, alloc: Global, case: &str) -> String {
+    let places: usize = case.parse().expect(rt, "a number");
     let text = String::from_str(alloc, r#"{"op":"update","path":"/","values":{"p":1"#);
     let mut text = text.expect(rt, "memory");
     for place in 1..places {
@@ -391,34 +377,25 @@ fn put_by(rt: &impl Abort, alloc: Global, text: &str) -> String {
     }
 }
 
-fn answer(rt: &impl Abort, alloc: Global, table: Table, case: &str) -> String {
-    match table {
-        Table::Trees => left_and_printed(rt, alloc, case),
-        Table::Faults => refused(rt, alloc, case),
-        Table::Depths => number_text(rt, alloc, set_below(rt, alloc, case).as_str()),
-        Table::Places => number_text(
-            rt,
-            alloc,
-            update_of(rt, alloc, case.parse().expect(rt, "a number")).as_str(),
-        ),
-        Table::Names => number_text(rt, alloc, update_below(rt, alloc, case).as_str()),
-        Table::Compares => held(rt, alloc, case),
-        Table::Writes => write_of(rt, alloc, case),
-        Table::Sets => set_form(rt, alloc, case),
-        Table::Txs => tx_form(rt, alloc, case),
-        Table::Puts => put_by(rt, alloc, case),
+// What a case answers in a table with this heading.
+fn answer(rt: &impl Abort, alloc: Global, heading: &str, case: &str) -> String {
+    match heading {
+        "trees" => left_and_printed(rt, alloc, case),
+        "refusals" => refused(rt, alloc, case),
+        "depths" => number_text(rt, alloc, set_below(rt, alloc, case).as_str()),
+        "places" => number_text(rt, alloc, update_of(rt, alloc, case).as_str()),
+        "names" => number_text(rt, alloc, update_below(rt, alloc, case).as_str()),
+        "expected values" => held(rt, alloc, case),
+        "writes" => write_of(rt, alloc, case),
+        "sets" => set_form(rt, alloc, case),
+        "transactions" => tx_form(rt, alloc, case),
+        "puts" => put_by(rt, alloc, case),
+        _ => panic!(rt; "no heading"),
     }
 }
 
-// Each line has to answer what it says.
-fn check(rt: &impl Abort, alloc: Global, table: Table, lines: &str) {
-    for line in lines.lines() {
-        let (case, wanted) = line.split_once(" => ").expect(rt, "an answer");
-        expect_said(rt, case, answer(rt, alloc, table, case), wanted);
-    }
-}
-
-const REFUSED: &str = r#"{"op":"remove"} => 11 Shape
+const REFUSED: &str = r#"refusals:
+{"op":"remove"} => 11 Shape
 {"op":"set","path":"/a"} => 11 Shape
 {"op":"update","path":"/a","value":{}} => 11 Shape
 {"op":"update","path":"/a","values":[]} => 11 Shape
@@ -440,24 +417,27 @@ const REFUSED: &str = r#"{"op":"remove"} => 11 Shape
 {"op":"set","path":"/a","value":1.0} => 6 NotWhole
 {"op":"set","path":"/a","value":1e2} => 6 NotWhole"#;
 
-const DEPTHS: &str = r#"31 {"x":1} => 0
+const DEPTHS: &str = r#"depths:
+31 {"x":1} => 0
 31 {"x":{"y":1}} => 5
 31 {"x":{"y":{".sv":"timestamp"}}} => 5
 32 1 => 0
 33 1 => 5
 33 null => 5"#;
 
-const NAMES: &str = r#"x 1 => 0
+const NAMES: &str = r#"names:
+x 1 => 0
 x {"y":1} => 5
 x/y null => 5"#;
 
-const COMPARES: &str = r#"[1,null,{"a":"x"}] => none
+const COMPARES: &str = r#"expected values:
+[1,null,{"a":"x"}] => none
 {"2":{"a":"x","b":{}},"0":1} => none
 null => {"0":1,"2":{"a":"x"}}
 [1,null,{"a":"y"}] => {"0":1,"2":{"a":"x"}}"#;
 
-const TREES: &str =
-    r#"{"op":"set","path":"/v","value":[1,null,2]} => {"v":{"0":1,"2":2}} by {"op":"set","path":"/v","value":{"0":1,"2":2}}
+const TREES: &str = r#"trees:
+{"op":"set","path":"/v","value":[1,null,2]} => {"v":{"0":1,"2":2}} by {"op":"set","path":"/v","value":{"0":1,"2":2}}
 {"op":"set","path":"/t","value":{".sv":"timestamp"}} => {"t":5} by {"op":"set","path":"/t","value":{".sv":"timestamp"}}
 {"op":"set","path":"a//b/","value":{"c":[],"d":true}} => {"a":{"b":{"d":true}}} by {"op":"set","path":"/a/b","value":{"d":true}}
 {"op":"set","path":"/","value":9223372036854775807} => 9223372036854775807 by {"op":"set","path":"/","value":9223372036854775807}
@@ -469,49 +449,19 @@ const TREES: &str =
 {"op":"update","path":"/","values":{}} => null by {"op":"update","path":"/","values":{}}
 {"expect":[null,{}],"op":"tx","path":"/n","value":{"a":2}} => {"n":{"a":2}} by {"expect":null,"op":"tx","path":"/n","value":{"a":2}}"#;
 
-#[test]
-fn operations_leave_trees(rt: HostRuntime) {
-    check(&rt, rt.alloc(), Table::Trees, TREES);
-}
-
-#[test]
-fn operations_are_refused(rt: HostRuntime) {
-    check(&rt, rt.alloc(), Table::Faults, REFUSED);
-}
-
-#[test]
-fn places_have_at_most_32_keys(rt: HostRuntime) {
-    check(&rt, rt.alloc(), Table::Depths, DEPTHS);
-}
-
-#[test]
-fn updates_have_at_most_256_places(rt: HostRuntime) {
-    check(&rt, rt.alloc(), Table::Places, "256 => 0\n257 => 10");
-    check(&rt, rt.alloc(), Table::Names, NAMES);
-}
-
-#[test]
-fn transactions_compare_whole_values(rt: HostRuntime) {
-    check(&rt, rt.alloc(), Table::Compares, COMPARES);
-}
-
-const WRITES: &str = r#"/a/b {"c":[1]} => /a/b {"c":{"0":1}}
+const WRITES: &str = r#"writes:
+/a/b {"c":[1]} => /a/b {"c":{"0":1}}
 /a {"b":{}} => /a none
 /k/k/k/k/k/k/k/k/k/k/k/k/k/k/k/k/k/k/k/k/k/k/k/k/k/k/k/k/k/k/k/k {"x":1} => TooDeep"#;
 
-const SETS: &str =
-    r#"/a {".sv":"timestamp"} => {"op":"set","path":"/a","value":{".sv":"timestamp"}}"#;
+const SETS: &str = r#"sets:
+/a {".sv":"timestamp"} => {"op":"set","path":"/a","value":{".sv":"timestamp"}}"#;
 
-const TXS: &str = r#"/a 2 => {"expect":1,"op":"tx","path":"/a","value":2}"#;
+const TXS: &str = r#"transactions:
+/a 2 => {"expect":1,"op":"tx","path":"/a","value":2}"#;
 
-#[test]
-fn writes_and_operations_are_made(rt: HostRuntime) {
-    check(&rt, rt.alloc(), Table::Writes, WRITES);
-    check(&rt, rt.alloc(), Table::Sets, SETS);
-    check(&rt, rt.alloc(), Table::Txs, TXS);
-}
-
-const PUTS: &str = r#"{"op":"set","path":"/a","value":{"b":1}} => puts /a {"b":1}
+const PUTS: &str = r#"puts:
+{"op":"set","path":"/a","value":{"b":1}} => puts /a {"b":1}
 {"op":"remove","path":"/a"} => puts /a null
 {"op":"update","path":"/u","values":{"z":2,"a/b":1}} => puts /u/a/b 1 /u/z 2
 {"op":"set","path":"/t","value":{".sv":"timestamp"}} => puts /t {".sv":"timestamp"}
@@ -519,10 +469,9 @@ const PUTS: &str = r#"{"op":"set","path":"/a","value":{"b":1}} => puts /a {"b":1
 {"expect":0,"op":"tx","path":"/n","value":1} => transaction
 {"op":"tx","path":"/a.b"} => transaction"#;
 
-#[test]
-fn operations_put_drafts(rt: HostRuntime) {
-    check(&rt, rt.alloc(), Table::Puts, PUTS);
-}
+const PLACES: &str = "places:
+256 => 0
+257 => 10";
 
 #[test]
 fn moments_are_compared_and_printed(rt: HostRuntime) {
@@ -532,4 +481,16 @@ fn moments_are_compared_and_printed(rt: HostRuntime) {
     assert_eq!(rt; late.millis(), 7);
     let said = format!(in rt.alloc(); "{early} {}", Moment::at(u64::MAX));
     expect_text(&rt, said.expect(&rt, "memory"), "5 9007199254740991");
+}
+
+#[test]
+fn cases_have_their_answers(rt: HostRuntime) {
+    let tables = [
+        TREES, REFUSED, DEPTHS, PLACES, NAMES, COMPARES, WRITES, SETS, TXS, PUTS,
+    ];
+    check_tables(
+        &rt,
+        &tables,
+        |heading, case| answer(&rt, rt.alloc(), heading, case),
+    );
 }

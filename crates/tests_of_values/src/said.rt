@@ -1,12 +1,21 @@
-//! What is said, and what it must be.
+//! What is said and what it must be, and tables of cases.
 
 use serde_json::Value;
 use std::alloc::Global;
 use std::process::Abort;
 
-/// The text that a case came to has to be this one.
-pub(crate) fn expect_said(rt: &impl Abort, case: &str, said: String, wanted: &str) {
-    assert_eq!(rt; said.as_str(), wanted, "at {case}");
+/// Each table is a heading and lines of cases, each with its answer after ` => `.
+pub(crate) fn check_tables<F: Fn(&str, &str) -> String>(rt: &impl Abort, tables: &[&str], answer: F)
+    requires { F.IsAlwaysCallable answer }
+{
+    for table in tables {
+        let (heading, lines) = table.split_once(":\n").expect(rt, "a heading");
+        for line in lines.lines() {
+            let (case, wanted) = line.split_once(" => ").expect(rt, "an answer");
+            let said = answer(heading, case);
+            assert_eq!(rt; said.as_str(), wanted, "{heading}, at {case}");
+        }
+    }
 }
 
 /// The text has to be this one.

@@ -3,7 +3,7 @@
 
 ghost use Rattle.pres_tree.specs.Rows.{Fits};
 
-use crate::said::{expect_said, expect_text, json_text};
+use crate::said::{check_tables, expect_text, json_text};
 use pres_tree::{
     Key, MAX_DEPTH, Path, Scalar, ScalarForm, Text, Tree, TreeFault, TreeJson, from_value_below,
 };
@@ -11,21 +11,6 @@ use serde_json::Value;
 use std::alloc::Global;
 use std::cmp::Ordering;
 use std::process::Abort;
-
-// What a line of a table is about.
-#[derive(Clone, Copy)]
-enum Table {
-    Keys,
-    Paths,
-    LongPaths,
-    Pairs,
-    LongPairs,
-    Values,
-    Nested,
-    Writes,
-    Numbers,
-    Texts,
-}
 
 fn refusal(rt: &impl Abort, alloc: Global, fault: TreeFault) -> String {
     format!(in alloc; "{} {}", fault.number(), fault.name()).expect(rt, "memory")
@@ -322,34 +307,30 @@ fn numbers_answer(rt: &impl Abort, alloc: Global, case: &str) -> String {
     copied_value(rt, alloc, tree)
 }
 
-fn answer(rt: &impl Abort, alloc: Global, table: Table, case: &str) -> String {
-    match table {
-        Table::Keys => key_answer(rt, alloc, case),
-        Table::Paths => path_answer(rt, alloc, case),
-        Table::LongPaths => long_path_answer(rt, alloc, case),
-        Table::Pairs => pair_answer(rt, alloc, case),
-        Table::LongPairs => long_pair_answer(rt, alloc, case),
-        Table::Values => value_answer(rt, alloc, case),
-        Table::Nested => nested_answer(rt, alloc, case),
-        Table::Writes => left_answer(rt, alloc, case),
-        Table::Numbers => numbers_answer(rt, alloc, case),
-        Table::Texts => texts_answer(rt, alloc, case),
+// What a case answers in a table with this heading.
+fn answer(rt: &impl Abort, alloc: Global, heading: &str, case: &str) -> String {
+    match heading {
+        "keys" => key_answer(rt, alloc, case),
+        "paths" => path_answer(rt, alloc, case),
+        "long paths" => long_path_answer(rt, alloc, case),
+        "texts" => texts_answer(rt, alloc, case),
+        "pairs of paths" => pair_answer(rt, alloc, case),
+        "pairs of long paths" => long_pair_answer(rt, alloc, case),
+        "values" => value_answer(rt, alloc, case),
+        "nested values" => nested_answer(rt, alloc, case),
+        "numbers" => numbers_answer(rt, alloc, case),
+        "writes" => left_answer(rt, alloc, case),
+        _ => panic!(rt; "no heading"),
     }
 }
 
-// Each line has to answer what it says.
-fn check(rt: &impl Abort, alloc: Global, table: Table, lines: &str) {
-    for line in lines.lines() {
-        let (case, wanted) = line.split_once(" => ").expect(rt, "an answer");
-        expect_said(rt, case, answer(rt, alloc, table, case), wanted);
-    }
-}
-
-const KEYS: &str = " => 2 EmptyKey
+const KEYS: &str = "keys:
+ => 2 EmptyKey
 a b => a b
 a/b => 4 BadKey";
 
-const PATHS: &str = "a//b/ => /a/b
+const PATHS: &str = "paths:
+a//b/ => /a/b
  => /
 / => /
 /a.b => 4 BadKey
@@ -357,18 +338,21 @@ const PATHS: &str = "a//b/ => /a/b
 x/\u{7f} => 4 BadKey
 /ключ/é => /ключ/é";
 
-const LONG_PATHS: &str = "768 k+ => 769 bytes
+const LONG_PATHS: &str = "long paths:
+768 k+ => 769 bytes
 769 k+ => 3 LongKey
 32 /a+ => same
 33 /a+ => 5 TooDeep
 33 /a+/[ => 4 BadKey";
 
-const PAIRS: &str = "/a /a/b => above, /a/a/b a/a/b 3 false, /b b 1 false
+const PAIRS: &str = "pairs of paths:
+/a /a/b => above, /a/a/b a/a/b 3 false, /b b 1 false
 /a/b /a => below, /a/b/a a/b/a 3 false, none
 /a-b /a/b => after, /a-b/a/b a-b/a/b 3 false, none
 / / => same, /  0 true, /  0 true";
 
-const VALUES: &str = r#"[1,null,2] => {"0":1,"2":2}
+const VALUES: &str = r#"values:
+[1,null,2] => {"0":1,"2":2}
 {"a":{},"b":[null,{"c":null}]} => null
 {"b":true,"a":"x"} => {"a":"x","b":true}
 9223372036854775807 => 9223372036854775807
@@ -384,55 +368,23 @@ const VALUES: &str = r#"[1,null,2] => {"0":1,"2":2}
 [1,2,1.5,3,4,5,6,7,8,9,18446744073709551615] => 7 Range"#;
 
 // Of 16 and of 17 bytes too: a text keeps up to 16 in itself.
-const TEXTS: &str = "a-b a/b => a-b a/b true true a-b
+const TEXTS: &str = "texts:
+a-b a/b => a-b a/b true true a-b
 0123456789abcdef 0123456789abcdefg => 0123456789abcdef 0123456789abcdefg true true 0123456789abcdef
 0123456789abcdefg 0123456789abcdef => 0123456789abcdefg 0123456789abcdef false true 0123456789abcdefg
 0123456789abcdefg 0123456789abcdefg => 0123456789abcdefg 0123456789abcdefg false false 0123456789abcdefg";
 
-const WRITES: &str = r#"/a 1;/a/b null => {"a":1} 1 object 1 1
+const WRITES: &str = r#"writes:
+/a 1;/a/b null => {"a":1} 1 object 1 1
 /a 1;/a/b null;/a/b true => {"a":{"b":true}} 2 object object {"b":true}
 /a 1;/a/b null;/a/b true;/a/b {} => null 0 nothing nothing null"#;
 
-const NUMBERS: &str =
-    r#"12 => {"0":0,"1":1,"10":100,"2":2,"3":3,"4":4,"5":5,"6":6,"7":7,"8":8,"9":9}
+const NUMBERS: &str = r#"numbers:
+12 => {"0":0,"1":1,"10":100,"2":2,"3":3,"4":4,"5":5,"6":6,"7":7,"8":8,"9":9}
 33 => {"0":0,"1":1,"10":100,"12":12,"13":13,"14":14,"15":15,"16":16,"17":17,"18":18,"19":19,"2":2,"20":20,"21":21,"22":22,"23":23,"24":24,"25":25,"26":26,"27":27,"28":28,"29":29,"3":3,"30":30,"31":31,"32":32,"4":4,"5":5,"6":6,"7":7,"8":8,"9":9}"#;
 
-#[test]
-fn small_and_large_objects(rt: HostRuntime) {
-    check(&rt, rt.alloc(), Table::Numbers, NUMBERS);
-}
-
-#[test]
-fn texts_are_compared_by_their_bytes(rt: HostRuntime) {
-    check(&rt, rt.alloc(), Table::Texts, TEXTS);
-}
-
-#[test]
-fn key_texts(rt: HostRuntime) {
-    check(&rt, rt.alloc(), Table::Keys, KEYS);
-}
-
-#[test]
-fn path_texts(rt: HostRuntime) {
-    check(&rt, rt.alloc(), Table::Paths, PATHS);
-}
-
-#[test]
-fn keys_have_at_most_768_bytes_and_paths_32_keys(rt: HostRuntime) {
-    assert_eq!(rt; MAX_DEPTH, 32);
-    check(&rt, rt.alloc(), Table::LongPaths, LONG_PATHS);
-}
-
-#[test]
-fn paths_of_parts(rt: HostRuntime) {
-    check(&rt, rt.alloc(), Table::Pairs, PAIRS);
-    check(
-        &rt,
-        rt.alloc(),
-        Table::LongPairs,
-        "32 /a+ => below, 5 TooDeep, none",
-    );
-}
+const LONG_PAIRS: &str = "pairs of long paths:
+32 /a+ => below, 5 TooDeep, none";
 
 #[test]
 fn paths_above_a_path(rt: HostRuntime) {
@@ -441,28 +393,25 @@ fn paths_above_a_path(rt: HostRuntime) {
     }
 }
 
-#[test]
-fn values_of_json(rt: HostRuntime) {
-    check(&rt, rt.alloc(), Table::Values, VALUES);
-}
-
-#[test]
-fn scalars_stand_below_at_most_32_keys(rt: HostRuntime) {
-    check(
-        &rt,
-        rt.alloc(),
-        Table::Nested,
-        "33 null => null\n33 1 => 5 TooDeep",
-    );
-}
-
-#[test]
-fn writes_change_the_tree(rt: HostRuntime) {
-    check(&rt, rt.alloc(), Table::Writes, WRITES);
-}
+const NESTED: &str = "nested values:
+33 null => null
+33 1 => 5 TooDeep";
 
 #[test]
 fn scalars_are_trees(rt: HostRuntime) {
     let said = printed(&rt, rt.alloc(), &Tree::scalar(Scalar::Bool(true)));
     expect_text(&rt, said, "true");
+}
+
+#[test]
+fn cases_have_their_answers(rt: HostRuntime) {
+    let tables = [
+        KEYS, PATHS, LONG_PATHS, TEXTS, PAIRS, LONG_PAIRS, VALUES, NESTED, NUMBERS, WRITES,
+    ];
+    check_tables(
+        &rt,
+        &tables,
+        |heading, case| answer(&rt, rt.alloc(), heading, case),
+    );
+    assert_eq!(rt; MAX_DEPTH, 32);
 }

@@ -62,24 +62,25 @@ fn check_refused(rt: &impl Abort, alloc: Global, input: &str, output: &str) {
 
 #[test]
 fn answers_inputs(rt: HostRuntime) {
-    let alloc = rt.alloc();
-    check_taken(&rt, alloc, "", "tree null\n");
-    check_taken(&rt, alloc, "\n\n", "tree null\n");
-    check_taken(&rt, alloc, WORKED, "1 wrote\n2 wrote\n3 wrote\ntree null\n");
-    check_taken(
-        &rt,
-        alloc,
-        UNENDED,
-        "1 wrote\n2 wrote\ntree {\"a\":{\"b\":2}}\n",
-    );
-    check_taken(&rt, alloc, TIMES, "1 wrote\n2 wrote\ntree {\"t\":5}\n");
-    check_taken(&rt, alloc, NULLS, "1 wrote\n2 wrote\ntree null\n");
-    check_taken(
-        &rt,
-        alloc,
-        STALE,
-        "1 wrote\n2 stale 1\n3 stale null\ntree {\"n\":1}\n",
-    );
+    for (input, output) in [
+        ("", "tree null\n"),
+        ("\n\n", "tree null\n"),
+        (WORKED, "1 wrote\n2 wrote\n3 wrote\ntree null\n"),
+        (UNENDED, "1 wrote\n2 wrote\ntree {\"a\":{\"b\":2}}\n"),
+        (TIMES, "1 wrote\n2 wrote\ntree {\"t\":5}\n"),
+        (NULLS, "1 wrote\n2 wrote\ntree null\n"),
+        (STALE, "1 wrote\n2 stale 1\n3 stale null\ntree {\"n\":1}\n"),
+        (
+            r#"{"now":1,"op":"set","path":"/v","value":[1,null,2]}"#,
+            "1 wrote\ntree {\"v\":{\"0\":1,\"2\":2}}\n",
+        ),
+        (
+            r#"{"now":9007199254740991,"op":"remove","path":"/"}"#,
+            "1 wrote\ntree null\n",
+        ),
+    ] {
+        check_taken(&rt, rt.alloc(), input, output);
+    }
 }
 
 #[test]
@@ -91,23 +92,6 @@ fn goes_on_behind_a_line_that_is_refused(rt: HostRuntime) {
     check_refused(&rt, alloc, OVERLAP, overlap);
 }
 
-#[test]
-fn takes_lines(rt: HostRuntime) {
-    let alloc = rt.alloc();
-    check_taken(
-        &rt,
-        alloc,
-        r#"{"now":1,"op":"set","path":"/v","value":[1,null,2]}"#,
-        "1 wrote\ntree {\"v\":{\"0\":1,\"2\":2}}\n",
-    );
-    check_taken(
-        &rt,
-        alloc,
-        r#"{"now":9007199254740991,"op":"remove","path":"/"}"#,
-        "1 wrote\ntree null\n",
-    );
-}
-
 // The line is refused with the fault.
 fn check_fault(rt: &impl Abort, alloc: Global, line: &[u8], fault: &str) {
     let output = format!(in alloc; "refused {fault}\ntree null\n").expect(rt, "memory");
@@ -116,60 +100,35 @@ fn check_fault(rt: &impl Abort, alloc: Global, line: &[u8], fault: &str) {
 
 #[test]
 fn refuses_lines(rt: HostRuntime) {
-    let alloc = rt.alloc();
-    check_fault(
-        &rt,
-        alloc,
-        br#"{"now":9007199254740992,"op":"remove","path":"/"}"#,
-        "13 NoMoment",
-    );
-    check_fault(
-        &rt,
-        alloc,
-        br#"{"now":-1,"op":"remove","path":"/"}"#,
-        "13 NoMoment",
-    );
-    check_fault(
-        &rt,
-        alloc,
-        br#"{"now":1.0,"op":"remove","path":"/"}"#,
-        "13 NoMoment",
-    );
-    check_fault(&rt, alloc, br#"{"op":"remove","path":"/"}"#, "13 NoMoment");
-    check_fault(&rt, alloc, br#"[1]"#, "13 NoMoment");
-    check_fault(&rt, alloc, br#"{"now":"#, "12 NotJson");
-    check_fault(&rt, alloc, b"\r", "12 NotJson");
-    check_fault(
-        &rt,
-        alloc,
-        br#"{"now":1,"op":"move","path":"/"}"#,
-        "11 Shape",
-    );
-    check_fault(
-        &rt,
-        alloc,
-        br#"{"now":1,"op":"set","path":"/"}"#,
-        "11 Shape",
-    );
-    check_fault(
-        &rt,
-        alloc,
-        br#"{"now":1,"op":"set","path":"/","value":9223372036854775808}"#,
-        "7 Range",
-    );
-    check_fault(
-        &rt,
-        alloc,
-        br#"{"now":1,"op":"set","path":"/","value":1.0}"#,
-        "6 NotWhole",
-    );
-    check_fault(
-        &rt,
-        alloc,
-        br#"{"now":1,"op":"set","path":"/a.b","value":1}"#,
-        "4 BadKey",
-    );
-    check_fault(&rt, alloc, b"\"\xff\"\n", "12 NotJson");
+    for (line, fault) in [
+        (
+            r#"{"now":9007199254740992,"op":"remove","path":"/"}"#,
+            "13 NoMoment",
+        ),
+        (r#"{"now":-1,"op":"remove","path":"/"}"#, "13 NoMoment"),
+        (r#"{"now":1.0,"op":"remove","path":"/"}"#, "13 NoMoment"),
+        (r#"{"op":"remove","path":"/"}"#, "13 NoMoment"),
+        (r#"[1]"#, "13 NoMoment"),
+        (r#"{"now":"#, "12 NotJson"),
+        ("\r", "12 NotJson"),
+        (r#"{"now":1,"op":"move","path":"/"}"#, "11 Shape"),
+        (r#"{"now":1,"op":"set","path":"/"}"#, "11 Shape"),
+        (
+            r#"{"now":1,"op":"set","path":"/","value":9223372036854775808}"#,
+            "7 Range",
+        ),
+        (
+            r#"{"now":1,"op":"set","path":"/","value":1.0}"#,
+            "6 NotWhole",
+        ),
+        (
+            r#"{"now":1,"op":"set","path":"/a.b","value":1}"#,
+            "4 BadKey",
+        ),
+    ] {
+        check_fault(&rt, rt.alloc(), line.as_bytes(), fault);
+    }
+    check_fault(&rt, rt.alloc(), b"\"\xff\"\n", "12 NotJson");
 }
 
 // A `set` of null at the path of this many parts, with spaces after it up to this many bytes.
