@@ -103,25 +103,24 @@ fn check<
 
 #[test]
 fn reads_its_words(rt: HostRuntime) {
-    check(&rt, &rt, "presence", 2);
-    check(&rt, &rt, "presence nosuch", 2);
-    check(&rt, &rt, "presence apply x", 2);
-    check(&rt, &rt, "presence serve 127.0.0.1:1", 2);
-    check(&rt, &rt, "presence serve 127.0.0.1:1 f --connections 0", 2);
-    check(
-        &rt,
-        &rt,
-        "presence serve 127.0.0.1:1 f --connections 1025",
-        2,
-    );
-    check(&rt, &rt, "presence serve 127.0.0.1:1 /no/such/folder/f", 3);
-    check(&rt, &rt, "presence client 127.0.0.1:1 alice", 2);
-    check(&rt, &rt, "presence client 127.0.0.1:1 alice 0", 2);
-    check(&rt, &rt, "presence client 127.0.0.1:1 a! 1", 2);
-    check(&rt, &rt, "presence client 127.0.0.1:1 alice 1", 4);
-    check(&rt, &rt, "presence --help", 0);
-    check(&rt, &rt, "presence --version", 0);
-    check(&rt, &rt, "presence apply", 0);
+    for (words, status) in [
+        ("presence", 2),
+        ("presence nosuch", 2),
+        ("presence apply x", 2),
+        ("presence serve 127.0.0.1:1", 2),
+        ("presence serve 127.0.0.1:1 f --connections 0", 2),
+        ("presence serve 127.0.0.1:1 f --connections 1025", 2),
+        ("presence serve 127.0.0.1:1 /no/such/folder/f", 3),
+        ("presence client 127.0.0.1:1 alice", 2),
+        ("presence client 127.0.0.1:1 alice 0", 2),
+        ("presence client 127.0.0.1:1 a! 1", 2),
+        ("presence client 127.0.0.1:1 alice 1", 4),
+        ("presence --help", 0),
+        ("presence --version", 0),
+        ("presence apply", 0),
+    ] {
+        check(&rt, &rt, words, status);
+    }
 }
 
 // A help that can't be written.

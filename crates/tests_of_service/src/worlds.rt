@@ -726,24 +726,26 @@ fn check_told(rt: &impl Abort, alloc: Global, script: &str) {
 
 #[test]
 fn clients_and_a_server_get_on(rt: HostRuntime) {
-    let alloc = rt.alloc();
-    check_told(&rt, alloc, LEFT);
-    check_told(&rt, alloc, RESTARTED);
-    check_told(&rt, alloc, LOST_ANSWER);
-    check_told(&rt, alloc, LATE);
-    check_told(&rt, alloc, OLD);
-    check_told(&rt, alloc, AGAIN);
-    check_told(&rt, alloc, VIEW_ANEW);
-    check_told(&rt, alloc, UPDATES);
-    check_told(&rt, alloc, IN_ORDER);
+    for script in [
+        LEFT,
+        RESTARTED,
+        LOST_ANSWER,
+        LATE,
+        OLD,
+        AGAIN,
+        VIEW_ANEW,
+        UPDATES,
+        IN_ORDER,
+    ] {
+        check_told(&rt, rt.alloc(), script);
+    }
 }
 
 #[test]
 fn sessions_come_and_go(rt: HostRuntime) {
-    let alloc = rt.alloc();
-    check_whole(&rt, alloc, BEFORE_ONLINE);
-    check_whole(&rt, alloc, OLD_STAMPS);
-    check_parts(&rt, alloc, ACROSS_A_LOSS);
+    check_whole(&rt, rt.alloc(), BEFORE_ONLINE);
+    check_whole(&rt, rt.alloc(), OLD_STAMPS);
+    check_parts(&rt, rt.alloc(), ACROSS_A_LOSS);
 }
 
 #[test]
@@ -753,11 +755,15 @@ fn the_later_of_two_transactions_asks_again(rt: HostRuntime) {
 
 #[test]
 fn scripts_make_what_they_say(rt: HostRuntime) {
-    check(&rt, rt.alloc(), PRESENCE, PRESENCE_MAKES);
-    check(&rt, rt.alloc(), STOPPED, STOPPED_MAKES);
-    check(&rt, rt.alloc(), UNANSWERED, UNANSWERED_MAKES);
-    check(&rt, rt.alloc(), REFUSED, REFUSED_MAKES);
-    check(&rt, rt.alloc(), RESENT, RESENT_MAKES);
+    for (script, makes) in [
+        (PRESENCE, PRESENCE_MAKES),
+        (STOPPED, STOPPED_MAKES),
+        (UNANSWERED, UNANSWERED_MAKES),
+        (REFUSED, REFUSED_MAKES),
+        (RESENT, RESENT_MAKES),
+    ] {
+        check(&rt, rt.alloc(), script, makes);
+    }
 }
 
 #[test]
