@@ -1,8 +1,10 @@
 //! Runs of one core with the places of two clients.
 
 use crate::refusing::Refusing;
-use crate::scene::run;
+use crate::scene::{RunResult, run};
 use pres_hub::MemKeeper;
+use std::alloc::Global;
+use std::process::Abort;
 
 const REFUSED: &str = r#"1000 join alice => 1
 1000 say alice {"m":"op","n":1,"op":{"op":"set","path":"/a","value":1},"q":1,"s":["alice",1,1]} => the database failed
@@ -102,12 +104,24 @@ const MARKED_LOG: &str = r#"[{"e":"open","s":["bob",1,1]}]
 [{"e":"ended","q":null,"rows":[],"s":["bob",1,1],"why":"lost"}]
 "#;
 
+// What a run came to over a new keeper, of which these commits are refused.
+fn refusing(rt: &impl Abort, alloc: Global, commits: &'static [u64], lines: &str) -> RunResult {
+    let (told, keeper) = run(rt, alloc, Refusing::at(alloc, commits), lines);
+    drop(keeper);
+    told
+}
+
+// What a run came to over a new keeper.
+fn kept(rt: &impl Abort, alloc: Global, lines: &str) -> RunResult {
+    let (told, keeper) = run(rt, alloc, MemKeeper::new(alloc), lines);
+    drop(keeper);
+    told
+}
+
 // A refused message is taken when it comes again, and a refused end is carried out by a tick.
 #[test]
 fn refused_commits_leave_the_core(rt: HostRuntime) {
-    let keeper = Refusing::at(rt.alloc(), &[1, 3]);
-    let (told, keeper) = run(&rt, rt.alloc(), keeper, REFUSED);
-    drop(keeper);
+    let told = refusing(&rt, rt.alloc(), &[1, 3], REFUSED);
     told.expect_counts(&rt, (3, 2, 0, Some(2)));
     told.expect_log(&rt, REFUSED_LOG);
 }
@@ -115,31 +129,24 @@ fn refused_commits_leave_the_core(rt: HostRuntime) {
 // Alice comes before Bob.
 #[test]
 fn a_tick_ends_marked_sessions_in_order(rt: HostRuntime) {
-    let keeper = Refusing::at(rt.alloc(), &[2, 3]);
-    let (told, keeper) = run(&rt, rt.alloc(), keeper, MARKED);
-    drop(keeper);
+    let told = refusing(&rt, rt.alloc(), &[2, 3], MARKED);
     told.expect_counts(&rt, (4, 2, 0, Some(2)));
     told.expect_log(&rt, MARKED_LOG);
 }
 
 #[test]
 fn a_tick_ends_who_was_silent_for_a_lease(rt: HostRuntime) {
-    let (told, keeper) = run(&rt, rt.alloc(), MemKeeper::new(rt.alloc()), LEASE);
-    drop(keeper);
-    told.expect_counts(&rt, (2, 1, 0, Some(1)));
+    kept(&rt, rt.alloc(), LEASE).expect_counts(&rt, (2, 1, 0, Some(1)));
 }
 
 #[test]
 fn messages_are_kept_back_in_order(rt: HostRuntime) {
-    let (told, keeper) = run(&rt, rt.alloc(), MemKeeper::new(rt.alloc()), KEPT_BACK);
-    drop(keeper);
-    told.expect_counts(&rt, (2, 1, 0, Some(1)));
+    kept(&rt, rt.alloc(), KEPT_BACK).expect_counts(&rt, (2, 1, 0, Some(1)));
 }
 
 #[test]
 fn a_seat_ahead_of_the_server_is_refused(rt: HostRuntime) {
-    let (told, keeper) = run(&rt, rt.alloc(), MemKeeper::new(rt.alloc()), BEHIND);
-    drop(keeper);
+    let told = kept(&rt, rt.alloc(), BEHIND);
     told.expect_counts(&rt, (6, 4, 0, Some(4)));
     told.expect_tree(&rt, r#"{"a":1,"b":1}"#);
 }
@@ -147,8 +154,7 @@ fn a_seat_ahead_of_the_server_is_refused(rt: HostRuntime) {
 // Who takes nothing is ended in the call that fills the ring, and what was put stays to be taken.
 #[test]
 fn slow_readers_are_ended(rt: HostRuntime) {
-    let (told, keeper) = run(&rt, rt.alloc(), MemKeeper::new(rt.alloc()), SLOW);
-    drop(keeper);
+    let told = kept(&rt, rt.alloc(), SLOW);
     told.expect_counts(&rt, (266, 264, 0, Some(264)));
     told.expect_entry(&rt, 261, SLOW_END);
     told.expect_tree(&rt, r#"{"a":260,"b":true}"#);
@@ -156,9 +162,7 @@ fn slow_readers_are_ended(rt: HostRuntime) {
 
 #[test]
 fn readers_in_time_stay(rt: HostRuntime) {
-    let (told, keeper) = run(&rt, rt.alloc(), MemKeeper::new(rt.alloc()), IN_TIME);
-    drop(keeper);
-    told.expect_counts(&rt, (263, 261, 0, Some(261)));
+    kept(&rt, rt.alloc(), IN_TIME).expect_counts(&rt, (263, 261, 0, Some(261)));
 }
 
 // What was answered stays in the log, and sessions whose ends were refused are ended first.
