@@ -1,7 +1,7 @@
 #!/usr/bin/env python3
 """Lists of calls of listeners, one a line, over which the tree of listeners is compared with a list that is walked.
 
-`python3 bench/listener_lists.py > crates/tests_of_indexes/src/listener_lists.rt` writes the 500 that are kept; the same
+`python3 bench/listener_lists.py > crates/tests_of_indexes/src/tests/listener_lists.rt` writes the 500 that are kept; the same
 seed writes the same. A line is calls, separated by `; `: `on SESSION PATH`, `off SESSION PATH`, `drop SESSION`,
 `w PATH PATH ..` (one write at each path), and `N on SESSION PATH`, which is N calls with the numbers 0 to N - 1 behind
 the path. Each line ends with a write at the root, which touches all who listen.

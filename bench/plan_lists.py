@@ -1,5 +1,5 @@
 #!/usr/bin/env python3
-"""The 500 lists of calls of a plan that `crates/tests_of_indexes/src/plan_lists.rt` stores: prints that file, always the same.
+"""The 500 lists of calls of a plan that `crates/tests_of_indexes/src/tests/plan_lists.rt` stores: prints that file, always the same.
 
 A line is calls, separated by `; `: `p PATH DRAFT`, `u PATH DRAFT, PATH DRAFT, ..` (in path order, apart), `c PATH`, `e TREE` (the
 session ends with the tree), and `N p PATH DRAFT`, where % is each number from 0 to N - 1 in turn. The calls are numbered from 1 on."""

@@ -4,18 +4,4 @@
 #![tactic(auto)]
 
 #[cfg(test)]
-mod list_plan;
-#[cfg(test)]
-mod listener_lists;
-#[cfg(test)]
-mod listener_tables;
-#[cfg(test)]
-mod listeners;
-#[cfg(test)]
-mod plan_lists;
-#[cfg(test)]
-mod plan_tables;
-#[cfg(test)]
-mod plans;
-#[cfg(test)]
-mod texts;
+mod tests;

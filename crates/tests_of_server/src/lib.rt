@@ -5,26 +5,4 @@
 #![tactic(auto)]
 
 #[cfg(test)]
-mod bases;
-#[cfg(test)]
-mod disconnections;
-#[cfg(test)]
-mod exchanges;
-#[cfg(test)]
-mod lines;
-#[cfg(test)]
-mod logs;
-#[cfg(test)]
-mod pushes;
-#[cfg(test)]
-mod replays;
-#[cfg(test)]
-mod said;
-#[cfg(test)]
-mod schedule_lists;
-#[cfg(test)]
-mod schedules;
-#[cfg(test)]
-mod sessions;
-#[cfg(test)]
-mod turns;
+mod tests;

@@ -5,26 +5,4 @@
 #![tactic(auto)]
 
 #[cfg(test)]
-mod board;
-#[cfg(test)]
-mod broken;
-#[cfg(test)]
-mod command;
-#[cfg(test)]
-mod connections;
-#[cfg(test)]
-mod drives;
-#[cfg(test)]
-mod files;
-#[cfg(test)]
-mod halts;
-#[cfg(test)]
-mod script;
-#[cfg(test)]
-mod texts;
-#[cfg(test)]
-mod visits;
-#[cfg(test)]
-mod wakes;
-#[cfg(test)]
-mod worlds;
+mod tests;

@@ -4,16 +4,4 @@
 #![tactic(auto)]
 
 #[cfg(test)]
-mod apply;
-#[cfg(test)]
-mod bodies;
-#[cfg(test)]
-mod false_texts;
-#[cfg(test)]
-mod messages;
-#[cfg(test)]
-mod operations;
-#[cfg(test)]
-mod said;
-#[cfg(test)]
-mod trees;
+mod tests;

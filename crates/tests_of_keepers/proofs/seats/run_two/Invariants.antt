@@ -1,4 +1,0 @@
-use Rattle.tests_of_keepers.proofs.seats.run_two.Given as goal
-
-abbrev pub ghosts-run : goal.ghosts-run
-ghosts-run g a = record { name = a.blank.name; parts = a.blank.parts }

@@ -1,0 +1,10 @@
+use denote.Param.Send.{sendable}
+use Rattle.std.proofs.Crossing.{crosses, send as global_is}
+use Rattle.pres_dispatch.proofs.bells.NoBell.TheSendSync.{the_send as bell_is}
+use Rattle.pres_hub.proofs.Crossing.{hub_sync}
+use Rattle.std.proofs.sync.Barrier.TheSendSync.{the_sync as barrier_is}
+use Rattle.tests_of_keepers.proofs.tests.callers.Caller.TheSendSync.{the_send as caller_is}
+use Rattle.tests_of_keepers.proofs.tests.threads.pair.Goals as goal
+
+pub join-requires-send-F : goal.join-requires-send-F
+join-requires-send-F g c κs within = search (hub_sync, bell_is, global_is, barrier_is, caller_is, crosses, sendable) depth 60 fits 20000

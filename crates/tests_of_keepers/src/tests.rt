@@ -1,0 +1,16 @@
+//! The tests, by what they are about.
+
+mod callers;
+mod gates;
+mod keepers;
+mod refusing;
+mod rows;
+mod runs;
+mod scene;
+mod seats;
+mod slow;
+mod starts;
+mod stops;
+mod threads;
+mod turns;
+mod words;

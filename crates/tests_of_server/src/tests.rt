@@ -1,0 +1,14 @@
+//! The tests, by what they are about.
+
+mod bases;
+mod disconnections;
+mod exchanges;
+mod lines;
+mod logs;
+mod pushes;
+mod replays;
+mod said;
+mod schedule_lists;
+mod schedules;
+mod sessions;
+mod turns;

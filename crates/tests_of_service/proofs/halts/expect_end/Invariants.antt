@@ -1,4 +1,0 @@
-use Rattle.tests_of_service.proofs.halts.expect_end.Given as goal
-
-abbrev pub ghosts-served_with : goal.ghosts-served_with
-ghosts-served_with g a = record { name = a.blank.name; parts = a.blank.parts }
