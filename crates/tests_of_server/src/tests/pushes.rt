@@ -1,6 +1,6 @@
 //! Runs of a server in which sessions listen.
 
-use crate::tests::turns::{check, check_long, check_runs};
+use crate::tests::turns::{check_long, check_runs};
 use std::alloc::Global;
 use std::process::Abort;
 

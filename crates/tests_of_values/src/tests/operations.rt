@@ -14,7 +14,6 @@ use pres_write::{
 use serde_json::Value;
 use std::alloc::Global;
 use std::process::Abort;
-use std::test::Fail;
 
 fn printed(rt: &impl Abort, alloc: Global, tree: Tree) -> String {
     let value = tree.to_value(alloc);
