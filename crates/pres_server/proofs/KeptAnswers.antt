@@ -106,7 +106,7 @@ last_answered e (Some o) last true h = refl
 last_answered e (Some o) last false h = refl
 
 module _ (sum : Sum) (e : Entry) (k : Keeps sum) where
-  mid : OpenSessions
+  abbrev mid : OpenSessions
   mid = (carried e sum).sessions
 
   -- the writes of the entry leave its last stamp
@@ -154,8 +154,11 @@ IsOfOpen sum _ = Unit {0}
 
 -- who had answers, or wrote
 known_before : (sum : Sum) (e : Entry) → Keeps sum → IsOfOpen sum e → (c : ClientId) → IsSome (find client_cmp c (sum_after e sum).rows) → IsSome (part_in sum c).last
-known_before sum (entry.Op s q n op outcome) k o c h = by (same_client s.client c) refl (subst IsSome (find_put s.client _ sum.rows c) h) where
-  by : (b : Bool) → same_client s.client c ≡ b → IsSome (cond b (Some _) (find client_cmp c sum.rows)) → IsSome (part_in sum c).last
+known_before sum (entry.Op s q n op outcome) k o c h = by (same_client s.client c) refl (subst IsSome (find_put s.client more sum.rows c) h) where
+  more : List Row
+  more = rows_of s.client sum.rows ++ row (sum.number + 1) (kept_of outcome) ∷ []
+
+  by : (b : Bool) → same_client s.client c ≡ b → IsSome (cond b (Some more) (find client_cmp c sum.rows)) → IsSome (part_in sum c).last
   by true e r = subst (λ x. IsSome (part_in sum x).last) (client_same s.client c e) (live_last (find client_cmp s.client sum.sessions) (find client_cmp s.client sum.gone) (stamp_of s) o)
   by false e r = k.known c r
 known_before sum (entry.Open s) k o c h = k.known c h

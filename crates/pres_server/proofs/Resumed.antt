@@ -7,7 +7,7 @@ use Rattle.std.specs.Map.{keys_of}
 use Rattle.std.specs.Option.{option_map, option_or}
 use Rattle.std.specs.Ordering.{match_ordering, ordering_reverse}
 use Rattle.std.specs.BTreeSet.{insert_key}
-use Rattle.std.specs.BTreeMap.{BTreeMap, get, Updates}
+use Rattle.std.specs.BTreeMap.{BTreeMap, get, IsOrdered, Updates}
 use Rattle.std.specs.FinMap.Entries.{by_order, find, put}
 use Rattle.std.proofs.lemmas.Bool.{lt-ltb}
 use Rattle.std.proofs.lemmas.List.Elements.{All-nil, All-cons, All-head, All-tail}
@@ -24,17 +24,18 @@ use Rattle.pres_fan.proofs.Orders.{listener_total}
 use Rattle.pres_base.specs.declared.parts.ClientPart.{ClientPart}
 use Rattle.pres_base.specs.declared.parts.SessionPart.{SessionPart}
 use Rattle.pres_base.specs.declared.parts.BaseParts.{BaseParts}
-use Rattle.pres_base.specs.Bases.{IsOpenPart}
+use Rattle.pres_base.specs.Bases.{IsOpenPart, IsBase}
 use Rattle.pres_server.specs.declared.index.Index.{Index}
 use Rattle.pres_server.specs.InternalSessions.{Session, last_stamp}
 use Rattle.pres_server.specs.InternalIndex.{session_at, gone_at}
-use Rattle.pres_server.specs.InternalSums.{open_of, Agrees}
+use Rattle.pres_server.specs.InternalSums.{open_of, sum_in, Agrees}
 use Rattle.pres_server.specs.Sums.{OpenSession}
 use Rattle.pres_server.specs.BaseSums.{open_for, sessions_for, is_gone_for, gone_for, answers_for, listeners_for, sum_for}
 use Rattle.pres_server.specs.InternalBases.{lasts_in, with_answers, reopened, live_in}
 use Rattle.pres_server.proofs.Clients.{client_same, client_sym, clients_total, same_by_cmp}
 use Rattle.pres_server.proofs.Heard.{find_behind, keys_behind}
 use Rattle.pres_server.proofs.Keyed.{at_client, found}
+use Rattle.pres_server.proofs.SumSteps.{sum_is}
 use Rattle.pres_server.proofs.BaseSums as bases
 
 -- ---- a map into which entries are put, one after another
@@ -80,8 +81,8 @@ told_step old new k v es e rest u left key value c = told_next old new k v rest 
 -- the last stamps: those of the open sessions count, where there are any
 pub lasts_told : (live : List (ClientId × Session)) (gone : List (ClientId × Stamp)) → IsStrictlySortedBy client_cmp (keys_of live) → IsStrictlySortedBy client_cmp (keys_of gone) → (c : ClientId)
     → told (map (λ e. (e.0, e.1.stamp)) live) c (told gone c None) ≡ last_stamp (at_client c live) (at_client c gone)
-lasts_told live gone open past c =
-    told_found (map (λ e. (e.0, e.1.stamp)) live) c (told gone c None) (subst (IsStrictlySortedBy client_cmp) (sym (keys_behind (λ _ (session : Session). session.stamp) live)) open)
+lasts_told live gone order past c =
+    told_found (map (λ e. (e.0, e.1.stamp)) live) c (told gone c None) (subst (IsStrictlySortedBy client_cmp) (sym (keys_behind (λ _ (session : Session). session.stamp) live)) order)
     ∙ (λ i. option_or (find_behind (λ _ (session : Session). session.stamp) c live i) ((told_all gone c past ∙ found c gone) i))
     ∙ by (at_client c live) (at_client c gone)
   where
@@ -125,15 +126,16 @@ stranger (p ∷ front) x later h =
 
 pub answers_next : (front : List ClientPart) (x : ClientPart) (later : List ClientPart) → IsStrictlySortedBy client_cmp (map (λ c. c.id) (front ++ x ∷ later)) → with_answers x.id x.rows (answers_for front) ≡ answers_for (front ++ x ∷ [])
 answers_next [] x later h = refl
-answers_next (p ∷ front) x later h = by (nat_lt 0 (length p.rows)) (nat_lt 0 (length x.rows)) ∙ (λ i. cond (nat_lt 0 (length p.rows)) (e ∷ more i) (more i)) where
+answers_next (p ∷ front) x later h = by (nat_lt 0 (length p.rows)) (nat_lt 0 (length x.rows)) ∙ all (answers_next front x later (sorted_tail client_cmp p.id (map (λ c. c.id) (front ++ x ∷ later)) h)) where
   e : ClientId × List Row
   e = (p.id, p.rows)
 
   old : Table
   old = answers_for front
 
-  more : with_answers x.id x.rows old ≡ answers_for (front ++ x ∷ [])
-  more = answers_next front x later (sorted_tail client_cmp p.id (map (λ c. c.id) (front ++ x ∷ later)) h)
+  all : with_answers x.id x.rows old ≡ answers_for (front ++ x ∷ [])
+      → cond (nat_lt 0 (length p.rows)) (e ∷ with_answers x.id x.rows old) (with_answers x.id x.rows old) ≡ cond (nat_lt 0 (length p.rows)) (e ∷ answers_for (front ++ x ∷ [])) (answers_for (front ++ x ∷ []))
+  all more = λ i. cond (nat_lt 0 (length p.rows)) (e ∷ more i) (more i)
 
   by : (b some : Bool) → cond some (put client_cmp x.id x.rows (cond b (e ∷ old) old)) (cond b (e ∷ old) old) ≡ cond b (e ∷ cond some (put client_cmp x.id x.rows old) old) (cond some (put client_cmp x.id x.rows old) old)
   by true true = ap (λ o. by_order o ((x.id, x.rows) ∷ e ∷ old) ((p.id, x.rows) ∷ old) (e ∷ put client_cmp x.id x.rows old)) (ahead p front x later h)
@@ -337,3 +339,10 @@ agrees_base p index live gone retry listeners tree = record {
   by : (b : Bool) (o : Option Stamp) → cond (not b) o None ≡ cond b None o
   by true o = refl
   by false o = refl
+
+-- and its sum is that of the base
+pub sum_of_base : (p : BaseParts) (index : Index) (batches number : ℕ) → batches ≡ p.batches → number ≡ p.number → IsBase p → Agrees index (sum_for p) → IsOrdered client_cmp index.places.live → IsOrdered client_cmp index.places.gone
+    → sum_in batches p.moment number index ≡ sum_for p
+sum_of_base p index batches number b n base a live gone =
+    (λ i. sum_in (b i) p.moment (n i) index)
+    ∙ sum_is p.batches p.moment index (sum_for p) a (bases.base_has_sum p base).keeps live gone

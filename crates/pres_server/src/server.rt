@@ -195,13 +195,14 @@ impl Server {
         let number = parts.number.get();
         let moment = parts.moment;
         let index = Index::of_base(alloc, parts)?;
-        Ok(Server {
+        let server = Server {
             alloc,
             batches,
             number,
             moment,
             index,
-        })
+        };
+        Ok(server)
     }
 
     /// The value at the path, where something stands there.

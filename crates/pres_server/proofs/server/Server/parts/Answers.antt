@@ -32,7 +32,8 @@ returns-clause-parts c =
     let i = c.self.inside in
     let made = c.in_ok-clients.ensures in
     let lasts = made.0 in
-    subst (λ (x : SumState). Made _ x.sum) c.self.view_is (
+    let parts : BaseParts = record { batches = c.count_of-batches.result; moment = i.moment; number = c.count_of-number.result; tree = c.in_ok-tree.tree; clients = c.in_ok-clients.clients; sessions = c.in_ok-sessions.sessions } in
+    subst (λ (x : SumState). Made parts x.sum) c.self.view_is (
       lasts,
       record { ordered = made.1.ordered; found = λ q. made.1.found q ∙ ap (λ (p : Part). p.last) (sym (part_is i.batches i.moment i.number i.index q)) },
       λ j. record {

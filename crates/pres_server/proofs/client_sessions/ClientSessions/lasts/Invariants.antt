@@ -3,7 +3,7 @@ use Rattle.std.proofs.Common.{◌≡◌, map, None}
 use Rattle.std.specs.BTreeMap.{get, IsOrdered}
 use Rattle.pres_ids.specs.Ids.{ClientId, client_cmp}
 use Rattle.pres_server.proofs.Resumed.{told}
-use Rattle.pres_server.proofs.base.ClientSessions.lasts.Given as goal
+use Rattle.pres_server.proofs.client_sessions.ClientSessions.lasts.Given as goal
 
 abbrev pub invariant-loop-client : goal.invariant-loop-client
 invariant-loop-client l = ((c : ClientId) → told l.client-iterator c (get client_cmp l.lasts c) ≡ told l.self.gone.entries c None) × IsOrdered client_cmp l.lasts

@@ -7,7 +7,7 @@ use Rattle.pres_server.specs.Sums.{OpenSession}
 use Rattle.pres_server.specs.InternalSessions.{Session}
 use Rattle.pres_server.specs.InternalSums.{open_of}
 use Rattle.pres_server.specs.InternalBases.{session_part}
-use Rattle.pres_server.proofs.base.Index.session_parts.Goals as goal
+use Rattle.pres_server.proofs.index.Index.session_parts.Goals as goal
 
 abbrev HasPlan : ClientId × OpenSession → Type 0
 HasPlan e = IsPlan e.1.plan
@@ -16,7 +16,12 @@ abbrev as_open : ClientId × Session → ClientId × OpenSession
 as_open e = (e.0, open_of e.1)
 
 pub loop-client-init : goal.loop-client-init
-loop-client-init c = (ap (λ l. l ++ map (session_part c.args.self.now.listeners) (map as_open c.args.self.now.places.live.entries)) c.in_ok-made.ensures.items, λ h. h)
+loop-client-init c =
+    let part = session_part c.args.self.now.listeners in
+    let same = c.into_iter-client-iterator.ensures.into_iter_gives ∙ c.iter-client-items.ensures.rest in (
+      ap (λ l. l ++ map part (map as_open c.into_iter-client-iterator.result)) c.in_ok-made.ensures.items ∙ ap (λ es. map part (map as_open es)) same,
+      λ h. subst (λ es. All HasPlan (map as_open es)) same h,
+    )
 
 pub loop-client-preserved : goal.loop-client-preserved
 loop-client-preserved c =
@@ -37,7 +42,7 @@ pub returns-clause-parts : goal.returns-clause-parts
 returns-clause-parts c =
     let part = session_part c.args.self.now.listeners in
     let made = c.loop-client.made.items in
-    c.of.ensures ∙ sym (append-nil made) ∙ ap (λ es. made ++ map part (map as_open es)) (sym c.in-None.ensures.steps) ∙ c.loop-client.invariant.0
+    c.of.ensures ∙ sym (append-nil made) ∙ ap (λ es. made ++ map part (map as_open es)) (sym c.in-None.ensures.steps.0) ∙ c.loop-client.invariant.0
 
 pub returns-clause-plans : goal.returns-clause-plans
-returns-clause-plans c = c.loop-client.invariant.1 (subst (λ es. All HasPlan (map as_open es)) (sym c.in-None.ensures.steps) (All-nil HasPlan))
+returns-clause-plans c = c.loop-client.invariant.1 (subst (λ es. All HasPlan (map as_open es)) (sym c.in-None.ensures.steps.0) (All-nil HasPlan))

@@ -1,10 +1,10 @@
 use Rattle.std.proofs.Common.{refl, sym, ◌∙◌, ap, ◌++◌, ◌∷◌, [], map, append_assoc, append-nil}
 use Rattle.pres_server.specs.InternalBases.{client_part}
 use Rattle.pres_server.proofs.Keyed.{found}
-use Rattle.pres_server.proofs.base.Index.client_parts.Goals as goal
+use Rattle.pres_server.proofs.index.Index.client_parts.Goals as goal
 
 pub loop-id-init : goal.loop-id-init
-loop-id-init c = ap (λ l. l ++ map (client_part c.args.self.now.retry) c.in_ok-lasts.lasts.entries) c.in_ok-made.ensures.items
+loop-id-init c = ap (λ l. l ++ map (client_part c.args.self.now.retry) c.into_iter-id-iterator.result) c.in_ok-made.ensures.items
 
 pub loop-id-preserved : goal.loop-id-preserved
 loop-id-preserved c =
@@ -23,5 +23,5 @@ returns c =
     let made = c.loop-id.made.items in (
       c.in_ok-lasts.lasts.entries,
       record { ordered = c.in_ok-lasts.ensures.ordered; found = λ q. found q c.in_ok-lasts.lasts.entries ∙ c.in_ok-lasts.ensures.found q },
-      c.of.ensures ∙ sym (append-nil made) ∙ ap (λ es. made ++ map part es) (sym c.in-None.ensures.steps) ∙ c.loop-id.invariant,
+      c.of.ensures ∙ sym (append-nil made) ∙ ap (λ es. made ++ map part es) (sym c.in-None.ensures.steps.0) ∙ c.loop-id.invariant ∙ ap (map part) c.into_iter-id-iterator.ensures.into_iter_gives.0,
     )
