@@ -1,7 +1,7 @@
 -- What holds of every server's sum holds of a base's.
-use Rattle.std.proofs.Common.{refl, sym, ◌∙◌, ap, subst, ◌≡◌, ℕ, ◌+◌, ◌-◌, ◌^◌, ◌<◌, ◌≤◌, List, [], ◌∷◌, ◌++◌, append-nil, map, filter, length, Bool, true, false, true≢false, cond, ◌==◌, ◌&&◌, arith, not, IsTrue, Option, Some, None, is_some, IsSome, IfSome, Ordering, Less, Equal, is_eq}
+use Rattle.std.proofs.Common.{refl, sym, ◌∙◌, ap, subst, ◌≡◌, ℕ, ◌+◌, ◌-◌, ◌^◌, ◌≤◌, List, [], ◌∷◌, ◌++◌, append-nil, map, filter, length, Bool, true, false, true≢false, cond, ◌==◌, ◌&&◌, arith, not, IsTrue, Option, Some, None, is_some, IsSome, IfSome, Less, is_eq}
 use Rattle.std.specs.Prelude.{nat_lt}
-use Rattle.std.specs.List.{All, AllByRecursion, flat_map}
+use Rattle.std.specs.List.{All, AllByRecursion}
 use Rattle.std.specs.List.Sorted.{IsStrictlySortedBy}
 use Rattle.std.specs.Map.{keys_of}
 use Rattle.std.specs.Option.{option_map}
@@ -15,21 +15,19 @@ use Rattle.std.proofs.lemmas.List.Kept.{IsStrictlySortedBy-filter}
 use Rattle.std.proofs.lemmas.Map.Keys.{sorted_head, sorted_tail}
 use Rattle.pres_tree.specs.Paths.{Path, path_cmp}
 use Rattle.pres_ids.specs.declared.id.SessionId.{SessionId}
-use Rattle.pres_ids.specs.declared.id.Stamp.{Stamp}
 use Rattle.pres_ids.specs.Ids.{ClientId, client_cmp, same_client, same_session, stamp_of}
 use Rattle.pres_fan.specs.declared.listeners.Listener.{Listener}
-use Rattle.pres_fan.specs.Listeners.{most_paths, session_cmp, listener_cmp, listener_of, paths_of}
+use Rattle.pres_fan.specs.Listeners.{most_paths, listener_cmp, listener_of, paths_of}
 use Rattle.pres_fan.proofs.Orders.{session_total}
 use Rattle.pres_retry.specs.declared.table.Row.{Row}
-use Rattle.pres_retry.specs.Tables.{Table}
 use Rattle.pres_plan.specs.Plans.{IsPlan}
 use Rattle.pres_base.specs.declared.parts.ClientPart.{ClientPart}
 use Rattle.pres_base.specs.declared.parts.SessionPart.{SessionPart}
 use Rattle.pres_base.specs.declared.parts.BaseParts.{BaseParts}
-use Rattle.pres_base.specs.Bases.{are_done, IsOpenPart, IsBase}
+use Rattle.pres_base.specs.Bases.{are_done, IsOpenPart}
 use Rattle.pres_server.specs.InternalParts.{is_live}
 use Rattle.pres_server.specs.Sums.{OpenSession, last_by, live_of, part_in}
-use Rattle.pres_server.specs.Histories.{IsOpenSession, AreAnswers, IsSum}
+use Rattle.pres_server.specs.Histories.{IsOpenSession, AreAnswers}
 use Rattle.pres_server.specs.BaseSums.{open_for, sessions_for, is_gone_for, gone_for, answers_for, listeners_for, sum_for, BaseHasSum, BaseIsKept}
 use Rattle.pres_server.specs.InternalBases.{lasts_in}
 use Rattle.pres_server.proofs.Clients.{client_same, clients_apart, same_by_cmp}

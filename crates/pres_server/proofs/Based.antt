@@ -1,24 +1,24 @@
 -- The parts that a server copies are those of a base with its sum.
-use Rattle.std.proofs.Common.{refl, sym, ◌∙◌, ap, subst, ◌≡◌, ℕ, ◌+◌, ◌-◌, ◌^◌, ◌<◌, ◌≤◌, List, [], ◌∷◌, ◌++◌, append-nil, map, filter, length, Bool, true, false, true≢false, cond, ◌==◌, ◌&&◌, ◌||◌, arith, not, IsTrue, Option, Some, None, is_some, unwrap_or, IsSome, IfSome, Less, is_eq}
+use Rattle.std.proofs.Common.{refl, sym, ◌∙◌, ap, subst, ◌≡◌, ℕ, ◌+◌, ◌-◌, ◌^◌, ◌≤◌, List, [], ◌∷◌, ◌++◌, append-nil, map, filter, length, Bool, true, false, true≢false, cond, ◌==◌, ◌&&◌, ◌||◌, arith, not, IsTrue, Option, Some, None, is_some, unwrap_or, IsSome, IfSome, Less, is_eq}
 use Rattle.std.specs.Prelude.{nat_lt}
 use Rattle.std.specs.List.{All, AllByRecursion, list_any}
 use Rattle.std.specs.List.Sorted.{IsStrictlySortedBy}
 use Rattle.std.specs.Map.{keys_of}
 use Rattle.std.specs.Option.{option_map}
-use Rattle.std.specs.FinMap.Entries.{find, where_key, is_sorted-where_key, same_entries}
+use Rattle.std.specs.FinMap.Entries.{find, is_sorted-where_key, same_entries}
 use Rattle.std.proofs.lemmas.List.{length-map}
 use Rattle.std.proofs.lemmas.List.Elements.{All-nil, All-cons, All-head, All-tail}
-use Rattle.std.proofs.lemmas.Bool.{and_parts, lt-ltb}
+use Rattle.std.proofs.lemmas.Bool.{lt-ltb}
 use Rattle.std.proofs.lemmas.Map.Keys.{sorted_head, sorted_tail}
-use Rattle.pres_tree.specs.Paths.{Path, same_path}
+use Rattle.pres_tree.specs.Paths.{same_path}
 use Rattle.pres_ids.specs.declared.id.SessionId.{SessionId}
 use Rattle.pres_ids.specs.declared.id.Stamp.{Stamp}
-use Rattle.pres_ids.specs.Ids.{ClientId, client_cmp, same_client, same_session, stamp_of}
+use Rattle.pres_ids.specs.Ids.{ClientId, client_cmp, same_session, stamp_of}
 use Rattle.pres_retry.specs.declared.table.Row.{Row}
 use Rattle.pres_retry.specs.Tables.{Table, rows_of}
 use Rattle.pres_plan.specs.Plans.{IsPlan}
 use Rattle.pres_fan.specs.declared.listeners.Listener.{Listener}
-use Rattle.pres_fan.specs.Listeners.{most_paths, same_listener, listener_of, paths_of}
+use Rattle.pres_fan.specs.Listeners.{same_listener, listener_of, paths_of}
 use Rattle.pres_fan.proofs.Members.{same_members}
 use Rattle.pres_fan.proofs.Places.{paths_rise}
 use Rattle.pres_base.specs.declared.parts.ClientPart.{ClientPart}
@@ -26,9 +26,9 @@ use Rattle.pres_base.specs.declared.parts.SessionPart.{SessionPart}
 use Rattle.pres_base.specs.declared.parts.BaseParts.{BaseParts}
 use Rattle.pres_base.specs.Bases.{are_done, last_in, IsOpenPart, IsBase}
 use Rattle.pres_server.specs.InternalParts.{same_stamp, session_with, is_live}
-use Rattle.pres_server.specs.Sums.{Sum, OpenSession, OpenSessions, last_by, live_of, part_in, is_open_in, paths_in}
+use Rattle.pres_server.specs.Sums.{Sum, OpenSession, OpenSessions, last_by, live_of, part_in, is_open_in}
 use Rattle.pres_server.specs.Histories.{IsOpenSession, AreAnswers, IsSum}
-use Rattle.pres_server.specs.BaseSums.{open_for, sessions_for, is_gone_for, gone_for, answers_for, listeners_for, sum_for}
+use Rattle.pres_server.specs.BaseSums.{open_for, is_gone_for, gone_for, answers_for, listeners_for, sum_for}
 use Rattle.pres_server.specs.InternalBases.{client_part, session_part, parts_of, AreLasts, lasts_in}
 use Rattle.pres_server.proofs.Clients.{client_same, client_itself, client_sym, clients_total, clients_apart, same_by_cmp, session_same}
 use Rattle.pres_server.proofs.Keyed.{in_order}

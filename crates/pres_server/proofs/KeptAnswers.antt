@@ -1,5 +1,5 @@
 -- What a sum says of kept answers, and of who is gone, holds after each entry that may come.
-use Rattle.std.proofs.Common.{refl, sym, ◌∙◌, ap, subst, ◌≡◌, ℕ, ◌+◌, ◌<◌, ◌≤◌, List, [], ◌∷◌, ◌++◌, length, Bool, true, false, cond, ◌&&◌, true≢false, arith, IsTrue, Option, Some, None, is_some, unwrap_or, IsSome, IfSome}
+use Rattle.std.proofs.Common.{refl, sym, ◌∙◌, ap, subst, ◌≡◌, ℕ, ◌+◌, ◌<◌, ◌≤◌, List, [], ◌∷◌, ◌++◌, length, Bool, true, false, cond, ◌&&◌, true≢false, arith, Option, Some, None, unwrap_or, IsSome, IfSome}
 use Rattle.std.specs.Prelude.{nat_lt, nat_le}
 use Rattle.std.specs.Option.{option_map}
 use Rattle.std.specs.Map.{keys_of}
@@ -9,7 +9,6 @@ use Rattle.std.proofs.lemmas.Bool.{and_parts, and_from, ltb-true, leb-true, lt-l
 use Rattle.pres_write.specs.declared.outcome.Kept.{Kept}
 use Rattle.pres_write.specs.Outcomes.{kept_of}
 use Rattle.pres_ids.specs.declared.id.Stamp.{Stamp}
-use Rattle.pres_ids.specs.declared.id.SessionId.{SessionId}
 use Rattle.pres_ids.specs.Ids.{ClientId, client_cmp, same_client, stamp_of}
 use Rattle.pres_retry.specs.declared.table.Row.{Row}
 use Rattle.pres_retry.specs.Tables.{Table, row, rows_of}
@@ -17,9 +16,9 @@ use Rattle.pres_log.specs.declared.entry.Entry.{Entry}
 use Rattle.pres_log.specs.declared.entry.Entry.TheVariants as entry
 use Rattle.pres_base.specs.Bases.{are_done}
 use Rattle.pres_server.specs.Sessions.{session_of}
-use Rattle.pres_server.specs.InternalParts.{LivePart, Part, is_live}
+use Rattle.pres_server.specs.InternalParts.{Part, is_live}
 use Rattle.pres_server.specs.InternalIndex.{retry_after}
-use Rattle.pres_server.specs.Sums.{Sum, OpenSession, OpenSessions, last_by, live_of, part_in, changed, carried, began, answered, sessions_after, gone_after, sum_after}
+use Rattle.pres_server.specs.Sums.{Sum, OpenSession, OpenSessions, last_by, live_of, part_in, changed, carried, began, answered, sum_after}
 use Rattle.pres_server.specs.Histories.{AreAnswers, Keeps}
 use Rattle.pres_server.proofs.Clients.{client_same}
 use Rattle.pres_server.proofs.Keyed.{sorted_with, find_put, find_others, find_changed}

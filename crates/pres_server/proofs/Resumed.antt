@@ -1,5 +1,5 @@
 -- An index that is made from a base, part by part.
-use Rattle.std.proofs.Common.{refl, sym, ◌∙◌, ap, subst, ◌≡◌, ℕ, suc, ◌+◌, ◌<◌, ◌≤◌, List, [], ◌∷◌, ◌++◌, append-nil, append_assoc, map, filter, length, Bool, true, false, cond, not, arith, Option, Some, None, is_some, unwrap_or, Ordering, Less, Equal, Greater, is_eq}
+use Rattle.std.proofs.Common.{refl, sym, ◌∙◌, ap, subst, ◌≡◌, ℕ, suc, ◌+◌, ◌<◌, ◌≤◌, List, [], ◌∷◌, ◌++◌, append-nil, append_assoc, map, filter, length, Bool, true, false, cond, not, arith, Option, Some, None, is_some, unwrap_or, Less, Greater, is_eq}
 use Rattle.std.specs.Prelude.{nat_lt}
 use Rattle.std.specs.List.{All, AllByRecursion}
 use Rattle.std.specs.List.Sorted.{IsStrictlySortedBy}
@@ -29,8 +29,7 @@ use Rattle.pres_server.specs.declared.index.Index.{Index}
 use Rattle.pres_server.specs.InternalSessions.{Session, last_stamp}
 use Rattle.pres_server.specs.InternalIndex.{session_at, gone_at}
 use Rattle.pres_server.specs.InternalSums.{open_of, sum_in, Agrees}
-use Rattle.pres_server.specs.Sums.{OpenSession}
-use Rattle.pres_server.specs.BaseSums.{open_for, sessions_for, is_gone_for, gone_for, answers_for, listeners_for, sum_for}
+use Rattle.pres_server.specs.BaseSums.{open_for, sessions_for, answers_for, listeners_for, sum_for}
 use Rattle.pres_server.specs.InternalBases.{lasts_in, with_answers, reopened, live_in}
 use Rattle.pres_server.proofs.Clients.{client_same, client_sym, clients_total, same_by_cmp}
 use Rattle.pres_server.proofs.Heard.{find_behind, keys_behind}

@@ -1,6 +1,6 @@
 //! Servers that begin from a base.
 
-ghost use Rattle.std.specs.Prelude.{◌≡◌, ◌++◌, ℕ, [], All, map, IfErr, IfOk, OnOk};
+ghost use Rattle.std.specs.Prelude.{◌≡◌, ◌++◌, ℕ, [], All, map, IfOk, OnOk};
 ghost use Rattle.std.specs.BTreeMap.{get, IsOrdered};
 ghost use Rattle.std.specs.FinMap.Entries.{find};
 ghost use Rattle.std.specs.List.Sorted.{IsStrictlySortedBy};
@@ -8,7 +8,6 @@ ghost use Rattle.pres_ids.specs.Ids.{ClientId, client_cmp};
 ghost use Rattle.pres_retry.specs.Tables.{rows_of};
 ghost use Rattle.pres_fan.specs.Listeners.{IsListeners, listener_of};
 ghost use Rattle.pres_base.specs.Bases.{IsOpenPart, IsBase};
-ghost use Rattle.pres_server.specs.declared.replay.ReplayFault.TheVariants.{Memory};
 ghost use Rattle.pres_server.specs.BaseSums.{answers_for, listeners_for, sum_for};
 ghost use Rattle.pres_server.specs.InternalBases.{lasts_in, live_in, with_answers};
 ghost use Rattle.pres_server.specs.InternalSums.{Agrees};

@@ -1,5 +1,4 @@
-use Rattle.std.proofs.Common.{sym, ap, subst, ◌∷◌, Err, arith}
-use Rattle.pres_fan.specs.Listeners.{most_paths}
+use Rattle.std.proofs.Common.{sym, ap, subst, Err, arith}
 use Rattle.pres_server.proofs.Resumed.{Listens, listens_few, listens_more}
 use Rattle.pres_server.proofs.resume.listen_all.Goals as goal
 

@@ -1,4 +1,4 @@
-use Rattle.std.proofs.Common.{refl, sym, ◌∙◌, ap, map, None}
+use Rattle.std.proofs.Common.{sym, ◌∙◌, ap, map}
 use Rattle.std.specs.BTreeMap.{get}
 use Rattle.pres_ids.specs.Ids.{client_cmp}
 use Rattle.pres_server.proofs.Resumed.{told, told_step, lasts_told}

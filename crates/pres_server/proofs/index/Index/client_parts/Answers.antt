@@ -1,4 +1,4 @@
-use Rattle.std.proofs.Common.{refl, sym, ◌∙◌, ap, ◌++◌, ◌∷◌, [], map, append_assoc, append-nil}
+use Rattle.std.proofs.Common.{sym, ◌∙◌, ap, ◌++◌, ◌∷◌, [], map, append_assoc, append-nil}
 use Rattle.pres_server.specs.InternalBases.{client_part}
 use Rattle.pres_server.proofs.Keyed.{found}
 use Rattle.pres_server.proofs.index.Index.client_parts.Goals as goal

@@ -1,4 +1,4 @@
-use Rattle.std.proofs.Common.{refl, sym, ◌∙◌, ap, subst, ◌≡◌, ◌+◌, ◌×◌, List, map, arith}
+use Rattle.std.proofs.Common.{sym, ◌∙◌, ap, subst, ◌≡◌, List}
 use Rattle.std.specs.List.{All}
 use Rattle.pres_ids.specs.declared.id.Stamp.{Stamp}
 use Rattle.pres_ids.specs.Ids.{ClientId}
@@ -9,7 +9,6 @@ use Rattle.pres_server.specs.InternalSums.{sum_in}
 use Rattle.pres_server.specs.InternalBases.{AreLasts, parts_of}
 use Rattle.pres_server.specs.Sums.{Sum, OpenSession}
 use Rattle.pres_server.specs.SumStates.{SumState}
-use Rattle.pres_server.specs.Histories.{IsSum}
 use Rattle.pres_server.proofs.SumServers.{part_is, batches_small, number_small}
 use Rattle.pres_server.proofs.server.Server.parts.Goals as goal
 
