@@ -272,11 +272,11 @@ fn crowd(rt: &impl Abort, alloc: Global, clients: &[u64], open: &[u64]) -> BaseP
     }
 }
 
-// So many places from 1001 on, whose texts are in byte order.
+// This many numbers from 1001 on, whose texts are in byte order.
 fn places(rt: &impl Abort, alloc: Global, count: u64) -> Vec<u64> {
     let mut made = Vec::new(alloc);
     for place in 0..count {
-        made.push(1001 + place).expect(rt, "memory");
+        made.push(place.saturating_add(1001)).expect(rt, "memory");
     }
     made
 }
@@ -308,7 +308,7 @@ fn at_most_1024_sessions_are_open(rt: HostRuntime) {
     assert!(&rt; Base::from_parts(parts).is_err());
 }
 
-// So many places that are listened to, or a draft at each.
+// Text of this many paths to listen to, or of a draft at each.
 fn each_place(rt: &impl Abort, alloc: Global, count: u64, plan: bool) -> String {
     let mut text = String::new(alloc);
     for place in places(rt, alloc, count) {
