@@ -36,6 +36,8 @@ use Rattle.pres_session.specs.contracts.live.Live as live
 use Rattle.pres_plan.specs.contracts.plan.Plan as plan
 use Rattle.pres_retry.specs.contracts.table.RetryTable as retry
 use Rattle.pres_retry.specs.contracts.answers.Answers as answers
+use Rattle.pres_retry.specs.contracts.shelf.Offsets as offsets
+use Rattle.pres_retry.specs.contracts.shelf.Shelf as shelf
 use Rattle.pres_fan.specs.contracts.paths.SessionPaths as session_paths
 use Rattle.pres_fan.specs.contracts.sessions.Sessions as listening
 use Rattle.pres_fan.specs.contracts.level.Level as level
@@ -98,8 +100,14 @@ plan_send = search (placement_send, path_is, number_is, maps, crosses, sendable)
 pub live_send : IsSend (live.the_row plan.the_row)
 live_send = search (plan_send, count_is, moment_is, crosses, sendable) depth 60 fits 20000
 
+pub offsets_send : IsSend offsets.the_row
+offsets_send = search (crosses, sendable) depth 60 fits 20000
+
+pub shelf_send : IsSend shelf.the_row
+shelf_send = search (offsets_send, crosses, sendable) depth 60 fits 20000
+
 pub answers_send : IsSend answers.the_row
-answers_send = search (number_is, tree_send, maps, crosses, sendable) depth 60 fits 20000
+answers_send = search (number_is, shelf_send, tree_send, maps, crosses, sendable) depth 60 fits 20000
 
 pub retry_send : IsSend retry.the_row
 retry_send = search (client_is, answers_send, maps, crosses, sendable) depth 60 fits 20000
