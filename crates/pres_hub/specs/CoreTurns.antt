@@ -1,5 +1,6 @@
 -- What the calls of a hub's core do to a log that stands.
-use Rattle.std.specs.Prelude.{ℕ, zero, suc, List, [], ◌∷◌, Option, inl, inr}
+use Rattle.std.specs.Prelude.{ℕ, zero, suc, List, [], ◌∷◌, Option}
+use Rattle.std.proofs.Common.{inl, inr}
 use Rattle.pres_ids.specs.declared.id.SessionId.{SessionId}
 use Rattle.pres_ids.specs.declared.id.Why.{Why}
 use Rattle.pres_wire.specs.declared.up.Up.TheVariants as up

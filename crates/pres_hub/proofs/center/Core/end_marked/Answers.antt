@@ -1,4 +1,6 @@
 use Rattle.std.proofs.Common.{◌≡◌, ◌∙◌, refl, sym, subst, true, [], Some, is_some, IfOk, IfSome, arith}
+use Rattle.pres_ids.specs.declared.id.SessionId.{SessionId}
+use Rattle.pres_ids.specs.declared.id.Why.{Why}
 use Rattle.pres_server.specs.Sums.{is_open_in}
 use Rattle.pres_keeper.specs.Engines.{Runs}
 use Rattle.pres_ring.specs.Lines.{first_marked, IsFirstMarked}
@@ -97,7 +99,7 @@ returns-in_err-event-clause-stops g c =
     let old = c.self.inside.exchange in
     let now = c.loop-next.self in
     let new = c.event.new.self in
-    let next = (c.in_ok-session.session, c.in_ok-session.why) in
+    let next : SessionId × Why = (c.in_ok-session.session, c.in_ok-session.why) in
     let found : first_marked old.lines ≡ Some next = subst (λ r. IfOk r (λ e. first_marked old.lines ≡ Some e)) c.in_ok-session.was c.in-Some.ensures.session in
     let first : IsFirstMarked next old.lines = subst (λ o. IfSome o (λ e. IsFirstMarked e old.lines)) found c.in-Some.ensures.first in
     passed_on c.from_residual-in_err-event.result c.in_err-event.field-0.0 (StopsAtMarkOn g.K.Keeper.works g.K.Keeper.keeps c.args.now c.args.self.now new) c.from_residual-in_err-event.ensures.1
