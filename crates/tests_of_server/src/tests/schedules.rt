@@ -16,10 +16,10 @@ fn word<'a>(words: &[&'a str], place: usize) -> &'a str {
     }
 }
 
-// An operation at the path that is the sixth word: what follows says which.
+// An operation at the path that is the word at the place: what follows says which.
 fn op_text(rt: &impl Abort, alloc: Global, words: &[&str], place: usize) -> String {
-    let (path, value) = (word(words, place), word(words, place + 1));
-    let text = match words.get(place + 2) {
+    let (path, value) = (word(words, place), word(words, place.saturating_add(1)));
+    let text = match words.get(place.saturating_add(2)) {
         Some(next) => format!(in alloc;
             r#"{{"expect":{value},"op":"tx","path":"{path}","value":{next}}}"#
         ),
@@ -129,7 +129,7 @@ fn check_schedule(rt: &impl Abort, alloc: Global, schedule: &str) {
     drop(log);
 }
 
-// So many schedules, after so many others.
+// This many schedules, after the given number of others.
 fn check_some(rt: &impl Abort, alloc: Global, after: usize, count: usize) {
     for schedule in SCHEDULES.lines().skip(after).take(count) {
         check_schedule(rt, alloc, schedule);
