@@ -7,6 +7,8 @@ mod connections;
 mod drives;
 mod files;
 mod halts;
+mod looks;
+mod pages;
 mod script;
 mod texts;
 mod visits;
