@@ -9,3 +9,7 @@ pub mod Finding
 pub mod Collecting
 pub mod Growing
 pub mod Shut
+pub mod Grouping
+pub mod CheckpointStatements
+pub mod Deleting
+pub mod Checkpointing

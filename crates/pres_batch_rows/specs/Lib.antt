@@ -4,3 +4,4 @@ pub mod TableStates
 pub mod RowIteration
 pub mod TableCreation
 pub mod TableOpening
+pub mod Checkpoints

@@ -1,6 +1,7 @@
 //! Saved rows in SQLite: moments and texts, numbered from 1.
 #![tactic(auto)]
 
+mod checkpoint;
 mod format;
 mod insert;
 mod make;
