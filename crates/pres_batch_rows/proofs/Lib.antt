@@ -9,3 +9,4 @@ pub mod Finding
 pub mod Collecting
 pub mod Growing
 pub mod Shut
+pub mod Grouping

@@ -1,0 +1,2 @@
+pub mod Schemas
+pub mod States
