@@ -1,5 +1,5 @@
 // A client of a presence server: client.mjs NAME [ADDRESS]. Says who is there, and counts its visit.
-import { connect, onConnected, onDisconnect, onValue, ref, runTransaction, set } from "../clients/js/index.js";
+import { connect, get, increment, onConnected, onDisconnect, onValue, ref, set } from "../clients/js/index.js";
 
 const [name, address = "127.0.0.1:8080"] = process.argv.slice(2);
 const db = connect(`ws://${address}/`, { client: name });
@@ -13,5 +13,6 @@ onConnected(db, async (isConnected) => {
 });
 onValue(ref(db, "presence"), (snapshot) => console.log("/presence", JSON.stringify(snapshot.val())));
 
-const { snapshot } = await runTransaction(ref(db, "visits"), (visits) => (visits ?? 0) + 1);
-console.log("visit", snapshot.val());
+const visits = ref(db, "visits");
+await set(visits, increment(1));
+console.log("visits", (await get(visits)).val());

@@ -5,7 +5,7 @@ import sys
 from pathlib import Path
 
 sys.path.insert(0, str(Path(__file__).resolve().parent.parent / "clients" / "python"))
-from presence_client import ActionLostError, OfflineError, connect
+from presence_client import ActionLostError, Increment, OfflineError, connect
 
 
 async def stay(db, name):
@@ -22,8 +22,9 @@ async def main(name, address="127.0.0.1:8080"):
     async with connect(f"ws://{address}/", client=name) as db:
         staying = asyncio.create_task(stay(db, name))
         db.ref("/presence").on_value(lambda shown: print("/presence", json.dumps(shown.value), flush=True))
-        visits = await db.ref("/visits").transaction(lambda held: (held or 0) + 1)
-        print("visit", visits.value, flush=True)
+        visits = db.ref("/visits")
+        await visits.set(Increment(1))
+        print("visits", (await visits.get()).value, flush=True)
         await staying
 
 

@@ -12,6 +12,8 @@ from typing import Any, Dict, List, Optional, Tuple
 
 Path = Tuple[str, ...]
 MOST_MOMENT = 2**53 - 1
+LEAST_NUMBER = -(2**63)
+GREATEST_NUMBER = 2**63 - 1
 LEASE = 60_000
 MOST_ROWS = 256
 MOST_LISTENS = 256
@@ -56,13 +58,18 @@ def put(tree: Any, path: Path, value: Any) -> Any:
     return made or None
 
 
-def settled(draft: Any, moment: int) -> Any:
-    """The draft with the moment in the place of its placeholders."""
-    if isinstance(draft, dict):
-        if ".sv" in draft:
-            return moment
-        return {key: settled(child, moment) for key, child in draft.items()}
-    return draft
+def settled(draft: Any, held: Any, moment: int) -> Any:
+    """What the draft comes to where this value stands: the moment for a timestamp, the sum with the
+    whole number at its place for an increment."""
+    if not isinstance(draft, dict):
+        return draft
+    if ".sv" not in draft:
+        return {key: settled(child, at(held, (key,)), moment) for key, child in draft.items()}
+    if draft[".sv"] == "timestamp":
+        return moment
+    is_number = isinstance(held, int) and not isinstance(held, bool)
+    total = draft[".sv"]["increment"] + (held if is_number else 0)
+    return max(LEAST_NUMBER, min(total, GREATEST_NUMBER))
 
 
 def same(one: Any, other: Any) -> bool:
@@ -243,7 +250,8 @@ class ServerModel:
             if not same(held, op["expect"]):
                 self._number += 1
                 return {"stale": held}
-        rows = [(path, settled(draft, self._moment_now)) for path, draft in puts_of(op)]
+        before, now = self._tree, self._moment_now
+        rows = [(path, settled(draft, at(before, path), now)) for path, draft in puts_of(op)]
         self._write(rows)
         return "wrote"
 
@@ -292,10 +300,13 @@ class ServerModel:
     def _end(self, client: str, why: str) -> None:
         self._moment = self._moment_now
         session = self._open[client]
-        before = self._tree
+        before = after = self._tree
         rows = []
         for kind, path, draft in session.plan:
-            value = at(before, path) if kind == "keep" else settled(draft, self._moment_now)
+            value = at(before, path)
+            if kind == "put":
+                value = settled(draft, at(after, path), self._moment_now)
+            after = put(after, path, value)
             rows.append((path, value))
         self._write(rows)
         del self._open[client]

@@ -18,6 +18,8 @@ ODD_TEXTS = ["é", "😀", "\uffff", "\u2028", "</script>", "null", " ", "\u0085
 BAD_SCALARS = ["-0", "0.0", "1.0", "1e2", "1E+2", "-1.5", "1e-400", "18446744073709551616"]
 BAD_SCALARS += ["9223372036854775808", "18446744073709551615", "-9223372036854775809", "9" * 60]
 BAD_SCALARS += ['{".sv":"time"}', '{".sv":"timestamp","a":1}', '{".sv":null}', '{".sv":{"a":1}}']
+BAD_SCALARS += ['{".sv":{"increment":1.5}}', '{".sv":{"increment":9223372036854775808}}', '{".sv":{"increment":"x"}}']
+BAD_SCALARS += ['{".sv":{"increment":1.5},"a":1}', '{".sv":{"increment":1,"a":1}}', '{".sv":{}}']
 NO_JSON = ["", "{", "[1,]", '{"a":1,}', "{'a':1}", "nul", "truE", "01", "+1", "1.", ".5", "1e", "-"]
 NO_JSON += ["NaN", "Infinity", "-Infinity", '"\\ud800"', '"\\udc00x"', '"\\ud83d\\u0041"', '"\\x41"']
 NO_JSON += ['"\t"', '"a', "1 2", "[1 2]", '{"a" 1}', '{1:2}', "1e400", "-1e999", "9" * 400, "\ufeff1"]
@@ -102,6 +104,8 @@ def scalar(random: Random) -> str:
         return random.choice(["true", "false"])
     if chance < 0.92:
         return _string(random, _text_of(random))
+    if random.random() < 0.5:
+        return f'{{".sv":{{"increment":{random.choice(NUMBERS)}}}}}'
     return '{".sv":"timestamp"}' if random.random() < 0.8 else '{ "\\u002esv" : "timestamp" }'
 
 

@@ -4,10 +4,15 @@
 export type Whole = number | bigint;
 
 /** What may be written. An array is kept as an object under its indexes; null removes. */
-export type Value = null | boolean | Whole | string | ServerTimestamp | readonly Value[] | { readonly [key: string]: Value };
+export type Value = null | boolean | Whole | string | ServerTimestamp | Increment | readonly Value[] | { readonly [key: string]: Value };
 
 /** What is read: null for nothing. */
 export type Read = null | boolean | Whole | string | { [key: string]: Read };
+
+/** Stands in a value for the sum with the whole number that its place holds. */
+export interface Increment {
+  readonly ".sv": { readonly increment: Whole };
+}
 
 /** Stands in a value for the server's time. */
 export interface ServerTimestamp {
@@ -134,6 +139,7 @@ export function onValue(
 export function runTransaction(place: Ref, update: (value: any) => Value | undefined): Promise<TransactionResult>;
 export function onDisconnect(place: Ref): OnDisconnect;
 export function serverTimestamp(): ServerTimestamp;
+export function increment(by: Whole): Increment;
 export function goOffline(db: Database): void;
 export function goOnline(db: Database): void;
 /**
@@ -176,7 +182,7 @@ export class TooDeep extends WriteRefused {}
 export class NotWhole extends WriteRefused {}
 /** 7: a whole number past 64 bits, or past 2^53 - 1 and no BigInt. */
 export class Range extends WriteRefused {}
-/** 8: an object with the name `.sv` that serverTimestamp() doesn't make. */
+/** 8: an object with the name `.sv` that neither serverTimestamp() nor increment() makes. */
 export class Placeholder extends WriteRefused {}
 /** 9: two places of an update are one, or one is above the other. */
 export class Overlap extends WriteRefused {}

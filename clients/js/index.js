@@ -120,6 +120,11 @@ export function serverTimestamp() {
   return { ".sv": "timestamp" };
 }
 
+/** Stands in a value for the sum of this and the whole number that its place holds; this alone where it holds none. */
+export function increment(by) {
+  return { ".sv": { increment: by } };
+}
+
 /**
  * Says goodbye, so that the server does at once what was left for the session's end, and stays away. Writes wait.
  * @param {Database} db

@@ -60,7 +60,7 @@ export const NotWhole = errorClass(WriteRefused, "write", 6, "NotWhole", "number
 /** A whole number is out of -2^63 .. 2^63 - 1, or past 2^53 - 1 and no BigInt. */
 export const Range = errorClass(WriteRefused, "write", 7, "Range", "whole numbers are from -2^63 to 2^63 - 1, and those past 2^53 - 1 are given as BigInt");
 /** An object with the name `.sv` is no server value. */
-export const Placeholder = errorClass(WriteRefused, "write", 8, "Placeholder", "an object with the name .sv is none that serverTimestamp() makes");
+export const Placeholder = errorClass(WriteRefused, "write", 8, "Placeholder", "an object with the name .sv is none that serverTimestamp() or increment() makes");
 /** Two places of an update are one, or one is above the other. */
 export const Overlap = errorClass(WriteRefused, "write", 9, "Overlap", "two places of the update are one, or one is above the other");
 /** An update names more than 256 places. */

@@ -1,6 +1,6 @@
 // Values and drafts. Null, a boolean, a text, a number, and past 2^53 - 1 a BigInt, are themselves;
 // an object is a Map of its members in byte order of their keys, none of them null and none empty.
-// A draft may also have TIMESTAMP where a scalar stands.
+// A draft may also have TIMESTAMP or an Increment where a scalar stands.
 
 import { NotJson, NotWhole, Placeholder, Range, TooDeep } from "./errors.js";
 import { compareTexts, isUnicode } from "./json.js";
@@ -9,6 +9,14 @@ import { MOST_LEVELS, checkKey } from "./paths.js";
 /** Stands in a draft for the server's time. */
 export const TIMESTAMP = Symbol("server timestamp");
 
+/** Stands in a draft for the sum with the whole number that its place holds. */
+export class Increment {
+  constructor(by) {
+    this.by = by;
+  }
+}
+
+const INCREMENT_WORD = "increment";
 const TIMESTAMP_WORD = "timestamp";
 const TIMESTAMP_TEXT = `{".sv":"${TIMESTAMP_WORD}"}`;
 const MOST_NESTED = 127;
@@ -76,9 +84,18 @@ class Walk {
   }
 }
 
-function placeholderOf(count, word) {
-  if (count !== 1 || word !== TIMESTAMP_WORD) throw new Placeholder();
-  return TIMESTAMP;
+function placeholderOf(count, value) {
+  if (count !== 1) throw new Placeholder();
+  return value === TIMESTAMP_WORD ? TIMESTAMP : incrementOf(value);
+}
+
+function incrementOf(value) {
+  if (value === null || typeof value !== "object" || Array.isArray(value)) throw new Placeholder();
+  const members = value instanceof Map ? [...value] : Object.entries(value);
+  if (members.length !== 1 || members[0][0] !== INCREMENT_WORD) throw new Placeholder();
+  const by = members[0][1];
+  if (typeof by !== "number" && typeof by !== "bigint") throw new Placeholder();
+  return new Increment(scalarOf(by));
 }
 
 /**
@@ -117,13 +134,14 @@ export function at(tree, keys) {
 
 /** Whether a placeholder stands in the draft. */
 export function hasPlaceholder(draft) {
-  if (!(draft instanceof Map)) return draft === TIMESTAMP;
+  if (!(draft instanceof Map)) return draft === TIMESTAMP || draft instanceof Increment;
   return [...draft.values()].some(hasPlaceholder);
 }
 
 /** The JSON text of the tree, without spaces and with its names in byte order. */
 export function print(tree) {
   if (tree === TIMESTAMP) return TIMESTAMP_TEXT;
+  if (tree instanceof Increment) return `{".sv":{"${INCREMENT_WORD}":${tree.by}}}`;
   if (typeof tree === "string") return JSON.stringify(tree);
   if (!(tree instanceof Map)) return String(tree);
   return `{${Array.from(tree, ([name, child]) => `${JSON.stringify(name)}:${print(child)}`).join(",")}}`;

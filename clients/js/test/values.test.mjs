@@ -130,6 +130,16 @@ test("server values: the timestamp alone", () => {
   assert.throws(() => readValue(parse('{".sv":"timestamp"}')), errors.BadKey);
 });
 
+test("server values: increments of whole numbers alone", () => {
+  assert.equal(print(readDraft({ n: { ".sv": { increment: -2 } } })), '{"n":{".sv":{"increment":-2}}}');
+  assert.equal(print(readDraft({ ".sv": { increment: 2n ** 63n - 1n } })), '{".sv":{"increment":9223372036854775807}}');
+  assert.throws(() => readDraft({ ".sv": { increment: 1.5 } }), { name: "NotWhole", number: 6 });
+  assert.throws(() => readDraft(parse('{".sv":{"increment":9223372036854775808}}')), { name: "Range", number: 7 });
+  assert.throws(() => readDraft({ ".sv": { increment: "x" } }), errors.Placeholder);
+  assert.throws(() => readDraft({ ".sv": { increment: 1, a: 1 } }), errors.Placeholder);
+  assert.throws(() => readDraft({ ".sv": { increment: 1.5 }, a: 1 }), errors.Placeholder);
+});
+
 test("values that no JSON has are refused with what to do", () => {
   assert.throws(() => readDraft({ a: undefined }), { name: "NotJson", message: /give null to remove/ });
   assert.throws(() => readDraft(new Date(0)), { name: "NotJson", message: /a Date is no value/ });

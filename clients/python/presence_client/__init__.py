@@ -51,7 +51,7 @@ from .reference import (
     TransactionResult,
 )
 from .streams import Stream
-from .values import SERVER_TIMESTAMP
+from .values import SERVER_TIMESTAMP, Increment
 
 __all__ = [
     "ABORT",
@@ -68,6 +68,7 @@ __all__ = [
     "DownFault",
     "EmptyKeyError",
     "FullFault",
+    "Increment",
     "ListensFullError",
     "LongKeyError",
     "ManyPathsError",

@@ -2,7 +2,7 @@
 
 A path is a tuple of keys. A tree is what stands at a place: None, a bool, an int, a str, or a dict
 of trees that is never empty and never holds None. A draft is a tree whose leaves may be
-SERVER_TIMESTAMP.
+SERVER_TIMESTAMP or an Increment.
 
 Python compares texts by code points, which is the byte order of their UTF-8, and so tuples of keys
 stand in path order: key by key, a prefix first.
@@ -11,6 +11,7 @@ stand in path order: key by key, a prefix first.
 from __future__ import annotations
 
 import re
+from dataclasses import dataclass
 from typing import Any, Dict, Iterable, List, Mapping, Optional, Sequence, Tuple
 
 from .errors import (
@@ -65,7 +66,17 @@ class _ServerTimestamp:
 
 SERVER_TIMESTAMP = _ServerTimestamp()
 
+
+@dataclass(frozen=True)
+class Increment:
+    """Stands for the sum of this and the whole number that the place holds, and for this alone where
+    it holds none."""
+
+    by: int
+
+
 _PLACEHOLDER = ".sv"
+_INCREMENT = "increment"
 
 
 # ---- keys and paths
@@ -115,6 +126,22 @@ def _scalar(value: Any) -> Any:
     return value
 
 
+def _increment(by: Any) -> Increment:
+    is_number = by is NOT_WHOLE or (isinstance(by, (int, float)) and not isinstance(by, bool))
+    if not is_number:
+        raise PlaceholderError()
+    return Increment(_scalar(by))
+
+
+def _server_value(value: Any) -> Any:
+    # What a placeholder has under its name.
+    if value == "timestamp":
+        return SERVER_TIMESTAMP
+    if not isinstance(value, dict) or list(value) != [_INCREMENT]:
+        raise PlaceholderError()
+    return _increment(value[_INCREMENT])
+
+
 def _leaf_of(value: Any, levels: int, is_draft: bool) -> Optional[Any]:
     # The leaf that a JSON value is, None where it is none.
     if value is None or isinstance(value, list):
@@ -124,13 +151,15 @@ def _leaf_of(value: Any, levels: int, is_draft: bool) -> Optional[Any]:
             return None
         if levels == 0:
             raise TooDeepError()
-        if len(value) != 1 or value[_PLACEHOLDER] != "timestamp":
+        if len(value) != 1:
             raise PlaceholderError()
-        return SERVER_TIMESTAMP
+        return _server_value(value[_PLACEHOLDER])
     if levels == 0:
         raise TooDeepError()
     if value is SERVER_TIMESTAMP:
         return value
+    if isinstance(value, Increment):
+        return _increment(value.by)
     return _scalar(value)
 
 
@@ -176,8 +205,8 @@ def read_draft(value: Any) -> Draft:
 
 def from_python(value: Any) -> Any:
     """The JSON value of what a program hands in. Mappings become objects, lists and tuples arrays,
-    floats NOT_WHOLE. Anything else but None, bool, int, str and SERVER_TIMESTAMP is a TypeError,
-    and a text that has no UTF-8 a ValueError."""
+    floats NOT_WHOLE. Anything else but None, bool, int, str, SERVER_TIMESTAMP and Increments is a
+    TypeError, and a text that has no UTF-8 a ValueError."""
     return _from_python(value, 0)
 
 
@@ -185,7 +214,7 @@ _MOST_NESTED = 200  # beyond this a value is too deep, whatever it holds
 
 
 def _from_python(value: Any, level: int) -> Any:
-    if value is None or value is SERVER_TIMESTAMP or isinstance(value, (bool, int)):
+    if value is None or value is SERVER_TIMESTAMP or isinstance(value, (bool, int, Increment)):
         return value
     if isinstance(value, float):
         return NOT_WHOLE
@@ -225,6 +254,8 @@ def tree_json(tree: Draft) -> Any:
     """The JSON value of a tree or a draft."""
     if tree is SERVER_TIMESTAMP:
         return {_PLACEHOLDER: "timestamp"}
+    if isinstance(tree, Increment):
+        return {_PLACEHOLDER: {_INCREMENT: tree.by}}
     if isinstance(tree, dict):
         return {key: tree_json(child) for key, child in tree.items()}
     return tree

@@ -20,6 +20,7 @@ from presence_client.messages import (
 from presence_client.strict_json import NOT_WHOLE, NotJson
 from presence_client.values import (
     SERVER_TIMESTAMP,
+    Increment,
     check_places,
     from_python,
     parse_path,
@@ -353,6 +354,17 @@ class Values(unittest.TestCase):
         self.refused(8, {".sv": None}, read_draft)
         self.refused(4, {".sv": "timestamp"}, read_tree)
         self.assertEqual(tree_json({"a": SERVER_TIMESTAMP}), {"a": {".sv": "timestamp"}})
+
+    def test_increments(self) -> None:
+        self.assertEqual(read_draft({".sv": {"increment": -2}}), Increment(-2))
+        self.assertEqual(read_draft(Increment(3)), Increment(3))
+        self.refused(6, {".sv": {"increment": NOT_WHOLE}}, read_draft)
+        self.refused(7, {".sv": {"increment": 2**63}}, read_draft)
+        self.refused(8, {".sv": {"increment": "x"}}, read_draft)
+        self.refused(8, {".sv": {"increment": True}}, read_draft)
+        self.refused(8, {".sv": {"increment": 1, "a": 1}}, read_draft)
+        self.refused(8, {".sv": {"increment": NOT_WHOLE}, "a": 1}, read_draft)
+        self.assertEqual(tree_json({"a": Increment(1)}), {"a": {".sv": {"increment": 1}}})
 
     def test_places(self) -> None:
         places = read_places({"a-b": 1, "a/b": 2})

@@ -284,7 +284,7 @@ class Examples(ShellTest):
         lines = []
         while len(lines) < 4 or lines[-1] != b'/presence {"alice": true}\n':
             lines.append(await asyncio.wait_for(processes[0].stdout.readline(), LONG))
-        self.assertIn(b"visit 1\n", lines)
+        self.assertIn(b"visits 1\n", lines)
         self.assertIn(b'/presence {"alice": true, "bob": true}\n', lines)
 
 

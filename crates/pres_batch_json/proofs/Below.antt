@@ -31,10 +31,10 @@ no_fault (Some e) b c h = cc
 
 pub write_low : (p : Path) (v : Rows Scalar) → rows_below scalar_reading p (json_of scalar_printing v) ≡ Some v → depth (row_json p (json_of scalar_printing v)) ≤ 34
 write_low p v h =
-    let low : depth (json_of scalar_printing v) ≤ 33 - length p = rows_low scalar_reading scalar_printing value_flat scalar_solid v (33 - length p) (no_fault _ _ _ h) in
+    let low : depth (json_of scalar_printing v) ≤ 33 - length p + 0 = rows_low scalar_reading scalar_printing value_flat scalar_solid v (33 - length p) (no_fault _ _ _ h) in
     omega (arith, low)
 
-pub put_low : (p : Path) (v : Rows DraftLeaf) → rows_below slot_reading p (json_of slot_printing v) ≡ Some v → depth (row_json p (json_of slot_printing v)) ≤ 34
+pub put_low : (p : Path) (v : Rows DraftLeaf) → rows_below slot_reading p (json_of slot_printing v) ≡ Some v → depth (row_json p (json_of slot_printing v)) ≤ 35
 put_low p v h =
-    let low : depth (json_of slot_printing v) ≤ 33 - length p = draft_low v (33 - length p) (no_fault _ _ _ h) in
+    let low : depth (json_of slot_printing v) ≤ 33 - length p + 1 = draft_low v (33 - length p) (no_fault _ _ _ h) in
     omega (arith, low)

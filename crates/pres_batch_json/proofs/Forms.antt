@@ -38,9 +38,9 @@ pub write_nests : (w : Basic) (p : Path) (v : Rows Scalar) → p ≡ w.path → 
 write_nests w p v there value reads =
     subst (λ (row : Path × Rows Scalar). depth (row_json row.0 (json_of scalar_printing row.1)) ≤ 34) (λ i. (there i, value i)) (write_low p v reads)
 
-pub put_nests : (put : Path × Rows DraftLeaf) (p : Path) (v : Rows DraftLeaf) → p ≡ put.0 → v ≡ put.1 → rows_below slot_reading p (json_of slot_printing v) ≡ Some v → depth (put_json put) ≤ 34
+pub put_nests : (put : Path × Rows DraftLeaf) (p : Path) (v : Rows DraftLeaf) → p ≡ put.0 → v ≡ put.1 → rows_below slot_reading p (json_of slot_printing v) ≡ Some v → depth (put_json put) ≤ 35
 put_nests put p v there draft reads =
-    subst (λ (row : Path × Rows DraftLeaf). depth (row_json row.0 (json_of slot_printing row.1)) ≤ 34) (λ i. (there i, draft i)) (put_low p v reads)
+    subst (λ (row : Path × Rows DraftLeaf). depth (row_json row.0 (json_of slot_printing row.1)) ≤ 35) (λ i. (there i, draft i)) (put_low p v reads)
 
 pub writes_read : (writes : List Basic) → list_of write_in (list_json write_json writes) ≡ Some (map (λ w. w) writes) → list_of write_in (list_json write_json writes) ≡ Some writes
 writes_read writes reads = reads ∙ ap Some (map-same writes)

@@ -139,7 +139,7 @@ impl BatchJson for Placement {
 
     ghost kept = { λ put. put };
 
-    ghost levels = { 34 };
+    ghost levels = { 35 };
 
     fn to_json(&self, alloc: Global) -> Result<Value, AllocError> {
         row_value::<DraftLeaf, DraftLeafForm>(alloc, self.path(), self.draft())

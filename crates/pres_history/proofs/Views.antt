@@ -16,7 +16,7 @@ use Rattle.pres_wire.specs.declared.down.Down.TheVariants as down
 use Rattle.pres_ids.specs.Ids.{same_session}
 use Rattle.pres_wire.specs.Messages.{number_in}
 use Rattle.pres_retry.specs.declared.table.Row.{Row}
-use Rattle.pres_plan.proofs.Kept.{value_kept}
+use Rattle.pres_tree.proofs.After.{value_kept}
 use Rattle.pres_fan.specs.Listeners.{add_path, is_touched}
 use Rattle.pres_tree.specs.Falls.{path_same as path_apart}
 use Rattle.pres_tree.proofs.PathOrder.{path_same, path_itself}

@@ -7,8 +7,7 @@ use Rattle.pres_tree.specs.Scalars.{same_rows}
 use Rattle.pres_write.specs.declared.op.Op.{Op}
 use Rattle.pres_write.specs.declared.op.Op.TheVariants.{Set, Update, Tx}
 use Rattle.pres_write.specs.declared.outcome.Outcome.TheVariants.{Wrote, Stale}
-use Rattle.pres_write.specs.Basics.{basic}
-use Rattle.pres_write.specs.Drafts.{settled}
+use Rattle.pres_write.specs.Settling.{settled_write}
 use Rattle.pres_write.specs.Outcomes.{resolved}
 use Rattle.pres_write.specs.Transactions.{Comparison}
 use Rattle.pres_write.proofs.Held.{one_form}
@@ -26,8 +25,8 @@ use Rattle.pres_server.proofs.Replayed.{batches_from}
 use Rattle.pres_keeper.specs.Keepers.{HasOneNull, MakesSum}
 
 compared_has : (tree : Rows Scalar) (moment : ℕ) (t : Comparison) (b : Bool)
-    → one_null (if b then Wrote (basic t.path (settled moment t.new) ∷ []) else Stale (option_of (value_at t.path tree)))
-    ≡ (if b then Wrote (basic t.path (settled moment t.new) ∷ []) else Stale (option_of (value_at t.path tree)))
+    → one_null (if b then Wrote (settled_write tree moment (t.path, t.new) ∷ []) else Stale (option_of (value_at t.path tree)))
+    ≡ (if b then Wrote (settled_write tree moment (t.path, t.new) ∷ []) else Stale (option_of (value_at t.path tree)))
 compared_has tree moment t true = refl
 compared_has tree moment t false = ap Stale (sym (one_form (option_of (value_at t.path tree)) (value_at t.path tree) refl))
 

@@ -10,41 +10,23 @@ use Rattle.pres_tree.specs.Writes.{Write, write, tree_after}
 use Rattle.pres_tree.specs.declared.scalar.Scalar.{Scalar}
 use Rattle.pres_tree.proofs.Nodes.{in_order-value_at}
 use Rattle.pres_write.specs.Basics.{write_of, applied}
-use Rattle.pres_write.proofs.Held.{rows_of_option}
-use Rattle.pres_plan.specs.declared.row.Action.{Action}
-use Rattle.pres_plan.specs.declared.row.Action.TheVariants.{Put, Keep}
+use Rattle.pres_write.specs.declared.basic.Basic.{Basic}
+use Rattle.pres_plan.specs.declared.row.Action.TheVariants.{Keep}
 use Rattle.pres_plan.specs.declared.row.PlanRow.{PlanRow}
-use Rattle.pres_plan.specs.Plans.{path_of, is_put, covers, is_left, lasting, puts_above, matters, plan_of, due, due_write, CancelKeeps}
+use Rattle.pres_plan.specs.Plans.{path_of, is_put, covers, is_left, lasting, puts_above, matters, plan_of, due, due_after, due_write, CancelKeeps}
+use Rattle.pres_plan.proofs.Due.{due_after-append, path-due, keep-due}
 use Rattle.pres_plan.proofs.Left.{any_implies, any_filter, any_lasting, false_of, filter-append, lasting-append, prefix_trans}
-use Rattle.pres_plan.proofs.Kept.{value_kept, value_put, value_alone}
+use Rattle.pres_tree.proofs.After.{value_kept, value_put, value_alone}
 
 -- ---- the writes of rows
 
-write_due : Rows Scalar → ℕ → PlanRow → Write Scalar
-write_due tree moment row = write_of (due_write tree moment row.action)
-
-due-is : (tree : Rows Scalar) (moment : ℕ) (rows : List PlanRow) → map write_of (due tree moment rows) ≡ map (write_due tree moment) rows
-unfolding write_due
-due-is tree moment [] = refl
-due-is tree moment (row ∷ rows) = ap (λ l. write_of (due_write tree moment row.action) ∷ l) (due-is tree moment rows)
-
-path-due : (tree : Rows Scalar) (moment : ℕ) (row : PlanRow) → (write_due tree moment row).path ≡ path_of row.action
-unfolding write_due
-path-due tree moment row = by_action row.action where
-  by_action : (a : Action) → (write_of (due_write tree moment a)).path ≡ path_of a
-  by_action (Put placement) = refl
-  by_action (Keep path) = refl
-
-none_due : (tree : Rows Scalar) (moment : ℕ) (p : Path) (rows : List PlanRow) → list_any (λ r. meet (path_of r.action) p) rows ≡ false → list_any (λ w. meet w.path p) (map (write_due tree moment) rows) ≡ false
-none_due tree moment p [] h = refl
-none_due tree moment p (row ∷ rows) h =
+none_due : (tree : Rows Scalar) (b : List Basic) (moment : ℕ) (p : Path) (rows : List PlanRow) → list_any (λ r. meet (path_of r.action) p) rows ≡ false → list_any (λ w. meet w.path p) (map write_of (due_after tree b moment rows)) ≡ false
+none_due tree b moment p [] h = refl
+none_due tree b moment p (row ∷ rows) h =
     let parts = or_parts (meet (path_of row.action) p) _ h in
-    ap (λ b. b || list_any (λ w. meet w.path p) (map (write_due tree moment) rows)) (ap (λ x. meet x p) (path-due tree moment row) ∙ parts.0)
-    ∙ none_due tree moment p rows parts.1
-
-keep-due : (tree : Rows Scalar) (moment q : ℕ) (p : Path) → write_due tree moment (record { q = q; action = Keep p }) ≡ write p (value_at p tree)
-unfolding write_due
-keep-due tree moment q p = ap (write p) (rows_of_option (value_at p tree))
+    let made = due_write tree b moment row.action in
+    ap (λ c. c || list_any (λ w. meet w.path p) (map write_of (due_after tree (b ++ made ∷ []) moment rows))) (ap (λ x. meet x p) (path-due tree b moment row.action) ∙ parts.0)
+    ∙ none_due tree (b ++ made ∷ []) moment p rows parts.1
 
 -- ---- lists
 
@@ -117,8 +99,11 @@ cancel_keeps tree moment q p before later = λ value far. ap (λ l. value_at p (
   near : PlanRow → Bool
   near r = meet (path_of r.action) p
 
-  W : List PlanRow → List (Write Scalar)
-  W rows = map (write_due tree moment) rows
+  W : List Basic → List PlanRow → List (Write Scalar)
+  W b rows = map write_of (due_after tree b moment rows)
+
+  W-append : (xs ys : List PlanRow) → W [] (xs ++ ys) ≡ W [] xs ++ W (due_after tree [] moment xs) ys
+  W-append xs ys = ap (map write_of) (due_after-append tree [] moment xs ys) ∙ map-append write_of (due_after tree [] moment xs) (due_after tree (due_after tree [] moment xs) moment ys)
 
   far_in : (m : PlanRow → Bool) (xs : List PlanRow) → list_any near xs ≡ false → list_any near (filter m xs) ≡ false
   far_in m xs far = false_of _ _ (any_filter near m xs) far
@@ -130,15 +115,19 @@ cancel_keeps tree moment q p before later = λ value far. ap (λ l. value_at p (
       (false_of _ _ (any_implies (λ l. covers l c) near later (λ a k. or_left (is_prefix (path_of a.action) p) _ k)) far)
 
   by_put : (M : PlanRow → Bool) → InOrder tree → list_any near (lasting later) ≡ false → (M c ≡ false → list_any near (filter M early) ≡ false) →
-      (b : Bool) → M c ≡ b → value_at p (tree_after (write [] tree ∷ W (filter M early ++ cond b (c ∷ filter M (lasting later)) (filter M (lasting later))))) ≡ value_at p tree
+      (b : Bool) → M c ≡ b → value_at p (tree_after (write [] tree ∷ W [] (filter M early ++ cond b (c ∷ filter M (lasting later)) (filter M (lasting later))))) ≡ value_at p tree
   by_put M order far clear true m =
-      ap (λ l. value_at p (tree_after (write [] tree ∷ l))) (map-append (write_due tree moment) (filter M early) (c ∷ filter M (lasting later)))
-      ∙ ap (λ l. value_at p (tree_after l)) (sym (append_assoc (write [] tree ∷ W (filter M early)) (write_due tree moment c ∷ []) (W (filter M (lasting later)))))
-      ∙ value_kept p ((write [] tree ∷ W (filter M early)) ++ write_due tree moment c ∷ []) (W (filter M (lasting later))) (none_due tree moment p (filter M (lasting later)) (far_in M (lasting later) far))
-      ∙ ap (λ w. value_at p (tree_after ((write [] tree ∷ W (filter M early)) ++ w ∷ []))) (keep-due tree moment q p)
-      ∙ value_put p (write [] tree ∷ W (filter M early)) (value_at p tree) (in_order-value_at p tree order)
+      let first = filter M early in
+      let rest = filter M (lasting later) in
+      let done = due_after tree [] moment first in
+      let keep = due_write tree done moment (Keep p) in
+      ap (λ l. value_at p (tree_after (write [] tree ∷ l))) (W-append first (c ∷ rest))
+      ∙ ap (λ l. value_at p (tree_after l)) (sym (append_assoc (write [] tree ∷ W [] first) (write_of keep ∷ []) (W (done ++ keep ∷ []) rest)))
+      ∙ value_kept p ((write [] tree ∷ W [] first) ++ write_of keep ∷ []) (W (done ++ keep ∷ []) rest) (none_due tree (done ++ keep ∷ []) moment p rest (far_in M (lasting later) far))
+      ∙ ap (λ w. value_at p (tree_after ((write [] tree ∷ W [] first) ++ w ∷ []))) (keep-due tree done moment p)
+      ∙ value_put p (write [] tree ∷ W [] first) (value_at p tree) (in_order-value_at p tree order)
   by_put M order far clear false m =
-      value_kept p (write [] tree ∷ []) (W (filter M early ++ filter M (lasting later))) (none_due tree moment p (filter M early ++ filter M (lasting later))
+      value_kept p (write [] tree ∷ []) (W [] (filter M early ++ filter M (lasting later))) (none_due tree [] moment p (filter M early ++ filter M (lasting later))
       (list_any-append near (filter M early) (filter M (lasting later)) ∙ ap (λ b. b || list_any near (filter M (lasting later))) (clear m) ∙ far_in M (lasting later) far))
       ∙ value_alone p tree order
 
@@ -160,7 +149,6 @@ cancel_keeps tree moment q p before later = λ value far. ap (λ l. value_at p (
 
   kept : IsValue tree → list_any near later ≡ false → value_at p (applied tree (due tree moment (plan_of (before ++ c ∷ later)))) ≡ value_at p tree
   kept value far =
-      ap (λ l. value_at p (tree_after (write [] tree ∷ l))) (due-is tree moment (filter (matters left) left))
-      ∙ ap (λ l. value_at p (tree_after (write [] tree ∷ W (filter (matters left) l)))) (left_is far)
-      ∙ ap (λ l. value_at p (tree_after (write [] tree ∷ W l))) (filter-append (matters left) early (c ∷ lasting later))
+      ap (λ l. value_at p (tree_after (write [] tree ∷ W [] (filter (matters left) l)))) (left_is far)
+      ∙ ap (λ l. value_at p (tree_after (write [] tree ∷ W [] l))) (filter-append (matters left) early (c ∷ lasting later))
       ∙ by_put (matters left) value.in_order (false_of _ _ (any_lasting near later) far) (clear (left_is far)) (matters left c) refl

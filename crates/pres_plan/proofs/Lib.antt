@@ -1,9 +1,11 @@
 pub mod Arrivals
 pub mod Cancels
 pub mod Covered
+pub mod Due
+pub mod Earlier
 pub mod Fitting
 pub mod Grows
-pub mod Kept
+pub mod HeldAfter
 pub mod Left
 pub mod Numbers
 pub mod Orders

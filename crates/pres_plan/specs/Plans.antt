@@ -13,7 +13,7 @@ use Rattle.pres_tree.specs.declared.scalar.Scalar.{Scalar}
 use Rattle.pres_write.specs.declared.basic.Basic.{Basic}
 use Rattle.pres_write.specs.declared.draft.DraftLeaf.{DraftLeaf}
 use Rattle.pres_write.specs.Basics.{basic, applied}
-use Rattle.pres_write.specs.Drafts.{settled}
+use Rattle.pres_write.specs.Settling.{settled_write}
 use Rattle.pres_plan.specs.declared.row.Action.{Action}
 use Rattle.pres_plan.specs.declared.row.Action.TheVariants.{Put, Keep}
 use Rattle.pres_plan.specs.declared.row.PlanRow.{PlanRow}
@@ -98,20 +98,30 @@ lent_row parts = record { q = parts.0; action = action_of parts.1.now (lent_draf
 
 -- ---- the end
 
--- what an action writes: a put its draft at the moment, a row that keeps what stands at its path
-abbrev pub due_write : Rows Scalar → ℕ → Action → Basic
-due_write tree moment (Put placement) = basic placement.0 (settled moment placement.1)
-due_write tree moment (Keep path) = basic path (value_at path tree)
+-- what an action writes after the writes that were due before it: a put its draft, its increments on the tree that these
+-- leave; a row that keeps what stood at its path before all of them
+abbrev pub due_write : Rows Scalar → List Basic → ℕ → Action → Basic
+due_write tree before moment (Put placement) = settled_write (applied tree before) moment placement
+due_write tree before moment (Keep path) = basic path (value_at path tree)
 
-abbrev pub due_row : Rows Scalar → ℕ → PlanRow → DueRow
-due_row tree moment row = record { q = row.q; basic = due_write tree moment row.action }
+-- the writes of these rows after those that were due before them
+abbrev pub due_after : Rows Scalar → List Basic → ℕ → List PlanRow → List Basic
+due_after tree before moment [] = []
+due_after tree before moment (row ∷ rows) =
+    let made = due_write tree before moment row.action in made ∷ due_after tree (before ++ made ∷ []) moment rows
+
+-- the writes of all rows
+abbrev pub due : Rows Scalar → ℕ → List PlanRow → List Basic
+due tree moment rows = due_after tree [] moment rows
+
+-- each with the number of the message that asked for it
+abbrev pub numbered : List PlanRow → List Basic → List DueRow
+numbered [] writes = []
+numbered (row ∷ rows) [] = []
+numbered (row ∷ rows) (b ∷ writes) = record { q = row.q; basic = b } ∷ numbered rows writes
 
 abbrev pub due_rows : Rows Scalar → ℕ → List PlanRow → List DueRow
-due_rows tree moment rows = map (due_row tree moment) rows
-
--- the writes alone
-abbrev pub due : Rows Scalar → ℕ → List PlanRow → List Basic
-due tree moment rows = map (λ row. due_write tree moment row.action) rows
+due_rows tree moment rows = numbered rows (due tree moment rows)
 
 -- ---- laws
 

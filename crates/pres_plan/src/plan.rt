@@ -185,9 +185,14 @@ impl Plan {
         ensures rows { IfOk result (λ made. made.items ≡ due_rows tree.now moment self.now) }
         ensures err { IfErr result (λ e. e ≡ Memory) }
     {
-        let mut made = Vec::with_capacity(alloc, self.standing.rows.len())?;
+        let writes = self.due_writes(alloc, tree, moment)?.into_vec();
+        let mut made = Vec::with_capacity(alloc, writes.len())?;
+        let mut rest = writes.into_iter();
         for (_, row) in self.standing.rows.as_slice() {
-            made.push(row.due(alloc, tree, moment)?)?;
+            let Some(basic) = rest.next() else {
+                unreachable!();
+            };
+            made.push(DueRow { q: row.q, basic })?;
         }
         Ok(made)
     }
@@ -204,7 +209,8 @@ impl Plan {
     {
         let mut made = Vec::with_capacity(alloc, self.standing.rows.len())?;
         for (_, row) in self.standing.rows.as_slice() {
-            made.push(row.action.write(alloc, tree, moment)?)?;
+            let write = row.action.write(alloc, tree, made.as_slice(), moment)?;
+            made.push(write)?;
         }
         Ok(Items::of(made))
     }

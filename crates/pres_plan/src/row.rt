@@ -1,13 +1,16 @@
 //! Actions, the rows of a plan, and the writes that they make.
 
-ghost use Rattle.std.specs.Prelude.{◌≡◌, IfOk};
-ghost use Rattle.pres_tree.specs.Rows.{Fits, value_at};
-ghost use Rattle.pres_write.specs.Basics.{basic};
-ghost use Rattle.pres_plan.specs.Plans.{path_of, is_put, lent_row, due_write, due_row};
+ghost use Rattle.std.specs.Prelude.{◌≡◌, false, IfOk, option_copied};
+ghost use Rattle.std.specs.List.{list_any};
+ghost use Rattle.pres_tree.specs.Paths.{is_prefix};
+ghost use Rattle.pres_tree.specs.Rows.{Fits, rows_in, value_at};
+ghost use Rattle.pres_write.specs.Basics.{applied, basic};
+ghost use Rattle.pres_write.specs.Settling.{settled};
+ghost use Rattle.pres_plan.specs.Plans.{path_of, is_put, lent_row, due_write};
 
 use pres_ids::Number;
 use pres_tree::{Path, Tree};
-use pres_write::{Basic, Draft, Moment, Placement, settle};
+use pres_write::{Basic, Draft, Moment, Placement, looks, settle};
 use std::alloc::{AllocError, Global};
 
 /// An action for a place.
@@ -37,19 +40,23 @@ impl Action {
         matches!(self, Action::Put(_))
     }
 
-    // The write that it makes on the tree at the moment.
+    // The write that it makes at the moment, after the writes that were due before it: none of
+    // these is at its path or below it.
     pub(crate) fn write(
         &self,
         alloc: Global,
         tree: &Tree,
+        before: &[Basic],
         moment: Moment,
     ) -> Result<Basic, AllocError>
-        ensures { IfOk result (λ made. made ≡ due_write tree.now moment self.now) }
+        requires { list_any (λ b. is_prefix (path_of self.now) b.path) before.now ≡ false }
+        ensures { IfOk result (λ made. made ≡ due_write tree.now before.now moment self.now) }
     {
         match self {
             Action::Put(placement) => {
                 let path = placement.path().copy(alloc)?;
-                let value = settle(alloc, placement.draft(), moment)?;
+                let held = held_for(tree, before, &path, placement.draft(), moment);
+                let value = settle(alloc, placement.draft(), held, moment)?;
                 Ok(fitting(path, value))
             }
             Action::Keep(path) => {
@@ -58,6 +65,45 @@ impl Action {
             }
         }
     }
+}
+
+// What the draft reads at the path after the writes, where it has an increment.
+fn held_for<'a>(
+    tree: &'a Tree,
+    before: &'a [Basic],
+    path: &Path,
+    draft: &Draft,
+    moment: Moment,
+) -> Option<&'a Tree>
+    requires { list_any (λ b. is_prefix path.now b.path) before.now ≡ false }
+    ensures { settled (rows_in (option_copied result)) moment draft.now
+        ≡ settled (value_at path.now (applied tree.now before.now)) moment draft.now }
+{
+    if looks(draft, moment) {
+        held_after(tree, before, path)
+    } else {
+        None
+    }
+}
+
+// What stands at the path after the writes, of which none is at it or below it: what the last one
+// above it put there, or what the tree holds. It takes no memory.
+fn held_after<'a>(tree: &'a Tree, before: &'a [Basic], path: &Path) -> Option<&'a Tree>
+    requires { list_any (λ b. is_prefix path.now b.path) before.now ≡ false }
+    ensures { rows_in (option_copied result) ≡ value_at path.now (applied tree.now before.now) }
+{
+    // it ensures that the tree's rows are in order
+    let _ = tree.is_empty();
+    let Some((last, earlier)) = before.split_last() else {
+        return tree.at(path);
+    };
+    if !last.path().is_prefix_of(path) {
+        return held_after(tree, earlier, path);
+    }
+    let value = last.value()?;
+    // it ensures that the value's rows are in order
+    let _ = value.is_empty();
+    value.at_below(path, last.path().len())
 }
 
 // The write of a value that may stand at the path.
@@ -100,21 +146,6 @@ impl PlanRow {
             Action::Put(placement) => (self.q, placement.path(), Some(placement.draft())),
             Action::Keep(path) => (self.q, path, None),
         }
-    }
-
-    // The write that it makes on the tree at the moment, with the number of its message.
-    pub(crate) fn due(
-        &self,
-        alloc: Global,
-        tree: &Tree,
-        moment: Moment,
-    ) -> Result<DueRow, AllocError>
-        ensures { IfOk result (λ made. made ≡ due_row tree.now moment self.now) }
-    {
-        Ok(DueRow {
-            q: self.q,
-            basic: self.action.write(alloc, tree, moment)?,
-        })
     }
 }
 

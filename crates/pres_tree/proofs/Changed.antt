@@ -34,7 +34,7 @@ pub with_leaves-sorted_by : {A B : Type 0} (f : A → B) (v : Rows A) → with_l
 with_leaves-sorted_by f [] = refl
 with_leaves-sorted_by f (r ∷ v) = with_leaves-put f r.0 r.1 (sorted_by path_cmp v) ∙ ap (put path_cmp r.0 (f r.1)) (with_leaves-sorted_by f v)
 
-child_rows-with : {A B : Type 0} (f : A → B) (es : List (Key × Rows A)) → child_rows (children_with f es) ≡ with_leaves f (child_rows es)
+pub child_rows-with : {A B : Type 0} (f : A → B) (es : List (Key × Rows A)) → child_rows (children_with f es) ≡ with_leaves f (child_rows es)
 child_rows-with f [] = refl
 child_rows-with f (e ∷ es) =
     (λ i. sym (with_leaves-placed f (e.0 ∷ []) e.1) i ++ child_rows-with f es i) ∙ sym (with_leaves-append f (placed (e.0 ∷ []) e.1) (child_rows es))

@@ -1,8 +1,10 @@
 pub mod Last
+pub mod After
 pub mod Found
 pub mod Nodes
 pub mod Keys
 pub mod Changed
+pub mod ChangedOn
 pub mod Reading
 pub mod Values
 pub mod Depths

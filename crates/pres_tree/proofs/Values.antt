@@ -61,7 +61,7 @@ below-is (k ∷ p) (l ∷ y) x e = by_key (same_key k l) refl e (below-is p y x)
   by_key true h g f = λ i. sym (key_same k l h) i ∷ f g i
   by_key false h g f = absurd (true≢false (sym (ap is_some g)))
 
-prefix-append : (p z : Path) → is_prefix p (p ++ z) ≡ true
+pub prefix-append : (p z : Path) → is_prefix p (p ++ z) ≡ true
 prefix-append p z = ap is_some (below-append p z)
 
 pub cons_prefix : (k m : Key) (a x : Path) → is_prefix (k ∷ a) (m ∷ x) ≡ true → (k ≡ m) × (is_prefix a x ≡ true)

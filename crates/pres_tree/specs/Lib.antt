@@ -1,3 +1,4 @@
+pub mod LeavesOn
 pub mod Children
 pub mod Falls
 pub mod Faults

@@ -5,6 +5,7 @@
 #![tactic(auto)]
 
 mod as_json;
+mod change_on;
 pub mod children;
 mod equal;
 mod fault;
@@ -18,6 +19,7 @@ mod scalar;
 mod text;
 
 pub use as_json::{OfTree, TreeJson};
+pub use change_on::ChangeOn;
 pub use children::Children;
 pub use fault::TreeFault;
 pub use key::Key;

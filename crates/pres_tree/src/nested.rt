@@ -1,6 +1,6 @@
 //! Values: nothing, one leaf, or values under keys.
 
-ghost use Rattle.std.specs.Prelude.{◌≡◌, ◌∷◌, ◌≤◌, MatchOption, IfOk, IfErr, false, [], length, take, option_map};
+ghost use Rattle.std.specs.Prelude.{◌≡◌, ◌∷◌, ◌≤◌, MatchOption, IfOk, IfErr, false, [], length, take, drop, option_map};
 ghost use Rattle.std.specs.BTreeMap.{IsOrdered};
 ghost use Rattle.pres_tree.specs.declared.fault.TreeFault.TheVariants.{Memory};
 ghost use Rattle.pres_tree.specs.Keys.{key_cmp};
@@ -117,6 +117,16 @@ impl<L> Nested<L> {
         self.find(path.keys())
     }
 
+    /// What stands at the path without its first keys, so many or all.
+    pub fn at_below(&self, path: &Path, depth: usize) -> Option<&Nested<L>>
+        ensures { MatchOption result
+            (value_at (drop depth path.now) self.now ≡ [])
+            (λ t. (is_null t.now ≡ false) × IsValue t.now
+            × (value_at (drop depth path.now) self.now ≡ t.now)) }
+    {
+        self.find(without_first(path.keys(), depth))
+    }
+
     // The value at the place that the keys name, where something stands there.
     fn find(&self, keys: &[Key]) -> Option<&Nested<L>>
         ensures { MatchOption result
@@ -168,6 +178,13 @@ fn first(keys: &[Key], count: usize) -> &[Key]
     ensures { result.now ≡ take count keys.now }
 {
     &keys[..count.min(keys.len())]
+}
+
+// The keys without the first, so many or all.
+fn without_first(keys: &[Key], depth: usize) -> &[Key]
+    ensures { result.now ≡ drop depth keys.now }
+{
+    &keys[depth.min(keys.len())..]
 }
 
 impl<L: Drop> Nested<L> {

@@ -1,5 +1,5 @@
 -- How deep the JSON of an operation nests: what is read without a fault nests no deeper than the levels left.
-use Rattle.std.proofs.Common.{◌≡◌, ◌⊎◌, ℕ, ◌-◌, ◌≤◌, ◌==◌, Bool, true, false, cond, List, [], ◌∷◌, Option, Some, None, refl, ap, sym, ◌∙◌, arith, inl, inr}
+use Rattle.std.proofs.Common.{◌≡◌, ◌⊎◌, ℕ, ◌+◌, ◌-◌, ◌≤◌, ◌==◌, Bool, true, false, cond, List, [], ◌∷◌, Option, Some, None, refl, ap, sym, ◌∙◌, arith, inl, inr}
 use Rattle.std.proofs.lemmas.Bool.Decides.{nat_tests}
 use Rattle.std.specs.Option.{option_or}
 use Rattle.serde_json.specs.Data.{Data, null, boolean, number, string, array, object, Members, no_members, member, depth, members_depth}
@@ -63,9 +63,9 @@ rows_solid g (r ∷ v) h = members_solid (with_row r.0 (g r.1) (json_of g v)) (r
 
 -- ---- reading without a fault
 
--- what a kind of leaf reads as a leaf nests one level at most, and all that holds nothing is read as a leaf
-pub record Flat {A : Type 0} (f : Data → Reading A) : Type 0 where
-  pub low : (d : Data) (a : A) → f d ≡ leaf a → depth d ≤ 1
+-- what a kind of leaf reads as a leaf nests one level and so many more at most, and all that holds nothing is read as a leaf
+pub record Flat {A : Type 0} (more : ℕ) (f : Data → Reading A) : Type 0 where
+  pub low : (d : Data) (a : A) → f d ≡ leaf a → depth d ≤ 1 + more
   pub booleans : (b : Bool) → is_leaf (f (boolean b)) ≡ true
   pub numbers : (n : _) → is_leaf (f (number n)) ≡ true
   pub strings : (s : List ℕ) → is_leaf (f (string s)) ≡ true
@@ -90,13 +90,13 @@ by_reading n (bad e) o h = absurd (refused (n == 0) e h)
 not_branch : {A : Type 0} (r : Reading A) → is_leaf r ≡ true → r ≡ branch → ⊥
 not_branch r h e = let no : false ≡ true = ap is_leaf (sym e) ∙ h in cc
 
-leaf_low : {A : Type 0} (f : Data → Reading A) → Flat f → (d : Data) (n : ℕ) → depth d ≡ 0 → is_leaf (f d) ≡ true → (o : Option TreeFault) → fault_or n (f d) o ≡ None → (1 ≤ n) × (depth d ≤ n)
+leaf_low : {A : Type 0} {more : ℕ} (f : Data → Reading A) → Flat more f → (d : Data) (n : ℕ) → depth d ≡ 0 → is_leaf (f d) ≡ true → (o : Option TreeFault) → fault_or n (f d) o ≡ None → (1 ≤ n) × (depth d ≤ n + more)
 leaf_low f flat d n e held o h = elim (by_reading n (f d) o h) [
   | inl w ↦ absurd (not_branch (f d) held w.0)
   | inr w ↦ (w.2, omega (arith, e))
 ]
 
-object_low : {A : Type 0} (f : Data → Reading A) → Flat f → (ms : Members) (n : ℕ) → (members_fault f (n - 1) ms ≡ None → (1 ≤ n - 1) × (members_depth ms ≤ n - 1)) → fault_or n (f (object ms)) (members_fault f (n - 1) ms) ≡ None → (1 ≤ n) × (depth (object ms) ≤ n)
+object_low : {A : Type 0} {more : ℕ} (f : Data → Reading A) → Flat more f → (ms : Members) (n : ℕ) → (members_fault f (n - 1) ms ≡ None → (1 ≤ n - 1) × (members_depth ms ≤ n - 1 + more)) → fault_or n (f (object ms)) (members_fault f (n - 1) ms) ≡ None → (1 ≤ n) × (depth (object ms) ≤ n + more)
 object_low f flat ms n members h = elim (by_reading n (f (object ms)) (members_fault f (n - 1) ms) h) [
   | inl w ↦ let low = members w.1 in (omega (arith, low.0), omega (arith, low.0, low.1))
   | inr w ↦ (w.2, omega (arith, flat.low (object ms) w.0 w.1, w.2))
@@ -104,7 +104,7 @@ object_low f flat ms n members h = elim (by_reading n (f (object ms)) (members_f
 
 -- something solid takes a level, and nests no deeper than the levels left
 mutual
-  solid_low : {A : Type 0} (f : Data → Reading A) → Flat f → (d : Data) (n : ℕ) → Solid d → fault_of f n d ≡ None → (1 ≤ n) × (depth d ≤ n)
+  solid_low : {A : Type 0} {more : ℕ} (f : Data → Reading A) → Flat more f → (d : Data) (n : ℕ) → Solid d → fault_of f n d ≡ None → (1 ≤ n) × (depth d ≤ n + more)
   solid_low f flat null n s h = absurd s
   solid_low f flat (boolean b) n s h = leaf_low f flat (boolean b) n refl (flat.booleans b) None h
   solid_low f flat (number x) n s h = leaf_low f flat (number x) n refl (flat.numbers x) None h
@@ -112,21 +112,21 @@ mutual
   solid_low f flat (array ds) n s h = absurd s
   solid_low f flat (object ms) n s h = object_low f flat ms n (λ e. members_low f flat ms (n - 1) s.0 s.1 e) h
 
-  members_low : {A : Type 0} (f : Data → Reading A) → Flat f → (ms : Members) (n : ℕ) → HasMembers ms → AllSolid ms → members_fault f n ms ≡ None → (1 ≤ n) × (members_depth ms ≤ n)
+  members_low : {A : Type 0} {more : ℕ} (f : Data → Reading A) → Flat more f → (ms : Members) (n : ℕ) → HasMembers ms → AllSolid ms → members_fault f n ms ≡ None → (1 ≤ n) × (members_depth ms ≤ n + more)
   members_low f flat no_members n some s h = absurd some
   members_low f flat (member k d ms) n some s h =
       let faults = no_fault (fault_of f n d) (members_fault f n ms) ((no_fault (key_fault k) _ h).1) in
       let first = solid_low f flat d n s.0 faults.0 in
       (first.0, omega (arith, first.1, rest_low f flat ms n s.1 faults.1))
 
-  rest_low : {A : Type 0} (f : Data → Reading A) → Flat f → (ms : Members) (n : ℕ) → AllSolid ms → members_fault f n ms ≡ None → members_depth ms ≤ n
+  rest_low : {A : Type 0} {more : ℕ} (f : Data → Reading A) → Flat more f → (ms : Members) (n : ℕ) → AllSolid ms → members_fault f n ms ≡ None → members_depth ms ≤ n + more
   rest_low f flat no_members n s h = omega arith
   rest_low f flat (member k d ms) n s h =
       let faults = no_fault (fault_of f n d) (members_fault f n ms) ((no_fault (key_fault k) _ h).1) in
       omega (arith, (solid_low f flat d n s.0 faults.0).1, rest_low f flat ms n s.1 faults.1)
 
 -- printed rows that are read without a fault nest no deeper than the levels
-pub rows_low : {A B : Type 0} (f : Data → Reading A) (g : B → Data) → Flat f → ((b : B) → Solid (g b)) → (v : Rows B) (n : ℕ) → fault_of f n (json_of g v) ≡ None → depth (json_of g v) ≤ n
+pub rows_low : {A B : Type 0} {more : ℕ} (f : Data → Reading A) (g : B → Data) → Flat more f → ((b : B) → Solid (g b)) → (v : Rows B) (n : ℕ) → fault_of f n (json_of g v) ≡ None → depth (json_of g v) ≤ n + more
 rows_low f g flat solid [] n h = omega arith
 rows_low f g flat solid (r ∷ v) n h =
     (solid_low f flat (with_row r.0 (g r.1) (json_of g v)) n (row_solid r.0 (g r.1) (json_of g v) (solid r.1) (rows_solid g v solid)) h).1

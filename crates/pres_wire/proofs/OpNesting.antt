@@ -21,12 +21,12 @@ use Rattle.pres_tree.specs.JsonReading.{Reading, branch, leaf, bad, is_leaf, fau
 use Rattle.pres_tree.specs.JsonPrinting.{json_of}
 use Rattle.pres_tree.specs.Scalars.{scalar_printing, number_reading}
 use Rattle.pres_write.specs.declared.draft.DraftLeaf.{DraftLeaf}
-use Rattle.pres_write.specs.declared.draft.DraftLeaf.TheVariants.{Fixed, Timestamp}
+use Rattle.pres_write.specs.declared.draft.DraftLeaf.TheVariants.{Fixed, Timestamp, Increment}
 use Rattle.pres_write.specs.declared.fault.WriteFault.{WriteFault}
 use Rattle.pres_write.specs.declared.fault.WriteFault.TheVariants.{ManyPaths}
 use Rattle.pres_write.specs.declared.op.Op.{Op}
 use Rattle.pres_write.specs.declared.op.Op.TheVariants.{Set, Update, Tx}
-use Rattle.pres_write.specs.Drafts.{fixed, is_timestamp, is_one, placeholder, slot_reading, unless_placeholder, fixed_reading, slot_printing}
+use Rattle.pres_write.specs.Drafts.{fixed, increment_of, server_value, is_one, placeholder, slot_reading, unless_placeholder, fixed_reading, slot_printing}
 use Rattle.pres_write.specs.Updates.{Places, PlacesBelow, most_places}
 use Rattle.pres_write.specs.OpForms.{unless, set_read, update_read, tx_read, set_form, update_form, tx_form, op_json, op_read, place_fault, places_fault, places_read, below_read, as_update, named, members_from, values_json}
 use Rattle.pres_wire.proofs.Nesting.{Flat, Solid, rows_low}
@@ -41,6 +41,7 @@ scalar_solid (Text s) = tt
 slot_solid : (s : DraftLeaf) → Solid (slot_printing s)
 slot_solid (Fixed s) = scalar_solid s
 slot_solid Timestamp = (tt, (tt, tt))
+slot_solid (Increment by) = (tt, ((tt, (tt, tt)), tt))
 
 range_leaf : {A : Type 0} (b : Bool) (a : A) (e : TreeFault) → is_leaf (cond b (leaf a) (bad e)) ≡ true
 range_leaf true a e = refl
@@ -68,16 +69,8 @@ expected_low (string s) a h = omega arith
 expected_low (array ds) a h = cc
 expected_low (object ms) a h = absurd (no_leaf (get_member (codes ".sv") ms) a h)
 
-expected_flat : Flat fixed_reading
+expected_flat : Flat 0 fixed_reading
 expected_flat = record { low = expected_low; booleans = λ b. refl; numbers = number_leaf; strings = λ s. refl }
-
-timestamp_low : (d : Data) → is_timestamp d ≡ true → depth d ≡ 0
-timestamp_low null h = refl
-timestamp_low (boolean b) h = refl
-timestamp_low (number n) h = refl
-timestamp_low (string s) h = refl
-timestamp_low (array ds) h = cc
-timestamp_low (object ms) h = cc
 
 here : (k : List ℕ) (d v : Data) → get_member (codes ".sv") (member k d no_members) ≡ Some v → d ≡ v
 here k d v h =
@@ -87,26 +80,56 @@ here k d v h =
       | Greater ↦ λ e. cc
     ] h
 
-alone_low : (ms : Members) (v : Data) → get_member (codes ".sv") ms ≡ Some v → is_one ms ≡ true → is_timestamp v ≡ true → depth (object ms) ≤ 1
-alone_low no_members v g h t = cc
-alone_low (member k d no_members) v g h t = let low = ap depth (here k d v g) ∙ timestamp_low v t in omega (arith, low)
-alone_low (member k d (member l e ms)) v g h t = cc
+-- the one member under the name
+here_of : (name : List ℕ) (same : (k : List ℕ) (d v : Data) → get_member name (member k d no_members) ≡ Some v → d ≡ v) (ms : Members) (v : Data) → is_one ms ≡ true → get_member name ms ≡ Some v → depth (object ms) ≡ depth v + 1
+here_of name same no_members v o g = cc
+here_of name same (member k d no_members) v o g = let low = ap depth (same k d v g) in omega (arith, low)
+here_of name same (member k d (member l e ms)) v o g = cc
 
-both : (a b : Bool) → (a && b) ≡ true → (a ≡ true) × (b ≡ true)
-both true b h = (refl, h)
-both false b h = cc
+number_here : (k : List ℕ) (d v : Data) → get_member (codes "increment") (member k d no_members) ≡ Some v → d ≡ v
+number_here k d v h =
+    elim (slice_cmp nat_cmp (codes "increment") k) as (λ o. match_ordering o None (Some d) None ≡ Some v → d ≡ v) [
+      | Less ↦ λ e. cc
+      | Equal ↦ λ e. cc
+      | Greater ↦ λ e. cc
+    ] h
 
-chosen : (b : Bool) (s : DraftLeaf) → cond b (leaf Timestamp) (bad Placeholder) ≡ leaf s → b ≡ true
-chosen true s h = refl
-chosen false s h = cc
+increment_low : (o : Option Data) (s : DraftLeaf) → increment_of o ≡ leaf s → (v : Data) × (o ≡ Some v) × (depth v ≡ 0)
+increment_low None s h = cc
+increment_low (Some null) s h = cc
+increment_low (Some (boolean b)) s h = cc
+increment_low (Some (number n)) s h = (number n, refl, refl)
+increment_low (Some (string t)) s h = cc
+increment_low (Some (array ds)) s h = cc
+increment_low (Some (object ms)) s h = cc
 
-placeholder_low : (ms : Members) (o : Option Data) (s : DraftLeaf) → get_member (codes ".sv") ms ≡ o → placeholder ms o ≡ leaf s → depth (object ms) ≤ 1
+-- where a test chooses a leaf or none, it holds
+chosen : (b : Bool) (r : Reading DraftLeaf) (s : DraftLeaf) → cond b r (bad Placeholder) ≡ leaf s → (b ≡ true) × (r ≡ leaf s)
+chosen true r s h = (refl, h)
+chosen false r s h = cc
+
+server_low : (d : Data) (s : DraftLeaf) → server_value d ≡ leaf s → depth d ≤ 1
+server_low null s h = cc
+server_low (boolean b) s h = cc
+server_low (number n) s h = cc
+server_low (string t) s h = omega arith
+server_low (array ds) s h = cc
+server_low (object ms) s h =
+    let one = chosen (is_one ms) (increment_of (get_member (codes "increment") ms)) s h in
+    let found = increment_low (get_member (codes "increment") ms) s one.1 in
+    let low = here_of (codes "increment") number_here ms found.0 one.0 found.1.0 in
+    let none = found.1.1 in
+    omega (arith, low, none)
+
+placeholder_low : (ms : Members) (o : Option Data) (s : DraftLeaf) → get_member (codes ".sv") ms ≡ o → placeholder ms o ≡ leaf s → depth (object ms) ≤ 2
 placeholder_low ms None s g h = cc
 placeholder_low ms (Some v) s g h =
-    let holds = both (is_one ms) (is_timestamp v) (chosen (is_one ms && is_timestamp v) s h) in
-    alone_low ms v g holds.0 holds.1
+    let one = chosen (is_one ms) (server_value v) s h in
+    let low = here_of (codes ".sv") here ms v one.0 g in
+    let inner = server_low v s one.1 in
+    omega (arith, low, inner)
 
-slot_low : (d : Data) (s : DraftLeaf) → slot_reading d ≡ leaf s → depth d ≤ 1
+slot_low : (d : Data) (s : DraftLeaf) → slot_reading d ≡ leaf s → depth d ≤ 2
 slot_low null s h = omega arith
 slot_low (boolean b) s h = omega arith
 slot_low (number n) s h = omega arith
@@ -114,16 +137,16 @@ slot_low (string t) s h = omega arith
 slot_low (array ds) s h = cc
 slot_low (object ms) s h = placeholder_low ms (get_member (codes ".sv") ms) s refl h
 
-slot_flat : Flat slot_reading
+slot_flat : Flat 1 slot_reading
 slot_flat = record { low = slot_low; booleans = λ b. refl; numbers = λ x. fixed_leaf (number_reading x) ∙ number_leaf x; strings = λ s. refl }
 
 -- ---- parts that are read without a fault
 
-pub draft_low : (v : Rows DraftLeaf) (n : ℕ) → fault_of slot_reading n (json_of slot_printing v) ≡ None → depth (json_of slot_printing v) ≤ n
+pub draft_low : (v : Rows DraftLeaf) (n : ℕ) → fault_of slot_reading n (json_of slot_printing v) ≡ None → depth (json_of slot_printing v) ≤ n + 1
 draft_low v n h = rows_low slot_reading slot_printing slot_flat slot_solid v n h
 
 value_low : (v : Rows Scalar) (n : ℕ) → fault_of fixed_reading n (json_of scalar_printing v) ≡ None → depth (json_of scalar_printing v) ≤ n
-value_low v n h = rows_low fixed_reading scalar_printing expected_flat scalar_solid v n h
+value_low v n h = let low = rows_low fixed_reading scalar_printing expected_flat scalar_solid v n h in omega (arith, low)
 
 accepted : {A : Type 0} (o : Option TreeFault) (r : Result A WriteFault) (a : A) → unless o r ≡ Ok a → (o ≡ None) × (r ≡ Ok a)
 accepted None r a h = (refl, h)
@@ -134,26 +157,26 @@ accepted (Some e) r a h = cc
 put_low : (p : Path) (v : Rows DraftLeaf) (op : Op) → set_read (path_text p) (json_of slot_printing v) ≡ Ok op → depth (set_form (path_text p) (json_of slot_printing v)) ≤ 64
 put_low p v op read =
     let fault : fault_of slot_reading (33 - length (segments (path_text p))) (json_of slot_printing v) ≡ None = (accepted _ _ _ (accepted _ _ _ read).1).0 in
-    let low : depth (json_of slot_printing v) ≤ 33 - length (segments (path_text p)) = draft_low v _ fault in
+    let low : depth (json_of slot_printing v) ≤ 33 - length (segments (path_text p)) + 1 = draft_low v _ fault in
     omega (arith, low)
 
 tx_low : (p : Path) (expect : Rows Scalar) (new : Rows DraftLeaf) (op : Op) → tx_read (path_text p) (json_of scalar_printing expect) (json_of slot_printing new) ≡ Ok op
     → depth (tx_form (path_text p) (json_of scalar_printing expect) (json_of slot_printing new)) ≤ 64
 tx_low p expect new op read =
     let first : depth (json_of scalar_printing expect) ≤ 33 - length (segments (path_text p)) = value_low expect _ (accepted _ _ _ (accepted _ _ _ read).1).0 in
-    let second : depth (json_of slot_printing new) ≤ 33 - length (segments (path_text p)) = draft_low new _ (accepted _ _ _ (accepted _ _ _ (accepted _ _ _ read).1).1).0 in
+    let second : depth (json_of slot_printing new) ≤ 33 - length (segments (path_text p)) + 1 = draft_low new _ (accepted _ _ _ (accepted _ _ _ (accepted _ _ _ read).1).1).0 in
     omega (arith, first, second)
 
 -- each value is printed rows, so that it is low where it is read
 abbrev Lows : List (List ℕ × Data) → Type 0
 Lows [] = Unit {0}
-Lows (e ∷ es) = ((n : ℕ) → fault_of slot_reading n e.1 ≡ None → depth e.1 ≤ n) × Lows es
+Lows (e ∷ es) = ((n : ℕ) → fault_of slot_reading n e.1 ≡ None → depth e.1 ≤ n + 1) × Lows es
 
 lows_named : (places : Places) → Lows (named places)
 lows_named [] = tt
 lows_named (e ∷ es) = (λ n h. draft_low e.1 n h, lows_named es)
 
-lows_put : (k : List ℕ) (d : Data) (es : List (List ℕ × Data)) → ((n : ℕ) → fault_of slot_reading n d ≡ None → depth d ≤ n) → Lows es → Lows (put (slice_cmp nat_cmp) k d es)
+lows_put : (k : List ℕ) (d : Data) (es : List (List ℕ × Data)) → ((n : ℕ) → fault_of slot_reading n d ≡ None → depth d ≤ n + 1) → Lows es → Lows (put (slice_cmp nat_cmp) k d es)
 lows_put k d [] low h = (low, tt)
 lows_put k d (e ∷ es) low h =
     elim (slice_cmp nat_cmp k e.0) as (λ o. Lows (by_order o ((k, d) ∷ e ∷ es) ((e.0, d) ∷ es) (e ∷ put (slice_cmp nat_cmp) k d es))) [
@@ -174,7 +197,7 @@ not_deep : (b : Bool) (o : Option TreeFault) → cond b (Some TooDeep) o ≡ Non
 not_deep true o h = cc
 not_deep false o h = h
 
-members_low : (p : Path) (es : List (List ℕ × Data)) → Lows es → places_fault p (members_from es) ≡ None → members_depth (members_from es) ≤ 33
+members_low : (p : Path) (es : List (List ℕ × Data)) → Lows es → places_fault p (members_from es) ≡ None → members_depth (members_from es) ≤ 34
 members_low p [] h f = omega arith
 members_low p (e ∷ es) h f =
     let faults = no_fault (place_fault p e.0 e.1) (places_fault p (members_from es)) f in
@@ -193,7 +216,7 @@ update_low : (p : Path) (places : Places) (op : Op) → update_read (path_text p
 update_low p places op read =
     let below = below_of (below_read (segments (path_text p)) (values_json places)) op (accepted _ _ _ read).1 in
     let fault : places_fault (segments (path_text p)) (values_json places) ≡ None = (accepted _ _ _ (not_many (nat_lt most_places (length (places_read (values_json places)))) _ _ below.1)).0 in
-    let low : members_depth (values_json places) ≤ 33 = members_low (segments (path_text p)) (sorted_by (slice_cmp nat_cmp) (named places)) (lows_sorted (named places) (lows_named places)) fault in
+    let low : members_depth (values_json places) ≤ 34 = members_low (segments (path_text p)) (sorted_by (slice_cmp nat_cmp) (named places)) (lows_sorted (named places) (lows_named places)) fault in
     omega (arith, low)
 
 -- what is read as itself nests little

@@ -39,7 +39,7 @@ value_flat_low (string s) a h = omega arith
 value_flat_low (array ds) a h = cc
 value_flat_low (object ms) a h = cc
 
-pub value_flat : Flat scalar_reading
+pub value_flat : Flat 0 scalar_reading
 value_flat = record { low = value_flat_low; booleans = λ b. refl; numbers = number_leaf; strings = λ s. refl }
 
 tree_fault : (v : Rows Scalar) (d : Data) → IsValue v → ReadsBack scalar_reading v d → fault_of scalar_reading 33 d ≡ None

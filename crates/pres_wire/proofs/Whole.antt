@@ -17,7 +17,7 @@ use Rattle.pres_tree.specs.Rows.{Rows, rows_in}
 use Rattle.pres_tree.specs.JsonPrinting.{json_of, with_row, with_first, members_in}
 use Rattle.pres_tree.specs.Scalars.{scalar_printing}
 use Rattle.pres_write.specs.declared.draft.DraftLeaf.{DraftLeaf}
-use Rattle.pres_write.specs.declared.draft.DraftLeaf.TheVariants.{Fixed, Timestamp}
+use Rattle.pres_write.specs.declared.draft.DraftLeaf.TheVariants.{Fixed, Timestamp, Increment}
 use Rattle.pres_write.specs.declared.op.Op.{Op}
 use Rattle.pres_write.specs.declared.op.Op.TheVariants.{Set, Update, Tx}
 use Rattle.pres_write.specs.Drafts.{slot_printing}
@@ -91,6 +91,8 @@ whole_scalar (Text s) = refl
 pub whole_slot : (s : DraftLeaf) → has_float (slot_printing s) ≡ false
 whole_slot (Fixed s) = whole_scalar s
 whole_slot Timestamp = refl
+whole_slot (Increment (pos n)) = refl
+whole_slot (Increment (negsuc n)) = refl
 
 whole_puts : (k : List ℕ) (d : Data) (es : List (List ℕ × Data)) → has_float d ≡ false → members_have_float (members_from es) ≡ false → members_have_float (members_from (put (slice_cmp nat_cmp) k d es)) ≡ false
 whole_puts k d [] h g = neither (has_float d) false h refl

@@ -6,8 +6,7 @@ use Rattle.pres_tree.specs.declared.scalar.Scalar.{Scalar}
 use Rattle.pres_tree.specs.Rows.{Rows, IsValue, is_null, option_of, rows_in, value_at}
 use Rattle.pres_tree.proofs.SameRows.{same_by}
 use Rattle.pres_write.specs.declared.outcome.Outcome.TheVariants.{Wrote, Stale}
-use Rattle.pres_write.specs.Basics.{basic}
-use Rattle.pres_write.specs.Drafts.{settled}
+use Rattle.pres_write.specs.Settling.{settled_write}
 use Rattle.pres_write.specs.Outcomes.{compared}
 use Rattle.pres_write.specs.Transactions.{Comparison}
 
@@ -33,8 +32,8 @@ held_is rows None v h = sym (ap option_of h)
 held_is rows (Some t) v h = sym (option_of_some (rows t) h.0) ∙ ap option_of (sym h.2)
 
 -- the outcome by the test
-pub compared_as : (tree : Rows Scalar) (moment : ℕ) (t : Comparison) (r : Bool) → IsTrue r ↔ (value_at t.path tree ≡ t.expect) → compared tree moment t ≡ cond r (Wrote (basic t.path (settled moment t.new) ∷ [])) (Stale (option_of (value_at t.path tree)))
-compared_as tree moment t r h = ap (λ b. cond b (Wrote (basic t.path (settled moment t.new) ∷ [])) (Stale (option_of (value_at t.path tree)))) (sym (same_by r (value_at t.path tree) t.expect h))
+pub compared_as : (tree : Rows Scalar) (moment : ℕ) (t : Comparison) (r : Bool) → IsTrue r ↔ (value_at t.path tree ≡ t.expect) → compared tree moment t ≡ cond r (Wrote (settled_write tree moment (t.path, t.new) ∷ [])) (Stale (option_of (value_at t.path tree)))
+compared_as tree moment t r h = ap (λ b. cond b (Wrote (settled_write tree moment (t.path, t.new) ∷ [])) (Stale (option_of (value_at t.path tree)))) (sym (same_by r (value_at t.path tree) t.expect h))
 
 pub rows_unwrapped : {A : Type 0} (o : Option (Rows A)) (d : Rows A) → d ≡ [] → unwrap_or o d ≡ rows_in o
 rows_unwrapped None d h = h

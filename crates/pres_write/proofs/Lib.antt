@@ -12,4 +12,6 @@ pub mod Printed
 pub mod Puttable
 pub mod Putting
 pub mod Slots
+pub mod There
 pub mod Together
+pub mod Tokens

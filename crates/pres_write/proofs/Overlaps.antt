@@ -16,8 +16,8 @@ use Rattle.pres_tree.specs.Paths.{Path, path_cmp, below, is_prefix, meet, overla
 use Rattle.pres_tree.proofs.Found.{key_same}
 use Rattle.pres_tree.specs.Rows.{Rows}
 use Rattle.pres_write.specs.declared.draft.DraftLeaf.{DraftLeaf}
-use Rattle.pres_write.specs.Basics.{basic}
-use Rattle.pres_write.specs.Drafts.{settled}
+use Rattle.pres_tree.specs.declared.scalar.Scalar.{Scalar}
+use Rattle.pres_write.specs.Settling.{settled_write}
 use Rattle.pres_write.specs.Updates.{Places, update_writes}
 use Rattle.pres_write.proofs.Ordered.{any-put}
 
@@ -161,11 +161,11 @@ pub overlap-joined : (p : Path) (ps : List Path) → overlap (map (λ q. p ++ q)
 overlap-joined p [] = refl
 overlap-joined p (q ∷ ps) = λ i. any-joined p q ps i || overlap-joined p ps i
 
-pub paths_of_writes : (p : Path) (moment : ℕ) (es : Places) → map (λ b. b.path) (update_writes moment (record { path = p; places = es })) ≡ map (λ q. p ++ q) (keys_of es)
-paths_of_writes p moment [] = refl
-paths_of_writes p moment (e ∷ es) = ap (λ ps. (p ++ e.0) ∷ ps) (paths_of_writes p moment es)
+pub paths_of_writes : (p : Path) (tree : Rows Scalar) (moment : ℕ) (es : Places) → map (λ b. b.path) (update_writes tree moment (record { path = p; places = es })) ≡ map (λ q. p ++ q) (keys_of es)
+paths_of_writes p tree moment [] = refl
+paths_of_writes p tree moment (e ∷ es) = ap (λ ps. (p ++ e.0) ∷ ps) (paths_of_writes p tree moment es)
 
 -- the write of one place more
-pub writes_more : (p : Path) (moment : ℕ) (done : Places) (e : Path × Rows DraftLeaf) → update_writes moment (record { path = p; places = done ++ e ∷ [] }) ≡ update_writes moment (record { path = p; places = done }) ++ basic (p ++ e.0) (settled moment e.1) ∷ []
-writes_more p moment [] e = refl
-writes_more p moment (d ∷ done) e = ap (λ ws. basic (p ++ d.0) (settled moment d.1) ∷ ws) (writes_more p moment done e)
+pub writes_more : (p : Path) (tree : Rows Scalar) (moment : ℕ) (done : Places) (e : Path × Rows DraftLeaf) → update_writes tree moment (record { path = p; places = done ++ e ∷ [] }) ≡ update_writes tree moment (record { path = p; places = done }) ++ settled_write tree moment (p ++ e.0, e.1) ∷ []
+writes_more p tree moment [] e = refl
+writes_more p tree moment (d ∷ done) e = ap (λ ws. settled_write tree moment (p ++ d.0, d.1) ∷ ws) (writes_more p tree moment done e)

@@ -1,28 +1,16 @@
--- How a JSON value reads as a draft, and the value of a draft at a moment. An object with the name `.sv` is a
--- placeholder, as in Firebase Realtime Database's server values, or refused.
-use Rattle.std.specs.Prelude.{◌==◌, ◌&&◌, ℕ, Bool, true, false, if◌then◌else◌, codes, pos, Option, Some, None}
+-- How a JSON value reads as a draft. An object with the name `.sv` is a placeholder, as in Firebase Realtime Database's
+-- server values, or refused.
+use Rattle.std.specs.Prelude.{◌==◌, ℕ, List, Bool, true, false, if◌then◌else◌, codes, Option, Some, None}
 use Rattle.std.specs.Cmp.Lexicographic.{pointwise}
 use Rattle.serde_json.specs.Data.{Data, null, boolean, number, string, array, object, Members, no_members, member}
 use Rattle.serde_json.specs.Find.{get_member}
 use Rattle.pres_tree.specs.declared.fault.TreeFault.TheVariants.{Placeholder}
 use Rattle.pres_tree.specs.declared.scalar.Scalar.{Scalar}
-use Rattle.pres_tree.specs.declared.scalar.Scalar.TheVariants.{Int}
+use Rattle.pres_tree.specs.declared.scalar.Scalar.TheVariants.{Bool as BoolOf, Int, Text}
 use Rattle.pres_tree.specs.JsonReading.{Reading, branch, leaf, bad}
-use Rattle.pres_tree.specs.Rows.{Rows, with_leaves}
 use Rattle.pres_tree.specs.Scalars.{scalar_reading, scalar_printing}
 use Rattle.pres_write.specs.declared.draft.DraftLeaf.{DraftLeaf}
-use Rattle.pres_write.specs.declared.draft.DraftLeaf.TheVariants.{Fixed, Timestamp}
-
--- a placeholder becomes the moment
-abbrev pub settled_slot : ℕ → DraftLeaf → Scalar
-settled_slot moment (Fixed s) = s
-settled_slot moment Timestamp = Int (pos moment)
-
--- the value of a draft
-abbrev pub settled : ℕ → Rows DraftLeaf → Rows Scalar
-settled moment draft = with_leaves (settled_slot moment) draft
-
--- ---- JSON
+use Rattle.pres_write.specs.declared.draft.DraftLeaf.TheVariants.{Fixed, Timestamp, Increment}
 
 abbrev pub fixed : Reading Scalar → Reading DraftLeaf
 fixed branch = branch
@@ -42,10 +30,35 @@ is_one no_members = false
 is_one (member k d no_members) = true
 is_one (member k d (member l e ms)) = false
 
--- an object by its member `.sv`: that alone, and the word for the moment
+-- an increment by what a scalar would be: a whole number, refused as one
+abbrev pub increment_by : Reading Scalar → Reading DraftLeaf
+increment_by branch = bad Placeholder
+increment_by (leaf (BoolOf b)) = bad Placeholder
+increment_by (leaf (Int z)) = leaf (Increment z)
+increment_by (leaf (Text s)) = bad Placeholder
+increment_by (bad e) = bad e
+
+abbrev pub increment_of : Option Data → Reading DraftLeaf
+increment_of None = bad Placeholder
+increment_of (Some d) = increment_by (scalar_reading d)
+
+-- an object that has an increment alone
+abbrev pub increment_reading : Data → Reading DraftLeaf
+increment_reading null = bad Placeholder
+increment_reading (boolean b) = bad Placeholder
+increment_reading (number n) = bad Placeholder
+increment_reading (string s) = bad Placeholder
+increment_reading (array ds) = bad Placeholder
+increment_reading (object ms) = if is_one ms then increment_of (get_member (codes "increment") ms) else bad Placeholder
+
+-- what stands under `.sv`: the word for the moment, or an increment
+abbrev pub server_value : Data → Reading DraftLeaf
+server_value d = if is_timestamp d then leaf Timestamp else increment_reading d
+
+-- an object by its member `.sv`, which it has alone
 abbrev pub placeholder : Members → Option Data → Reading DraftLeaf
 placeholder ms None = branch
-placeholder ms (Some d) = if is_one ms && is_timestamp d then leaf Timestamp else bad Placeholder
+placeholder ms (Some d) = if is_one ms then server_value d else bad Placeholder
 
 abbrev pub slot_reading : Data → Reading DraftLeaf
 slot_reading null = branch
@@ -68,6 +81,11 @@ fixed_reading (string s) = scalar_reading (string s)
 fixed_reading (array ds) = branch
 fixed_reading (object ms) = unless_placeholder (get_member (codes ".sv") ms)
 
+-- an object of one member
+abbrev pub alone : List ℕ → Data → Data
+alone name d = object (member name d no_members)
+
 abbrev pub slot_printing : DraftLeaf → Data
 slot_printing (Fixed s) = scalar_printing s
-slot_printing Timestamp = object (member (codes ".sv") (string (codes "timestamp")) no_members)
+slot_printing Timestamp = alone (codes ".sv") (string (codes "timestamp"))
+slot_printing (Increment by) = alone (codes ".sv") (alone (codes "increment") (scalar_printing (Int by)))

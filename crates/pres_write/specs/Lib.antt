@@ -5,6 +5,7 @@ pub mod Moments
 pub mod OpForms
 pub mod Outcomes
 pub mod Placeholders
+pub mod Settling
 pub mod Transactions
 pub mod Unconditionals
 pub mod Updates

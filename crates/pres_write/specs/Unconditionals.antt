@@ -1,4 +1,4 @@
--- Operations that don't depend on the tree, so that they may be registered for a disconnection, and what they put.
+-- Operations that are carried out whatever stands, so that they may be registered for a disconnection, and what they put.
 use Rattle.std.specs.Prelude.{◌≡◌, ◌≤◌, ◌&&◌, ◌++◌, Bool, [], ◌∷◌, if◌then◌else◌, false, not, nat_le, length, map, Option, Some, None, Result, Ok, Err}
 use Rattle.std.specs.FinMap.Entries.{is_sorted}
 use Rattle.std.specs.Map.{keys_of}
@@ -17,7 +17,7 @@ abbrev pub as_op : Unconditional → Op
 as_op (Set p) = op.Set p
 as_op (Update u) = op.Update u
 
--- a transaction depends on the tree
+-- a transaction is carried out only where its place holds what it expects
 abbrev pub unconditional_of : Op → Option Unconditional
 unconditional_of (op.Set p) = Some (Set p)
 unconditional_of (op.Update u) = Some (Update u)

@@ -6,12 +6,12 @@ use Rattle.std.specs.List.Sorted.{IsStrictlySortedBy}
 use Rattle.pres_tree.specs.Paths.{Path, IsPath, max_depth, path_cmp, sorted_by, overlap}
 use Rattle.pres_tree.specs.Rows.{Rows, Fits, depth_of}
 use Rattle.pres_tree.specs.declared.fault.TreeFault.TheVariants.{TooDeep}
+use Rattle.pres_tree.specs.declared.scalar.Scalar.{Scalar}
 use Rattle.pres_write.specs.declared.basic.Basic.{Basic}
 use Rattle.pres_write.specs.declared.fault.WriteFault.{WriteFault}
 use Rattle.pres_write.specs.declared.fault.WriteFault.TheVariants.{Tree, Overlap, ManyPaths}
 use Rattle.pres_write.specs.declared.draft.DraftLeaf.{DraftLeaf}
-use Rattle.pres_write.specs.Basics.{basic}
-use Rattle.pres_write.specs.Drafts.{settled}
+use Rattle.pres_write.specs.Settling.{settled_write}
 
 -- drafts at places
 abbrev pub Places : Type 0
@@ -57,6 +57,6 @@ update_of p places = record { path = p; places = sorted_by path_cmp places }
 
 -- ---- what updates write
 
--- the writes of an update, in path order, its placeholders made the moment
-abbrev pub update_writes : ℕ → PlacesBelow → List Basic
-update_writes moment u = map (λ e. basic (u.path ++ e.0) (settled moment e.1)) u.places
+-- the writes of an update, in path order, each resolved on the tree before all of them
+abbrev pub update_writes : Rows Scalar → ℕ → PlacesBelow → List Basic
+update_writes tree moment u = map (λ e. settled_write tree moment (u.path ++ e.0, e.1)) u.places

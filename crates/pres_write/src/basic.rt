@@ -5,10 +5,10 @@ ghost use Rattle.pres_tree.specs.Paths.{max_depth};
 ghost use Rattle.pres_tree.specs.Rows.{Fits, depth_of, option_of, rows_in};
 ghost use Rattle.pres_tree.specs.declared.fault.TreeFault.TheVariants.{Memory};
 ghost use Rattle.pres_write.specs.Basics.{Apart, basic, FitsThere, AppliesFirst, applied};
-ghost use Rattle.pres_write.specs.Drafts.{settled};
+ghost use Rattle.pres_write.specs.Settling.{settled_write};
 ghost use Rattle.pres_write.specs.declared.fault.WriteFault.TheVariants.{Tree as TreeRefused};
 
-use crate::draft::{Draft, settle, settle_owned};
+use crate::draft::{Draft, settle_at, settle_at_owned};
 use crate::fault::WriteFault;
 use crate::items::Items;
 use crate::moment::Moment;
@@ -162,17 +162,18 @@ pub fn copy_writes(alloc: Global, writes: &[Basic]) -> Result<Items<Basic>, Allo
     Ok(Items::of(made))
 }
 
-// The write of a draft at its path, its placeholders made the moment.
+// The write of a draft at its path, resolved on the tree at the moment.
 pub(crate) fn settled_write(
     alloc: Global,
     path: Path,
     draft: &Draft,
+    tree: &Tree,
     moment: Moment,
 ) -> Result<Basic, AllocError>
     requires { Fits path draft.now }
-    ensures { IfOk result (λ made. made ≡ basic path (settled moment draft.now)) }
+    ensures { IfOk result (λ made. made ≡ settled_write tree.now moment (path, draft.now)) }
 {
-    let value = some_value(settle(alloc, draft, moment)?);
+    let value = some_value(settle_at(alloc, draft, tree, &path, moment)?);
     Ok(Basic { path, value })
 }
 
@@ -181,12 +182,13 @@ pub(crate) fn moved_write(
     alloc: Global,
     path: Path,
     draft: Draft,
+    tree: &Tree,
     moment: Moment,
 ) -> Result<Basic, AllocError>
     requires { Fits path draft }
-    ensures { IfOk result (λ made. made ≡ basic path (settled moment draft)) }
+    ensures { IfOk result (λ made. made ≡ settled_write tree.now moment (path, draft)) }
 {
-    let value = settle_owned(alloc, draft, moment)?;
+    let value = settle_at_owned(alloc, draft, tree, &path, moment)?;
     Ok(Basic::fitting(path, value))
 }
 

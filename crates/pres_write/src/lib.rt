@@ -17,7 +17,7 @@ mod update;
 
 pub use as_json::{DraftJson, OfDraft, OfOp, OpJson};
 pub use basic::{Basic, apply, apply_all, copy_writes, equal_writes};
-pub use draft::{Draft, DraftLeaf, DraftLeafForm, FixedForm, settle};
+pub use draft::{Draft, DraftLeaf, DraftLeafForm, FixedForm, looks, settle};
 pub use fault::WriteFault;
 pub use items::Items;
 pub use moment::Moment;

@@ -8,10 +8,11 @@ ghost use Rattle.pres_tree.specs.JsonPrinting.{tokens_of, IsPlain};
 ghost use Rattle.pres_tree.specs.declared.fault.TreeFault.TheVariants.{Memory};
 ghost use Rattle.serde_json.specs.Find.{as_object, get};
 ghost use Rattle.pres_write.specs.Basics.{Apart};
-ghost use Rattle.pres_write.specs.Outcomes.{resolved, writes_in};
+ghost use Rattle.pres_write.specs.Outcomes.{named_path, resolved, resolved_after, writes_in};
 ghost use Rattle.pres_write.specs.OpForms.{op_read, form_read, set_read, update_read, tx_read, with_part, IsRefusal, op_json, set_form, update_form, tx_form};
 ghost use Rattle.pres_write.specs.declared.fault.WriteFault.TheVariants.{Tree as TreeRefused};
 
+use crate::basic::{Basic, apply};
 use crate::draft::{DraftLeaf, DraftLeafForm, FixedForm};
 use crate::fault::WriteFault;
 use crate::moment::Moment;
@@ -280,9 +281,9 @@ impl Op {
         match self {
             Op::Set(placement) => {
                 let path = placement.path().copy(alloc)?;
-                Ok(one_write(alloc, path, placement.draft(), moment)?)
+                Ok(one_write(alloc, path, placement.draft(), tree, moment)?)
             }
-            Op::Update(update) => Ok(Outcome::Wrote(update.writes(alloc, moment)?)),
+            Op::Update(update) => Ok(Outcome::Wrote(update.writes(alloc, tree, moment)?)),
             Op::Tx(tx) => Ok(tx.compare(alloc, tree, moment)?),
         }
     }
@@ -301,11 +302,46 @@ impl Op {
         match self {
             Op::Set(placement) => {
                 let (path, draft) = placement.into_parts();
-                Ok(one_moved(alloc, path, draft, moment)?)
+                Ok(one_moved(alloc, path, draft, tree, moment)?)
             }
-            Op::Update(update) => Ok(Outcome::Wrote(update.into_writes(alloc, moment)?)),
+            Op::Update(update) => Ok(Outcome::Wrote(update.into_writes(alloc, tree, moment)?)),
             Op::Tx(tx) => Ok(tx.into_outcome(alloc, tree, moment)?),
         }
+    }
+
+    /// The path that it names.
+    pub fn path(&self) -> &Path
+        ensures { result.now ≡ named_path self.now }
+    {
+        match self {
+            Op::Set(placement) => placement.path(),
+            Op::Update(update) => update.path(),
+            Op::Tx(tx) => tx.path(),
+        }
+    }
+
+    /// What the operation comes to on the tree after these writes; `resolve` is the case with
+    /// none. It copies what stands at its path, and no more of the tree. Memory is the one refusal.
+    pub fn resolve_after(
+        &self,
+        alloc: Global,
+        tree: &Tree,
+        before: &[Basic],
+        moment: Moment,
+    ) -> Result<Outcome, WriteFault>
+        ensures outcome { IfOk result (λ outcome.
+            outcome ≡ resolved_after tree.now before.now moment self.now) }
+        ensures apart { IfOk result (λ outcome. Apart (writes_in outcome)) }
+        ensures err { IfErr result (λ e. e ≡ TreeRefused Memory) }
+    {
+        // it ensures that the tree's rows are in order
+        let _ = tree.is_empty();
+        let path = self.path();
+        let held = tree.copy_at(alloc, path)?;
+        let mut after = Tree::empty();
+        after.set(alloc, path, Some(held))?;
+        apply(alloc, &mut after, before)?;
+        self.resolve(alloc, &after, moment)
     }
 
     /// An equal operation.

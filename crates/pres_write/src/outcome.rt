@@ -1,6 +1,6 @@
 //! Outcomes of operations.
 
-ghost use Rattle.std.specs.Prelude.{◌≡◌, ◌↔◌, [], IsTrue, IfOk};
+ghost use Rattle.std.specs.Prelude.{◌≡◌, ◌↔◌, IsTrue, IfOk};
 ghost use Rattle.pres_tree.specs.Rows.{Fits};
 ghost use Rattle.pres_write.specs.Basics.{Apart};
 ghost use Rattle.pres_write.specs.Outcomes.{kept_of, resolved, writes_in};
@@ -81,19 +81,20 @@ impl Kept {
     }
 }
 
-// The value of the draft at its path at the moment.
+// The value of the draft at its path on the tree at the moment.
 pub(crate) fn one_write(
     alloc: Global,
     path: Path,
     draft: &Draft,
+    tree: &Tree,
     moment: Moment,
 ) -> Result<Outcome, AllocError>
     requires { Fits path draft.now }
     ensures outcome { IfOk result (λ outcome.
-        outcome ≡ resolved [] moment (Set (path, draft.now))) }
+        outcome ≡ resolved tree.now moment (Set (path, draft.now))) }
     ensures apart { IfOk result (λ outcome. Apart (writes_in outcome)) }
 {
-    let write = settled_write(alloc, path, draft, moment)?;
+    let write = settled_write(alloc, path, draft, tree, moment)?;
     Ok(Outcome::Wrote(Items::one(alloc, write)?))
 }
 
@@ -102,12 +103,14 @@ pub(crate) fn one_moved(
     alloc: Global,
     path: Path,
     draft: Draft,
+    tree: &Tree,
     moment: Moment,
 ) -> Result<Outcome, AllocError>
     requires { Fits path draft }
-    ensures outcome { IfOk result (λ outcome. outcome ≡ resolved [] moment (Set (path, draft))) }
+    ensures outcome { IfOk result (λ outcome.
+        outcome ≡ resolved tree.now moment (Set (path, draft))) }
     ensures apart { IfOk result (λ outcome. Apart (writes_in outcome)) }
 {
-    let write = moved_write(alloc, path, draft, moment)?;
+    let write = moved_write(alloc, path, draft, tree, moment)?;
     Ok(Outcome::Wrote(Items::one(alloc, write)?))
 }

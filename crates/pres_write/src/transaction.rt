@@ -117,7 +117,7 @@ impl Transaction {
             return Ok(Outcome::Stale(copy_value(alloc, held)?));
         }
         let path = self.path.copy(alloc)?;
-        one_write(alloc, path, &self.new, moment)
+        one_write(alloc, path, &self.new, tree, moment)
     }
 
     // The same of a transaction that isn't needed any more: its path and its draft are moved.
@@ -136,7 +136,7 @@ impl Transaction {
         }
         let Transaction { path, expect, new } = self;
         drop(expect);
-        one_moved(alloc, path, new, moment)
+        one_moved(alloc, path, new, tree, moment)
     }
 
     /// An equal transaction.

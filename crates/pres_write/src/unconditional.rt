@@ -1,4 +1,4 @@
-//! Operations that don't depend on the tree.
+//! Operations that are carried out whatever stands.
 
 ghost use Rattle.std.specs.Prelude.{◌≡◌, IfOk, Ok, Some, MatchResult};
 ghost use Rattle.serde_json.specs.View.{view};
@@ -13,7 +13,7 @@ use crate::update::Update;
 use serde_json::Value;
 use std::alloc::{AllocError, Global};
 
-/// An operation that doesn't depend on the tree, so that it may be registered for a disconnection:
+/// An operation that is carried out whatever stands, so that it may be registered for a disconnection:
 /// each but a transaction.
 #[derive(Drop)]
 pub enum Unconditional {

@@ -22,7 +22,7 @@ use crate::items::Items;
 use crate::moment::Moment;
 use crate::placement::Placement;
 use crate::puts::Puts;
-use pres_tree::{MAX_DEPTH, Path, TreeFault, from_value_under, to_value};
+use pres_tree::{MAX_DEPTH, Path, Tree, TreeFault, from_value_under, to_value};
 use serde_json::{Map, Value};
 use std::alloc::{AllocError, Global};
 use std::collections::BTreeMap;
@@ -193,15 +193,20 @@ impl Update {
         Ok(values)
     }
 
-    /// Its writes at the moment, in path order.
-    pub fn writes(&self, alloc: Global, moment: Moment) -> Result<Items<Basic>, AllocError>
-        ensures writes { IfOk result (λ writes. writes ≡ update_writes moment self.now) }
+    /// Its writes on the tree at the moment, in path order.
+    pub fn writes(
+        &self,
+        alloc: Global,
+        tree: &Tree,
+        moment: Moment,
+    ) -> Result<Items<Basic>, AllocError>
+        ensures writes { IfOk result (λ writes. writes ≡ update_writes tree.now moment self.now) }
         ensures apart { IfOk result (λ writes. Apart writes) }
     {
         let mut writes = Vec::new(alloc);
         for (place, draft) in self.places.iter() {
             let path = whole_path(alloc, &self.path, place)?;
-            writes.push(settled_write(alloc, path, draft, moment)?)?;
+            writes.push(settled_write(alloc, path, draft, tree, moment)?)?;
         }
         Ok(Items::of(writes))
     }
@@ -210,16 +215,17 @@ impl Update {
     pub(crate) fn into_writes(
         self,
         alloc: Global,
+        tree: &Tree,
         moment: Moment,
     ) -> Result<Items<Basic>, AllocError>
-        ensures writes { IfOk result (λ writes. writes ≡ update_writes moment self) }
+        ensures writes { IfOk result (λ writes. writes ≡ update_writes tree.now moment self) }
         ensures apart { IfOk result (λ writes. Apart writes) }
     {
         let Update { path, places } = self;
         let mut writes = Vec::new(alloc);
         for (place, draft) in places {
             let whole = moved_path(alloc, &path, place)?;
-            writes.push(moved_write(alloc, whole, draft, moment)?)?;
+            writes.push(moved_write(alloc, whole, draft, tree, moment)?)?;
         }
         Ok(Items::of(writes))
     }

@@ -4,6 +4,7 @@ mod board;
 mod broken;
 mod command;
 mod connections;
+mod counters;
 mod drives;
 mod files;
 mod halts;

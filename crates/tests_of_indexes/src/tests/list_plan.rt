@@ -3,8 +3,9 @@
 use pres_ids::Number;
 use pres_plan::{Action, MOST_ROWS, PlanFault, PlanRow};
 use pres_tree::{Path, Tree, TreeFault};
-use pres_write::{Basic, Draft, Moment, Placement, Puts, settle};
+use pres_write::{Basic, Draft, Moment, Placement, Puts, apply, settle};
 use std::alloc::{AllocError, Global};
+use std::slice::from_ref;
 
 /// The rows, in the order of their messages.
 #[derive(Drop)]
@@ -34,15 +35,18 @@ fn is_put_above(row: &PlanRow, path: &Path) -> bool {
     row.action.is_put() && place.is_prefix_of(path) && !path.is_prefix_of(place)
 }
 
+// What the action writes, where the session's end found the first tree and its rows before this
+// one left the second.
 fn written(
     alloc: Global,
     action: &Action,
     tree: &Tree,
+    after: &Tree,
     moment: Moment,
 ) -> Result<Basic, TreeFault> {
     let path = action.path().copy(alloc)?;
     let value = match action {
-        Action::Put(placement) => settle(alloc, placement.draft(), moment)?,
+        Action::Put(placement) => settle(alloc, placement.draft(), after.at(&path), moment)?,
         Action::Keep(place) => tree.copy_at(alloc, place)?,
     };
     Basic::new(path, Some(value))
@@ -120,8 +124,13 @@ impl ListPlan {
         moment: Moment,
     ) -> Result<Vec<(Number, Basic)>, TreeFault> {
         let mut made = Vec::new(alloc);
+        let mut after = tree.copy(alloc)?;
         for row in &self.rows {
-            made.push((row.q, written(alloc, &row.action, tree, moment)?))?;
+            let write = written(alloc, &row.action, tree, &after, moment)?;
+            let Ok(()) = apply(alloc, &mut after, from_ref(&write)) else {
+                return Err(TreeFault::Memory);
+            };
+            made.push((row.q, write))?;
         }
         Ok(made)
     }

@@ -128,6 +128,90 @@ const ORDER: &str = r#"1000 {"m":"hello","s":["alice",1,1]}
 1000 {"m":"left","op":{"op":"set","path":"/a","value":1},"q":1,"s":["bob",1,1]}
 => fault 3"#;
 
+// Two clients count themselves in, and leave to be counted out; one is lost.
+const COUNTED: &str = r#"1000 {"m":"hello","s":["alice",1,1]}
+=> {"m":"welcome","ops":0,"s":["alice",1,1],"z":1}
+
+1000 {"m":"hello","s":["bob",1,1]}
+=> {"m":"welcome","ops":0,"s":["bob",1,1],"z":2}
+
+1000 {"m":"left","op":{"op":"set","path":"/count","value":{".sv":{"increment":-1}}},"q":1,"s":["alice",1,1]}
+=> {"m":"armed","q":1,"r":1,"s":["alice",1,1],"z":3}
+
+1000 {"m":"op","n":1,"op":{"op":"set","path":"/count","value":{".sv":{"increment":1}}},"q":2,"s":["alice",1,1]}
+=> {"done":4,"m":"reply","n":1,"out":"wrote","q":2,"r":2,"s":["alice",1,1],"z":4}
+
+value /count
+=> 1
+
+1000 {"m":"left","op":{"op":"set","path":"/count","value":{".sv":{"increment":-1}}},"q":1,"s":["bob",1,1]}
+=> {"m":"armed","q":1,"r":1,"s":["bob",1,1],"z":5}
+
+1000 {"m":"op","n":1,"op":{"op":"set","path":"/count","value":{".sv":{"increment":1}}},"q":2,"s":["bob",1,1]}
+=> {"done":6,"m":"reply","n":1,"out":"wrote","q":2,"r":2,"s":["bob",1,1],"z":6}
+
+value /count
+=> 2
+
+2000 lost ["alice",1,1]
+=> {"m":"gone","r":3,"s":["alice",1,1],"why":"lost","z":7}
+
+value /count
+=> 1
+
+log
+=> 1 1000 [{"e":"open","s":["alice",1,1]}]
+2 1000 [{"e":"open","s":["bob",1,1]}]
+3 1000 [{"e":"left","q":1,"rows":[["/count",{".sv":{"increment":-1}}]],"s":["alice",1,1]}]
+4 1000 [{"e":"op","n":1,"op":{"op":"set","path":"/count","value":{".sv":{"increment":1}}},"out":{"wrote":[["/count",1]]},"q":2,"s":["alice",1,1]}]
+5 1000 [{"e":"left","q":1,"rows":[["/count",{".sv":{"increment":-1}}]],"s":["bob",1,1]}]
+6 1000 [{"e":"op","n":1,"op":{"op":"set","path":"/count","value":{".sv":{"increment":1}}},"out":{"wrote":[["/count",2]]},"q":2,"s":["bob",1,1]}]
+7 2000 [{"e":"ended","q":null,"rows":[["/count",1]],"s":["alice",1,1],"why":"lost"}]
+
+replay
+=> replayed
+
+value /count
+=> 1
+
+3000 lost ["bob",1,1]
+=> {"m":"gone","r":3,"s":["bob",1,1],"why":"lost","z":8}
+
+value /count
+=> 0"#;
+
+// What is left for a place below another one reads what is put there before it.
+const COUNTED_BELOW: &str = r#"1000 {"m":"hello","s":["alice",1,1]}
+=> {"m":"welcome","ops":0,"s":["alice",1,1],"z":1}
+
+1000 {"m":"op","n":1,"op":{"op":"set","path":"/a/b","value":5},"q":1,"s":["alice",1,1]}
+=> {"done":2,"m":"reply","n":1,"out":"wrote","q":1,"r":1,"s":["alice",1,1],"z":2}
+
+1000 {"m":"left","op":{"op":"set","path":"/a","value":{"b":1}},"q":2,"s":["alice",1,1]}
+=> {"m":"armed","q":2,"r":2,"s":["alice",1,1],"z":3}
+
+1000 {"m":"left","op":{"op":"set","path":"/a/b","value":{".sv":{"increment":1}}},"q":3,"s":["alice",1,1]}
+=> {"m":"armed","q":3,"r":3,"s":["alice",1,1],"z":4}
+
+replay
+=> replayed
+
+2000 lost ["alice",1,1]
+=> {"m":"gone","r":4,"s":["alice",1,1],"why":"lost","z":5}
+
+log
+=> 1 1000 [{"e":"open","s":["alice",1,1]}]
+2 1000 [{"e":"op","n":1,"op":{"op":"set","path":"/a/b","value":5},"out":{"wrote":[["/a/b",5]]},"q":1,"s":["alice",1,1]}]
+3 1000 [{"e":"left","q":2,"rows":[["/a",{"b":1}]],"s":["alice",1,1]}]
+4 1000 [{"e":"left","q":3,"rows":[["/a/b",{".sv":{"increment":1}}]],"s":["alice",1,1]}]
+5 2000 [{"e":"ended","q":null,"rows":[["/a",{"b":1}],["/a/b",2]],"s":["alice",1,1],"why":"lost"}]
+
+replay
+=> replayed
+
+value /
+=> {"a":{"b":2}}"#;
+
 const LEASE: &str = r#"1000 {"m":"hello","s":["alice",1,1]}
 => {"m":"welcome","ops":0,"s":["alice",1,1],"z":1}
 
@@ -244,6 +328,13 @@ fn what_is_left_is_done_at_the_end(rt: HostRuntime) {
         ORDER,
     ];
     check_runs(&rt, rt.alloc(), &runs);
+}
+
+#[test]
+fn what_is_left_counts_on_what_stands(rt: HostRuntime) {
+    let alloc = rt.alloc();
+    check(&rt, alloc, COUNTED);
+    check(&rt, alloc, COUNTED_BELOW);
 }
 
 #[test]

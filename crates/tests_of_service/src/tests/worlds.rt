@@ -2,6 +2,7 @@
 //! script has, after each line, what it makes, and at its end how the world is, each line after `>
 //! `. A told script has the same without the packets.
 
+use crate::tests::counters::{AT_THE_END, COUNTED, COUNTED_ONCE};
 use pres_service::ServiceFault;
 use pres_sim::sim_run;
 use std::alloc::Global;
@@ -738,6 +739,16 @@ fn clients_and_a_server_get_on(rt: HostRuntime) {
         IN_ORDER,
     ] {
         check_told(&rt, rt.alloc(), script);
+    }
+}
+
+#[test]
+fn counters_count(rt: HostRuntime) {
+    let alloc = rt.alloc();
+    check_told(&rt, alloc, COUNTED);
+    check_told(&rt, alloc, COUNTED_ONCE);
+    for script in AT_THE_END {
+        check_told(&rt, alloc, script);
     }
 }
 

@@ -35,6 +35,7 @@ const SAVED: &str = r#"saved:
 [{"e":"op","n":3,"op":{"expect":0,"op":"tx","path":"/n","value":1},"out":{"stale":{"b":2}},"q":3,"s":["alice",1,1]}] => same
 [{"e":"again","n":1,"q":2,"s":["bob",2,3]}] => same
 [{"e":"left","q":1,"rows":[["/last",{".sv":"timestamp"}],["/online",null]],"s":["alice",1,1]}] => same
+[{"e":"left","q":1,"rows":[["/count",{".sv":{"increment":-1}}]],"s":["alice",1,1]}] => same
 [{"e":"left","q":1,"rows":[],"s":["alice",1,1]}] => same
 [{"e":"cancelled","path":"/a/b","q":2,"s":["alice",1,1]}] => same
 [{"e":"denied","q":2,"s":["alice",1,1],"why":1}] => same
@@ -97,6 +98,7 @@ const NO_ENTRIES: &str = r#"no entries:
 [{"e":"ended","q":null,"rows":[["/a",1,2]],"s":["a",1,1],"why":"lost"}] => none
 [{"e":"ended","q":null,"rows":[["/a",1.5]],"s":["a",1,1],"why":"lost"}] => none
 [{"e":"ended","q":null,"rows":[["/a",{".sv":"timestamp"}]],"s":["a",1,1],"why":"lost"}] => none
+[{"e":"ended","q":null,"rows":[["/a",{".sv":{"increment":1}}]],"s":["a",1,1],"why":"lost"}] => none
 [{"e":"op","n":1,"op":null,"out":{"wrote":[]},"q":1,"s":["a",1,1]}] => none
 [{"e":"op","n":1,"op":{"op":"remove","path":"a"},"q":1,"s":["a",1,1]}] => none
 [{"e":"op","n":1,"op":{"op":"remove","path":"a"},"out":"wrote","q":1,"s":["a",1,1]}] => none
@@ -109,7 +111,8 @@ const NO_PUTS: &str = r#"no puts:
 [{"e":"left","q":1,"rows":[["/a",1],["/a",2]],"s":["a",1,1]}] => none
 [{"e":"left","q":1,"rows":[["/a",1],["/a/b",2]],"s":["a",1,1]}] => none
 [{"e":"left","q":1,"rows":[["/a/b",1],["/a/c",2],["/b",3]],"s":["a",1,1]}] => same
-[{"e":"left","q":1,"rows":[["/a",{".sv":"now"}]],"s":["a",1,1]}] => none"#;
+[{"e":"left","q":1,"rows":[["/a",{".sv":"now"}]],"s":["a",1,1]}] => none
+[{"e":"left","q":1,"rows":[["/a",{".sv":{"increment":1.5}}]],"s":["a",1,1]}] => none"#;
 
 #[test]
 fn bodies_are_read_and_printed(rt: HostRuntime) {

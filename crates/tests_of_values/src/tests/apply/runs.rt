@@ -20,6 +20,26 @@ const TIMES: &str = r#"{"now":5,"op":"set","path":"/t","value":{".sv":"timestamp
 {"now":3,"op":"set","path":"/t","value":{".sv":"timestamp"}}
 "#;
 
+const INCREMENTS: &str = r#"{"now":1,"op":"set","path":"/n","value":5}
+{"now":1,"op":"set","path":"/n","value":{".sv":{"increment":2}}}
+{"now":1,"op":"set","path":"/m","value":{".sv":{"increment":3}}}
+{"now":1,"op":"set","path":"/n","value":{".sv":{"increment":9223372036854775807}}}
+"#;
+
+// No number stands at `/p`, nor at `/p/t`; `/p/n` is the number at that place.
+const PLACES: &str =
+    r#"{"now":1,"op":"set","path":"/p","value":{"l":-9223372036854775808,"n":7,"t":"x"}}
+{"now":5,"op":"update","path":"/p","values":{"l":{".sv":{"increment":-1}},"m/n":{".sv":{"increment":4}},"n":{".sv":{"increment":-9}},"t":{".sv":{"increment":3}}}}
+{"expect":-2,"now":5,"op":"tx","path":"/p/n","value":{"a":{".sv":{"increment":1}},"b":{".sv":"timestamp"}}}
+{"now":5,"op":"set","path":"/p/n","value":{"a":{".sv":{"increment":1}},"b":{".sv":{"increment":0}},"c":2}}
+"#;
+
+const NO_INCREMENT: &str =
+    r#"{"now":1,"op":"set","path":"/n","value":{".sv":{"increment":1.5}}}
+{"now":1,"op":"set","path":"/n","value":{".sv":{"increment":9223372036854775808}}}
+{"now":1,"op":"set","path":"/n","value":{".sv":{"increment":"x"}}}
+"#;
+
 const NOT_JSON: &str = r#"{"now":1,"op":"set","path":"/é","value":"ß"}
 x
 {"now":1,"op":"remove","path":"/b"}
@@ -68,6 +88,14 @@ fn answers_inputs(rt: HostRuntime) {
         (WORKED, "1 wrote\n2 wrote\n3 wrote\ntree null\n"),
         (UNENDED, "1 wrote\n2 wrote\ntree {\"a\":{\"b\":2}}\n"),
         (TIMES, "1 wrote\n2 wrote\ntree {\"t\":5}\n"),
+        (
+            INCREMENTS,
+            "1 wrote\n2 wrote\n3 wrote\n4 wrote\ntree {\"m\":3,\"n\":9223372036854775807}\n",
+        ),
+        (
+            PLACES,
+            "1 wrote\n2 wrote\n3 wrote\n4 wrote\ntree {\"p\":{\"l\":-9223372036854775808,\"m\":{\"n\":4},\"n\":{\"a\":2,\"b\":5,\"c\":2},\"t\":3}}\n",
+        ),
         (NULLS, "1 wrote\n2 wrote\ntree null\n"),
         (STALE, "1 wrote\n2 stale 1\n3 stale null\ntree {\"n\":1}\n"),
         (
@@ -90,6 +118,8 @@ fn goes_on_behind_a_line_that_is_refused(rt: HostRuntime) {
     check_refused(&rt, alloc, NOT_JSON, not_json);
     let overlap = "refused 9 Overlap\n1 wrote\ntree {\"a\":{\"b\":1}}\n";
     check_refused(&rt, alloc, OVERLAP, overlap);
+    let no_increment = "refused 6 NotWhole\nrefused 7 Range\nrefused 8 Placeholder\ntree null\n";
+    check_refused(&rt, alloc, NO_INCREMENT, no_increment);
 }
 
 // The line is refused with the fault.

@@ -1,7 +1,10 @@
-use Rattle.std.proofs.Common.{◌≡◌, ◌++◌, drop}
+use Rattle.std.proofs.Common.{◌≡◌, take, drop}
 use Rattle.std.specs.Map.{values_of}
-use Rattle.pres_plan.specs.Plans.{due_rows}
+use Rattle.pres_plan.specs.Plans.{due, numbered}
 use Rattle.pres_plan.proofs.plan.Plan.due.Given as goal
 
+-- the rows that were gone over have their numbers, and the writes of the others are left
 abbrev pub invariant-loop-row : goal.invariant-loop-row
-invariant-loop-row l = l.made.items ++ due_rows l.tree l.moment (values_of (drop l.row-index l.row-items)) ≡ due_rows l.tree l.moment (values_of l.row-items)
+invariant-loop-row l =
+    (l.rest ≡ drop l.row-index (due l.tree l.moment (values_of l.row-items)))
+    × (l.made.items ≡ numbered (values_of (take l.row-index l.row-items)) (due l.tree l.moment (values_of l.row-items)))

@@ -2,8 +2,7 @@ use Rattle.std.proofs.Common.{◌≡◌, [], ◌∷◌, true, false, cond, sym, 
 use Rattle.std.specs.Prelude.{IfOk, IsTrue, ◌↔◌, option_copied}
 use Rattle.pres_tree.specs.Rows.{option_of, rows_in, value_at}
 use Rattle.pres_write.specs.declared.outcome.Outcome.TheVariants.{Wrote, Stale}
-use Rattle.pres_write.specs.Basics.{basic}
-use Rattle.pres_write.specs.Drafts.{settled}
+use Rattle.pres_write.specs.Settling.{settled_write}
 use Rattle.pres_write.proofs.Held.{held_is, rows_of_option, compared_as}
 use Rattle.pres_write.proofs.transaction.Transaction.into_outcome.Goals as goal
 
@@ -17,7 +16,7 @@ returns-then-not-is_expected-clause-outcome c =
     let test : IsTrue c.is_expected.result ↔ (v ≡ t.expect) = (λ h. sym rows ∙ c.is_expected.ensures.0 h, λ e. c.is_expected.ensures.1 (rows ∙ e)) in
     let no : c.is_expected.result ≡ false = search rules in
     ap Stale (c.in_ok-copy_value.ensures ∙ held)
-    ∙ sym (compared_as c.args.tree.now c.args.moment t c.is_expected.result test ∙ ap (λ b. cond b (Wrote (basic t.path (settled c.args.moment t.new) ∷ [])) (Stale (option_of v))) no)
+    ∙ sym (compared_as c.args.tree.now c.args.moment t c.is_expected.result test ∙ ap (λ b. cond b (Wrote (settled_write c.args.tree.now c.args.moment (t.path, t.new) ∷ [])) (Stale (option_of v))) no)
 
 pub returns-clause-outcome : goal.returns-clause-outcome
 returns-clause-outcome c =
@@ -28,8 +27,8 @@ returns-clause-outcome c =
     let rows : rows_in (option_copied c.at-held.result) ≡ v = ap rows_in held ∙ rows_of_option v in
     let test : IsTrue c.is_expected.result ↔ (v ≡ t.expect) = (λ h. sym rows ∙ c.is_expected.ensures.0 h, λ e. c.is_expected.ensures.1 (rows ∙ e)) in
     let yes : c.is_expected.result ≡ true = search rules in
-    let write : basic c.self.inside.path (settled c.args.moment c.self.inside.new) ≡ basic t.path (settled c.args.moment t.new) = ap (λ s. basic s.path (settled c.args.moment s.new)) c.self.view_is in
+    let write : settled_write c.args.tree.now c.args.moment (c.self.inside.path, c.self.inside.new) ≡ settled_write c.args.tree.now c.args.moment (t.path, t.new) = ap (λ s. settled_write c.args.tree.now c.args.moment (s.path, s.new)) c.self.view_is in
     subst (λ w. IfOk c.one_moved.result (λ outcome. outcome ≡ w))
     (ap (λ w. Wrote (w ∷ [])) write
-    ∙ sym (compared_as c.args.tree.now c.args.moment t c.is_expected.result test ∙ ap (λ b. cond b (Wrote (basic t.path (settled c.args.moment t.new) ∷ [])) (Stale (option_of v))) yes))
+    ∙ sym (compared_as c.args.tree.now c.args.moment t c.is_expected.result test ∙ ap (λ b. cond b (Wrote (settled_write c.args.tree.now c.args.moment (t.path, t.new) ∷ [])) (Stale (option_of v))) yes))
     c.one_moved.ensures.outcome

@@ -6,4 +6,4 @@ abbrev pub invariant-loop-place : goal.invariant-loop-place
 invariant-loop-place l =
     (goal.iterator-loop-place).can_next l.place-iterator × (goal.iterator-loop-place).is_finite l.place-iterator
     × (done : Places) × (l.fn.self.places ≡ done ++ l.place-iterator)
-    × (l.writes.items ≡ update_writes l.moment (record { path = l.fn.self.path; places = done }))
+    × (l.writes.items ≡ update_writes l.tree l.moment (record { path = l.fn.self.path; places = done }))

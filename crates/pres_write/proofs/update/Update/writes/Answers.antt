@@ -4,8 +4,7 @@ use Rattle.pres_tree.specs.Paths.{Path, path_cmp, overlap}
 use Rattle.pres_tree.specs.Rows.{Rows, Fits}
 use Rattle.pres_write.specs.declared.basic.Basic.{Basic}
 use Rattle.pres_write.specs.declared.draft.DraftLeaf.{DraftLeaf}
-use Rattle.pres_write.specs.Basics.{basic}
-use Rattle.pres_write.specs.Drafts.{settled}
+use Rattle.pres_write.specs.Settling.{settled_write}
 use Rattle.pres_write.specs.Updates.{FitsBelow, update_writes}
 use Rattle.pres_write.proofs.Overlaps.{overlap-joined, paths_of_writes, writes_more}
 use Rattle.pres_write.proofs.Ordered.{each-middle}
@@ -21,20 +20,20 @@ loop-place-preserved c =
     let p = c.args.self.now.path in
     let all : c.args.self.now.places ≡ done ++ e ∷ left = l.invariant.1 ∙ ap (λ es. done ++ es) c.in-Some.ensures.steps in
     let made = c.in_ok-settled_write.field-0 in
-    let is : made ≡ basic (p ++ e.0) (settled c.args.moment e.1) = c.in_ok-settled_write.ensures ∙ ap (λ q. basic q (settled c.args.moment e.1)) (c.in_ok-path.ensures ∙ ap (λ u. u.path ++ e.0) c.self.view_is) in (
+    let is : made ≡ settled_write c.args.tree.now c.args.moment (p ++ e.0, e.1) = c.in_ok-settled_write.ensures ∙ ap (λ q. settled_write c.args.tree.now c.args.moment (q, e.1)) (c.in_ok-path.ensures ∙ ap (λ u. u.path ++ e.0) c.self.view_is) in (
       done ++ e ∷ [],
       all ∙ sym (append_assoc done (e ∷ []) left),
       c.in_ok-push.ensures.items
           ∙ (λ i. l.invariant.2 i ++ is i ∷ [])
-          ∙ sym (writes_more p c.args.moment done e),
+          ∙ sym (writes_more p c.args.tree.now c.args.moment done e),
     )
 
 -- all places are written
-made : (c : After-of) → c.of.result ≡ update_writes c.args.moment c.args.self.now
+made : (c : After-of) → c.of.result ≡ update_writes c.args.tree.now c.args.moment c.args.self.now
 made c =
     let done = c.loop-place.invariant.0 in
     let all : c.args.self.now.places ≡ done = c.loop-place.invariant.1 ∙ ap (λ es. done ++ es) c.in-None.ensures.steps.0 ∙ append-nil done in
-    c.of.ensures ∙ c.loop-place.invariant.2 ∙ ap (λ es. update_writes c.args.moment (record { path = c.args.self.now.path; places = es })) (sym all)
+    c.of.ensures ∙ c.loop-place.invariant.2 ∙ ap (λ es. update_writes c.args.tree.now c.args.moment (record { path = c.args.self.now.path; places = es })) (sym all)
 
 pub returns-clause-writes : goal.returns-clause-writes
 returns-clause-writes c = made c
@@ -44,7 +43,7 @@ returns-clause-apart c =
     let p = c.args.self.now.path in
     let places = c.args.self.now.places in
     ap (λ (ws : List Basic). overlap (map (λ b. b.path) ws)) (made c)
-    ∙ ap overlap (paths_of_writes p c.args.moment places)
+    ∙ ap overlap (paths_of_writes p c.args.tree.now c.args.moment places)
     ∙ overlap-joined p (keys_of places)
     ∙ subst (λ u. overlap (keys_of u.places) ≡ false) c.self.view_is c.self.invariant.apart
 

@@ -1,0 +1,42 @@
+use Rattle.std.proofs.Common.{◌≡◌, ◌∷◌, ◌++◌, [], List, length, length-append, arith, drop, sym, ap, subst, ◌∙◌}
+use Rattle.pres_tree.specs.Rows.{rows_in, value_at}
+use Rattle.pres_tree.proofs.After.{value_alone}
+use Rattle.pres_write.specs.declared.basic.Basic.{Basic}
+use Rattle.pres_write.specs.Basics.{applied}
+use Rattle.pres_write.proofs.Held.{held_is, rows_of_option}
+use Rattle.pres_plan.proofs.HeldAfter.{NoneBelow, held_above, held_elsewhere, no_writes, none_before}
+use Rattle.pres_plan.proofs.row.+held_after.Goals as goal
+
+pub held_after-requires : goal.held_after-requires
+held_after-requires t c =
+    let is : c.args.before.now ≡ c.in-Some.earlier.now ++ c.in-Some.last.now ∷ [] = c.in-Some.ensures.cases.0 in
+    (omega (arith, ap length is, length-append c.in-Some.earlier.now (c.in-Some.last.now ∷ [])), (none_before c.args.path.now c.in-Some.earlier.now c.in-Some.last.now (subst (NoneBelow c.args.path.now) is c.requires)).0)
+
+pub returns-in-None : goal.returns-in-None
+returns-in-None t c =
+    let p = c.args.path.now in
+    let tree = c.args.tree.now in
+    let v = value_at p tree in
+    ap rows_in (held_is (λ r. r.now) c.at.result v c.at.ensures) ∙ rows_of_option v ∙ sym (value_alone p tree c.is_empty.ensures.value.in_order)
+    ∙ ap (λ b. value_at p (applied tree b)) (sym (no_writes c.args.before.now c.in-None.ensures.cases))
+
+pub returns-then-not-is_prefix_of : goal.returns-then-not-is_prefix_of
+returns-then-not-is_prefix_of t c =
+    let p = c.args.path.now in
+    let tree = c.args.tree.now in
+    let is : c.args.before.now ≡ c.in-Some.earlier.now ++ c.in-Some.last.now ∷ [] = c.in-Some.ensures.cases.0 in
+    let none = none_before p c.in-Some.earlier.now c.in-Some.last.now (subst (NoneBelow p) is c.requires) in
+    c.held_after.ensures
+    ∙ sym (held_elsewhere tree p c.in-Some.earlier.now c.in-Some.last.now none.1 (sym c.is_prefix_of.ensures ∙ c.if-not-is_prefix_of.true))
+    ∙ ap (λ b. value_at p (applied tree b)) (sym is)
+
+pub returns-in_ok-value : goal.returns-in_ok-value
+returns-in_ok-value t c =
+    let p = c.args.path.now in
+    let tree = c.args.tree.now in
+    let is : c.args.before.now ≡ c.in-Some.earlier.now ++ c.in-Some.last.now ∷ [] = c.in-Some.ensures.cases.0 in
+    let last = c.in-Some.last.now in
+    let v = c.in_ok-value.value.now in
+    ap rows_in (held_is (λ r. r.now) c.at_below.result (value_at (drop (length last.path) p) v) c.at_below.ensures) ∙ rows_of_option (value_at (drop (length last.path) p) v)
+    ∙ sym (held_above tree p c.in-Some.earlier.now last v (sym (ap rows_in c.value.ensures.value)) (sym c.is_prefix_of.ensures ∙ c.if-not-is_prefix_of.false) c.is_empty-2.ensures.value.in_order)
+    ∙ ap (λ b. value_at p (applied tree b)) (sym is)
