@@ -1,5 +1,5 @@
 -- Writes and the value at a path: those elsewhere leave it, one at the path puts it, and the last one at or above it tells it.
-use Rattle.std.proofs.Common.{refl, sym, ◌∙◌, ap, ◌≡◌, List, [], ◌∷◌, ◌++◌, Bool, true, false, not, cond, ◌||◌, ◌&&◌, Option, Some, None, is_some, true≢false, filter, append_assoc, append-nil, length, drop, ◌⊎◌, inl, inr}
+use Rattle.std.proofs.Common.{refl, sym, ◌∙◌, ap, ◌≡◌, List, [], ◌∷◌, ◌++◌, Bool, true, false, not, cond, ◌||◌, ◌&&◌, Some, None, is_some, true≢false, filter, append_assoc, append-nil, length, drop, ◌⊎◌, inl, inr}
 use Rattle.std.specs.List.{list_any, last_or}
 use Rattle.std.proofs.Math.Seq.{drop-append_seam}
 use Rattle.std.specs.Option.{option_and_then}

@@ -1,5 +1,5 @@
 -- A value whose leaves are changed, by what their places hold in another value, has its rows changed.
-use Rattle.std.proofs.Common.{◌≡◌, suc, length, List, [], ◌∷◌, ◌++◌, Bool, true, false, cond, ◌&&◌, is_some, Option, Some, None, T, refl, sym, ap, subst, ◌∙◌}
+use Rattle.std.proofs.Common.{◌≡◌, suc, length, List, [], ◌∷◌, ◌++◌, true, false, cond, ◌&&◌, is_some, Option, Some, None, T, refl, sym, ap, subst, ◌∙◌}
 use Rattle.std.specs.declared.cmp.Ordering.TheVariants.{Less, Equal, Greater}
 use Rattle.std.specs.Ordering.{is_lt, eq_by_cmp}
 use Rattle.std.specs.Prelude.{MatchOption, option_map}

@@ -11,7 +11,6 @@ use Rattle.pres_tree.specs.Falls.{height-sorted_by}
 use Rattle.pres_tree.proofs.ChangedOn.{value_on, changed_object_on, changed_children_on, changed_length_on, changed_keys_on, children_on-append, leaves_alone}
 use Rattle.pres_tree.proofs.Nodes.{at_object, insert_last, tallest, tallest-le-height, tallest-middle}
 use Rattle.pres_tree.proofs.+changed_on.Goals as goal
-use Rattle.std.proofs.lemmas.Grind.{common_steps}
 
 pub nested::Nested::changed_on-changed_children-requires : goal.nested::Nested::changed_on-changed_children-requires
 nested::Nested::changed_on-changed_children-requires g t c κs within =

@@ -1,4 +1,4 @@
-use Rattle.std.proofs.Common.{◌≡◌, [], ◌∷◌, ◌++◌, sym, ap, ◌∙◌, subst, append_assoc, arith, length, rules}
+use Rattle.std.proofs.Common.{◌≡◌, [], ◌∷◌, ◌++◌, sym, ap, ◌∙◌, append_assoc, arith}
 use Rattle.pres_tree.specs.Keys.{Key}
 use Rattle.pres_tree.specs.Rows.{Rows, height, value_at}
 use Rattle.pres_tree.specs.Layer.{child_rows}

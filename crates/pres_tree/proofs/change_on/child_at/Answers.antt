@@ -1,4 +1,4 @@
-use Rattle.std.proofs.Common.{[], ap, refl, sym, ◌∙◌}
+use Rattle.std.proofs.Common.{[], refl}
 use Rattle.pres_tree.proofs.ChangedOn.{child_is}
 use Rattle.pres_tree.proofs.Nodes.{at_object, at_other, value_at_absent, view_order}
 use Rattle.pres_tree.proofs.change_on.child_at.Goals as goal
