@@ -59,7 +59,7 @@ def put(tree: Any, path: Path, value: Any) -> Any:
 
 
 def settled(draft: Any, held: Any, moment: int) -> Any:
-    """What the draft comes to where this value stands: the moment for a timestamp, the sum with the
+    """The value of the draft where this value stands: the moment for a timestamp, the sum with the
     whole number at its place for an increment."""
     if not isinstance(draft, dict):
         return draft

@@ -25,7 +25,7 @@ none_before p earlier last h =
     let parts = or_parts (list_any (λ b. is_prefix p b.path) earlier) _ (sym (list_any-append (λ b. is_prefix p b.path) earlier (last ∷ [])) ∙ h) in
     (parts.0, (or_parts (is_prefix p last.path) false parts.1).0)
 
--- a last write above the path tells what stands there
+-- a last write above the path decides what stands there
 pub held_above : (tree : Rows Scalar) (p : Path) (earlier : List Basic) (last : Basic) (v : Rows Scalar) → rows_in last.value ≡ v → is_prefix last.path p ≡ true → InOrder v
     → value_at p (applied tree (earlier ++ last ∷ [])) ≡ value_at (drop (length last.path) p) v
 held_above tree p earlier last v is above order =

@@ -1,4 +1,4 @@
--- Writes and the value at a path: those elsewhere leave it, one at the path puts it, and the last one at or above it tells it.
+-- Writes and the value at a path: those elsewhere leave it, one at the path puts it, and the last one at or above it decides it.
 use Rattle.std.proofs.Common.{refl, sym, ◌∙◌, ap, ◌≡◌, List, [], ◌∷◌, ◌++◌, Bool, true, false, not, cond, ◌||◌, ◌&&◌, Some, None, is_some, true≢false, filter, append_assoc, append-nil, length, drop, ◌⊎◌, inl, inr}
 use Rattle.std.specs.List.{list_any, last_or}
 use Rattle.std.proofs.Math.Seq.{drop-append_seam}
@@ -89,7 +89,7 @@ value_put p us v h = ap (λ r. value_at r (tree_after (us ++ write p v ∷ [])))
 pub value_alone : {A : Type 0} (p : Path) (v : Rows A) → InOrder v → value_at p (tree_after (write [] v ∷ [])) ≡ value_at p v
 value_alone p v h = value_same p (tree_after (write [] v ∷ [])) v (in_order (write [] v ∷ [])) h (λ x. last_write_decides (write [] v ∷ []) (p ++ x))
 
--- what stands at p after writes is told by what stood at p before them
+-- what stands at p after writes depends only on what stood at p before them
 pub after_same : {A : Type 0} (p : Path) (s t : Rows A) (ws : List (Write A)) → value_at p s ≡ value_at p t → value_at p (after s ws) ≡ value_at p (after t ws)
 after_same {A} p s t ws e =
     value_same p (after s ws) (after t ws) (in_order (write [] s ∷ ws)) (in_order (write [] t ∷ ws))

@@ -117,7 +117,7 @@ impl<L> Nested<L> {
         self.find(path.keys())
     }
 
-    /// What stands at the path without its first keys, so many or all.
+    /// What stands at the path without its first keys: without this many of them, or all.
     pub fn at_below(&self, path: &Path, depth: usize) -> Option<&Nested<L>>
         ensures { MatchOption result
             (value_at (drop depth path.now) self.now ≡ [])
@@ -180,7 +180,7 @@ fn first(keys: &[Key], count: usize) -> &[Key]
     &keys[..count.min(keys.len())]
 }
 
-// The keys without the first, so many or all.
+// The keys without the first ones: without the given number of them, or all.
 fn without_first(keys: &[Key], depth: usize) -> &[Key]
     ensures { result.now ≡ drop depth keys.now }
 {

@@ -18,7 +18,7 @@ use Rattle.pres_write.specs.Outcomes.{named_path, resolved, resolved_after}
 use Rattle.pres_write.specs.Settling.{settled}
 use Rattle.pres_write.specs.Updates.{Places, update_writes}
 
--- what stands below a path is told by what stands at it
+-- what stands below a path depends only on what stands at it
 below_there : (p q : Path) (s t : Rows Scalar) → InOrder s → InOrder t → value_at p s ≡ value_at p t → value_at (p ++ q) s ≡ value_at (p ++ q) t
 below_there p q s t h k e =
     value_same (p ++ q) s t h k
@@ -37,7 +37,7 @@ resolved_there s t moment (Update u) h k e = ap Wrote (writes_there u.path s t m
 resolved_there s t moment (Tx c) h k e =
     ap (λ v. if same_rows v c.expect then Wrote (basic c.path (settled v moment c.new) ∷ []) else Stale (option_of v)) e
 
--- the tree that has what stands at the path alone tells as much as the whole one
+-- on the tree that has what stands at the path alone the outcome is that on the whole one
 pub resolved_alone : (tree start : Rows Scalar) (before : List Basic) (moment : ℕ) (op : Op) → InOrder tree
     → start ≡ after [] (write (named_path op) (value_at (named_path op) tree) ∷ []) → resolved (applied start before) moment op ≡ resolved_after tree before moment op
 resolved_alone tree start before moment op order is =

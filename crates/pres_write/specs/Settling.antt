@@ -1,4 +1,4 @@
--- What a draft comes to, by what its place held before and by the moment. Increments are those of Firebase Realtime
+-- The value of a draft, by what its place held before and by the moment. Increments are those of Firebase Realtime
 -- Database's server values; that a sum past 64 bits becomes the bound is a choice of this server.
 use Rattle.std.specs.Prelude.{◌+ℤ◌, ℕ, ℤ, pos, Option, Some, None}
 use Rattle.std.specs.Int.{saturate_signed, w64}
@@ -11,7 +11,7 @@ use Rattle.pres_write.specs.declared.draft.DraftLeaf.{DraftLeaf}
 use Rattle.pres_write.specs.declared.draft.DraftLeaf.TheVariants.{Fixed, Timestamp, Increment}
 use Rattle.pres_write.specs.Basics.{BasicWrite, basic}
 
--- the whole number that the place holds, moved by so much within 64 bits; so much alone where it holds none
+-- the sum with the whole number that the place holds, stopped at the bounds of 64 bits; the increment alone where it holds none
 abbrev pub moved_by : ℤ → Option Scalar → ℤ
 moved_by by None = by
 moved_by by (Some (Bool b)) = by
@@ -24,7 +24,7 @@ settled_slot moment held (Fixed s) = s
 settled_slot moment held Timestamp = Int (pos moment)
 settled_slot moment held (Increment by) = Int (moved_by by held)
 
--- what a draft comes to where this value stood: each increment reads its own place
+-- the value of a draft at a place that held this value: each increment reads its own place
 abbrev pub settled : Rows Scalar → ℕ → Rows DraftLeaf → Rows Scalar
 settled held moment draft = leaves_on (settled_slot moment) held draft
 

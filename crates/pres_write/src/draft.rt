@@ -13,7 +13,8 @@ ghost use Rattle.pres_write.specs.Settling.{moved_by, settled, settled_slot};
 use crate::moment::Moment;
 use json::Writer;
 use pres_tree::{
-    Change, ChangeOn, Leaf, LeafForm, Nested, Path, PrintedForm, Scalar, ScalarForm, Tree, TreeFault,
+    Change, ChangeOn, Leaf, LeafForm, Nested, Path, PrintedForm, Scalar, ScalarForm, Tree,
+    TreeFault,
 };
 use serde_json::{Value, json};
 use std::alloc::{AllocError, Global};
@@ -256,7 +257,7 @@ impl LeafForm<Scalar> for FixedForm {
     }
 }
 
-// The whole number that is held, moved by so much; so much alone where none is held.
+// The sum with the whole number that is held; the increment alone where none is held.
 fn moved_by(by: i64, held: Option<&Scalar>) -> i64
     ensures { result ≡ moved_by by (option_copied held.entry) }
 {
@@ -274,7 +275,12 @@ struct Settling {
 
 impl Settling {
     // What the leaf becomes.
-    fn settled(&self, alloc: Global, slot: &DraftLeaf, held: Option<&Scalar>) -> Result<Scalar, AllocError>
+    fn settled(
+        &self,
+        alloc: Global,
+        slot: &DraftLeaf,
+        held: Option<&Scalar>,
+    ) -> Result<Scalar, AllocError>
         ensures { IfOk result (λ made.
             made ≡ settled_slot self.now.moment (option_copied held.entry) slot.now) }
     {
@@ -316,7 +322,12 @@ impl ChangeOn<DraftLeaf, Scalar> for Settling {
         matches!(slot, DraftLeaf::Increment(_))
     }
 
-    fn change_on(&self, alloc: Global, slot: &DraftLeaf, held: &Scalar) -> Result<Scalar, AllocError> {
+    fn change_on(
+        &self,
+        alloc: Global,
+        slot: &DraftLeaf,
+        held: &Scalar,
+    ) -> Result<Scalar, AllocError> {
         self.settled(alloc, slot, Some(held))
     }
 
@@ -358,12 +369,7 @@ fn settle_owned(alloc: Global, draft: Draft, moment: Moment) -> Result<Tree, All
 }
 
 // What the draft reads of the tree at the path, where it has an increment.
-fn held_for<'a>(
-    tree: &'a Tree,
-    path: &Path,
-    draft: &Draft,
-    moment: Moment,
-) -> Option<&'a Tree>
+fn held_for<'a>(tree: &'a Tree, path: &Path, draft: &Draft, moment: Moment) -> Option<&'a Tree>
     ensures { settled (rows_in (option_copied result)) moment draft.now
         ≡ settled (value_at path.now tree.now) moment draft.now }
 {

@@ -320,7 +320,7 @@ impl Op {
         }
     }
 
-    /// What the operation comes to on the tree after these writes; `resolve` is the case with
+    /// The outcome of the operation on the tree after these writes; `resolve` is the case with
     /// none. It copies what stands at its path, and no more of the tree. Memory is the one refusal.
     pub fn resolve_after(
         &self,

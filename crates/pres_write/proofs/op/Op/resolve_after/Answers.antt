@@ -18,8 +18,8 @@ returns-clause-outcome c =
     let p = named_path op in
     let start = c.set.new.self in
     let is : start ≡ after [] (write p (value_at p tree) ∷ []) =
-        c.in_ok-set.ensures.ok ∙ (λ i. after (c.empty-after.ensures i) (write (c.path-path.ensures i) (c.in_ok-held.ensures.value i) ∷ []))
-        ∙ ap (λ q. after [] (write p (value_at q tree) ∷ [])) c.path-path.ensures in
+    c.in_ok-set.ensures.ok ∙ (λ i. after (c.empty-after.ensures i) (write (c.path-path.ensures i) (c.in_ok-held.ensures.value i) ∷ []))
+    ∙ ap (λ q. after [] (write p (value_at q tree) ∷ [])) c.path-path.ensures in
     subst (λ o. IfOk c.resolve.result (λ outcome. outcome ≡ o))
     (ap (λ t. resolved t c.args.moment op) c.in_ok-apply.ensures.ok ∙ resolved_alone tree start c.args.before.now c.args.moment op c.is_empty.ensures.value.in_order is)
     c.resolve.ensures.outcome
