@@ -1,9 +1,7 @@
-use Rattle.std.proofs.Common.{◌≡◌, ◌∷◌, [], sym, ap, subst, ◌∙◌}
+use Rattle.std.proofs.Common.{◌≡◌, ◌∷◌, [], ap, subst, ◌∙◌}
 use Rattle.std.specs.Prelude.{IfOk}
-use Rattle.pres_tree.specs.Paths.{Path}
-use Rattle.pres_tree.specs.Rows.{Rows, Fits, value_at}
+use Rattle.pres_tree.specs.Rows.{value_at}
 use Rattle.pres_tree.specs.Writes.{write, after}
-use Rattle.pres_tree.specs.declared.scalar.Scalar.{Scalar}
 use Rattle.pres_write.specs.Outcomes.{named_path, resolved}
 use Rattle.pres_write.proofs.There.{resolved_alone}
 use Rattle.pres_write.proofs.op.Op.resolve_after.Goals as goal
