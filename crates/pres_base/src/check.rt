@@ -18,11 +18,12 @@ use pres_plan::{MOST_ROWS, PlanRow};
 use pres_retry::Answers;
 use pres_tree::Path;
 
-// The most sessions that are open.
-const MOST_SESSIONS: usize = 1024;
+/// At most this many sessions may be open at a time.
+pub const MOST_SESSIONS: u64 = 1024;
 
-// The greatest server number and number of open sessions together.
-const MOST_NUMBERS: u64 = (1 << 52) - 1;
+/// 2^52 - 1: the number of the last entry and the open sessions together stay at or below it, so
+/// that each session can end, and no count of messages passes 2^53 - 1.
+pub const MOST_NUMBERS: u64 = (1 << 52) - 1;
 
 // Whether each write was done after the one before it, and none after the number.
 fn are_done(answers: &Answers, number: Count) -> bool
@@ -174,7 +175,7 @@ fn are_places(places: &[Path]) -> bool
     places.len() <= MOST_PATHS && are_places_in_order(places)
 }
 
-// Whether it may be an open session after so many entries.
+// Whether it may be an open session after this many entries.
 fn is_open_part(session: &SessionPart, number: Count) -> bool
     ensures { IsTrue result ↔ IsOpenPart number session.now }
 {
@@ -242,7 +243,7 @@ fn are_last(sessions: &[SessionPart], clients: &[ClientPart]) -> bool
     sessions.iter().all(|part| is_last(&part.session, clients))
 }
 
-// Whether each may be an open session after so many entries.
+// Whether each may be an open session after this many entries.
 fn are_open(sessions: &[SessionPart], number: Count) -> bool
     ensures { IsTrue result ↔ All (IsOpenPart number) sessions.now }
 {
@@ -256,8 +257,8 @@ fn are_numbers(parts: &BaseParts) -> bool
         × (parts.now.number + length parts.now.sessions ≤ 2 ^ 52 - 1)) }
 {
     let number = parts.number.get();
-    let open = parts.sessions.as_slice().len();
-    open <= MOST_SESSIONS && parts.batches.get() <= number && number + open as u64 <= MOST_NUMBERS
+    let open = parts.sessions.as_slice().len() as u64;
+    open <= MOST_SESSIONS && parts.batches.get() <= number && number + open <= MOST_NUMBERS
 }
 
 /// Whether the parts are those of a base. It takes no memory.

@@ -8,5 +8,6 @@ mod parts;
 mod plans;
 
 pub use base::Base;
+pub use check::{MOST_NUMBERS, MOST_SESSIONS};
 pub use parts::{BaseParts, ClientPart, SessionPart};
 pub use plans::plan_of_rows;

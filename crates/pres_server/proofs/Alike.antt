@@ -38,7 +38,7 @@ may_take_alike sum z m more old new a f = record { agrees = a.says sum f.agrees;
 abbrev pub placed : ClientSessions → Index → Index
 placed places index = record { places = places; retry = index.retry; listeners = index.listeners; tree = index.tree }
 
--- what is hidden behind an open session makes no difference
+-- what an open session hides makes no difference
 hidden : (live : Option Session) (g h : Option Stamp) → last_stamp live g ≡ last_stamp live h → cond (is_some live) None g ≡ cond (is_some live) None h
 hidden None g h e = e
 hidden (Some session) g h e = refl

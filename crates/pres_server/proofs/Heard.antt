@@ -130,7 +130,7 @@ sorted_after_all m (e ∷ es) heard h = sorted_after_all m es (heard_after m e h
 
 -- ---- the list that the open sessions give
 
--- each open session behind its client, as something else
+-- each open session after its client, as something else
 abbrev pub behind : {X : Type 0} → (ClientId → Session → X) → List (ClientId × Session) → List (ClientId × X)
 behind f es = map (λ (e : ClientId × Session). (e.0, f e.0 e.1)) es
 

@@ -190,7 +190,7 @@ module _ (batches moment number : ℕ) (index : Index) where
         ∙ opens c (same_client k c) refl
         ∙ sym (find_behind (λ _ session. open_of session) c index.places.live.entries))
 
-  -- ---- a server that is made anew
+  -- ---- a server that is rebuilt
 
   abbrev as_open : ClientId × Session → ClientId × OpenSession
   as_open e = (e.0, open_of e.1)

@@ -13,7 +13,8 @@ ghost use Rattle.pres_server.specs.InternalIndex.{live_at, part_at, Ready};
 ghost use Rattle.pres_server.specs.InternalFollows.{IsNextBy, IsEndNumberBy, IsNewerBy, MayComeOn, MayJoinOn};
 
 use crate::index::Index;
-use crate::turn::{MOST_NUMBERS, MOST_SESSIONS, TurnTime};
+use crate::turn::TurnTime;
+use pres_base::{MOST_NUMBERS, MOST_SESSIONS};
 use pres_log::Entry;
 use pres_tree::Path;
 use pres_wire::{Number, SessionId, Why};
@@ -104,7 +105,7 @@ impl Index {
         self.comes_next(session, q) && n.get() == self.retry.last(&session.client).get() + 1
     }
 
-    // Whether the operation comes to the outcome.
+    // Whether the operation has the outcome.
     fn comes_to(
         &self,
         alloc: Global,
@@ -267,8 +268,8 @@ impl Index {
         self.may_come(alloc, entry, now.moment)
     }
 
-    // Whether the entry opens a session that is newer than its client's last one, while so many
-    // are open.
+    // Whether the entry opens a session that is newer than its client's last one, and no more
+    // than the most are open with it.
     fn opens_newer(&self, opened: &Entry) -> bool
         ensures { IsTrue result
             ↔ IsNewerBy (part_at self.now) (open_count self.now.places) opened.now }

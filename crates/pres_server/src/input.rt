@@ -1,8 +1,8 @@
-//! What comes to a server.
+//! What a server is asked for.
 
 use pres_wire::{ClientId, SessionId, Up};
 
-/// What comes to a server.
+/// What a server is asked for.
 #[derive(Drop)]
 pub enum Input {
     /// A message of a client.

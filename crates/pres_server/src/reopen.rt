@@ -3,7 +3,7 @@
 use std::alloc::{AllocError, AllocFailed};
 use thiserror::Error;
 
-/// An allocation was refused after the batch was committed: the server is to be made anew from
+/// An allocation was refused after the batch was committed: the server is to be rebuilt from
 /// the batches that were committed. No other refusal comes from `done`.
 #[derive(Clone, Copy, Debug, Error, PartialEq, Eq)]
 #[error("out of memory after the commit")]

@@ -1,4 +1,4 @@
-//! Servers that are made anew from the batches of their log.
+//! Servers that are rebuilt from the batches of their log.
 
 ghost use Rattle.std.specs.Prelude.{◌≡◌, ◌+◌, ℕ, IfErr, IfOk, OnErr, OnOk};
 ghost use Rattle.pres_server.specs.declared.replay.ReplayFault.TheVariants.{Memory, NotLegal};
@@ -84,7 +84,7 @@ impl From<Reopen> for ReplayFault {
     }
 }
 
-/// A server that is made anew batch by batch. Contracts see it as the sum so far.
+/// A server that is rebuilt batch by batch. Contracts see it as the sum so far.
 #[derive(Drop)]
 pub struct Replay {
     server: Server,

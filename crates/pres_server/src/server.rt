@@ -70,7 +70,7 @@ impl Model for Server {
     ghost invariant = { λ s. IsSum (sum_in s.batches s.moment s.number s.index) };
 }
 
-/// A turn whose batch waits for its commit. It may not be let go: `done` takes it once the batch is
+/// A turn whose batch waits for its commit. It must be used: `done` takes it once the batch is
 /// committed, `abandon` where the commit was refused. Contracts see the server as it was before the
 /// turn, and the moment and the entries of the batch.
 pub struct Busy {
@@ -172,7 +172,7 @@ impl Server {
     }
 
     /// What the server is, as data that can be kept: a server that begins from it has the same sum.
-    /// Busy, for want of memory, is the one refusal.
+    /// The one refusal is Busy, where memory is refused.
     pub fn base(&self) -> Result<Base, Fault>
         ensures base { IfOk result (λ base. sum_for base ≡ self.now.sum) }
         ensures busy { IfErr result (λ e. e ≡ OutOfMemory) }
@@ -215,8 +215,8 @@ impl Server {
         self.index.tree.at(path)
     }
 
-    /// What became of the client's writes, in their order. Busy, for want of memory, is the one
-    /// refusal.
+    /// What became of the client's writes, in their order. The one refusal is Busy, where
+    /// memory is refused.
     pub fn history_of(&self, client: &ClientId) -> Result<Vec<Row>, Fault>
         ensures rows { IfOk result
             (λ rows. rows.items ≡ rows_of client.now self.now.sum.rows) }

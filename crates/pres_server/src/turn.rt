@@ -17,6 +17,7 @@ ghost use Rattle.pres_server.specs.InternalIndex.{live_at, part_at, paths_at, li
 
 use crate::index::Index;
 use crate::input::Input;
+use pres_base::{MOST_NUMBERS, MOST_SESSIONS};
 use pres_log::{Entry, Fault};
 use pres_plan::Plan;
 use pres_retry::Verdict;
@@ -25,13 +26,6 @@ use pres_tree::Path;
 use pres_wire::{ClientId, Limit, Number, SessionId, Up, Why};
 use pres_write::{Items, Moment, Op, Puts, Unconditional};
 use std::alloc::Global;
-
-// At most this many sessions may be open at a time.
-pub(crate) const MOST_SESSIONS: u64 = 1024;
-
-// 2^52 - 1: the number of the last entry and the open sessions together stay at or below it, so
-// that each session can end, and no count of messages passes 2^53 - 1.
-pub(crate) const MOST_NUMBERS: u64 = 4503599627370495;
 
 /// What a turn does.
 #[derive(Drop)]
