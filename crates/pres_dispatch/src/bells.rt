@@ -8,6 +8,9 @@ use std::collections::BTreeMap;
 /// Ends the wait of one connection. It may not wait itself, and may be rung for nothing. No clause
 /// says that anyone hears it: a connection also looks when its read has timed out.
 pub trait Bell {
+    /// From now on it is rung whenever something is put for its session, or given up.
+    fn hang(&self) {}
+
     /// Ends the wait, or the next one.
     fn ring(&self);
 }
@@ -63,6 +66,7 @@ impl<B: Bell + Clone + Drop> Bells<B> {
             number: self.next,
             due_in: None,
         };
+        hung.bell.hang();
         drop(self.hung.insert(session, hung)?);
         self.next = self.next.wrapping_add(1);
         Ok(())

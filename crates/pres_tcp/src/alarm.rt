@@ -4,15 +4,18 @@ use mio::Waker;
 use pres_hub::Bell;
 use std::alloc::{AllocError, Global};
 use std::sync::Arc;
-use std::sync::atomic::{AtomicBool, Ordering};
+use std::sync::atomic::{AtomicBool, AtomicUsize, Ordering};
 
-/// The stream's side stores `sleeps` and then looks at `rung`, the bell's side stores `rung` and then
+/// The stream's side stores `sleeps` and then looks at `rings`, the bell's side adds to `rings` and then
 /// looks at `sleeps`: so one of the two sees the other, and no ring is lost.
 #[derive(Drop)]
 pub(crate) struct Alarm {
     waker: Waker,
     sleeps: AtomicBool,
-    rung: AtomicBool,
+    // How often the bell was rung since the stream heard it last.
+    rings: AtomicUsize,
+    // Whether the bell hangs at the hub.
+    hangs: AtomicBool,
 }
 
 impl Alarm {
@@ -20,25 +23,31 @@ impl Alarm {
         Alarm {
             waker,
             sleeps: AtomicBool::new(false),
-            rung: AtomicBool::new(false),
+            rings: AtomicUsize::new(0),
+            hangs: AtomicBool::new(false),
         }
     }
 
-    /// Before a wait: says that the stream sleeps from now on. `false` if the bell was rung, and
-    /// then there is nothing to wait for.
-    pub(crate) fn may_sleep(&self) -> bool {
+    /// Before a wait: says that the stream sleeps from now on, and how often the bell was rung. If it
+    /// was, the stream doesn't sleep, as there is nothing to wait for.
+    pub(crate) fn fall_asleep(&self) -> usize {
         self.sleeps.store(true, Ordering::SeqCst);
-        if self.rung.swap(false, Ordering::SeqCst) {
+        let rings = self.rings.swap(0, Ordering::SeqCst);
+        if rings > 0 {
             self.sleeps.store(false, Ordering::SeqCst);
-            return false;
         }
-        true
+        rings
     }
 
-    /// After a wait: whether the bell was rung.
-    pub(crate) fn was_rung(&self) -> bool {
+    /// After a wait: how often the bell was rung.
+    pub(crate) fn wake_up(&self) -> usize {
         self.sleeps.store(false, Ordering::SeqCst);
-        self.rung.swap(false, Ordering::SeqCst)
+        self.rings.swap(0, Ordering::SeqCst)
+    }
+
+    /// Whether the bell hangs at the hub, which rings it whenever something is put for the stream.
+    pub(crate) fn hangs(&self) -> bool {
+        self.hangs.load(Ordering::SeqCst)
     }
 }
 
@@ -63,9 +72,13 @@ impl Clone for StreamBell {
 }
 
 impl Bell for StreamBell {
+    fn hang(&self) {
+        self.alarm.hangs.store(true, Ordering::SeqCst);
+    }
+
     // If the wake fails the stream sees it when its wait has timed out.
     fn ring(&self) {
-        self.alarm.rung.store(true, Ordering::SeqCst);
+        self.alarm.rings.fetch_add(1, Ordering::SeqCst);
         if self.alarm.sleeps.swap(false, Ordering::SeqCst) {
             let _ = self.alarm.waker.wake();
         }

@@ -7,7 +7,7 @@ use crate::health::{Halt, Health};
 use crate::notices::CommitNotices;
 use crate::stop::Stop;
 use crate::stream_count::StreamCount;
-use crate::wakeable::Wakeable;
+use crate::wakeable::{Waits, Wakeable};
 use pres_faults::HubFault;
 use pres_hub::{Bell, Hub, Keeper, Moment, OpenGate};
 use pres_sock::serve_stream;
@@ -23,6 +23,9 @@ use std::time::{Clock, Duration, SystemTime, UNIX_EPOCH};
 
 // How long a read waits for bytes or for its bell, in milliseconds.
 const READ_MILLIS: u64 = 50;
+
+// How long it waits where its bell hangs and it is idle, in milliseconds.
+const IDLE_MILLIS: u64 = 1_000;
 
 // How often it looks which sessions are to end.
 const TICK_MILLIS: u64 = 1_000;
@@ -179,13 +182,14 @@ fn connection<
         stream.set_nodelay(true),
         stream.set_write_timeout(Some(Duration::from_millis(WRITE_MILLIS))),
     );
-    let wait = Duration::from_millis(READ_MILLIS);
-    match Wakeable::new(rt, alloc, stream, wait, crowd) {
+    let brief = Duration::from_millis(READ_MILLIS);
+    let long = Duration::from_millis(IDLE_MILLIS);
+    match Wakeable::new(rt, alloc, stream, Waits { brief, long }, crowd) {
         Ok((stream, bell)) => {
             attend(rt, alloc, hub, &mut Ending::new(stream, health), Some(bell));
         }
         Err(stream) => {
-            if stream.set_read_timeout(Some(wait)).is_ok() {
+            if stream.set_read_timeout(Some(brief)).is_ok() {
                 attend(rt, alloc, hub, &mut Ending::new(stream, health), None);
             }
         }

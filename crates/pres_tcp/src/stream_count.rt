@@ -34,9 +34,8 @@ impl StreamCount {
         self.over.load(Ordering::SeqCst)
     }
 
-    /// How long a stream doesn't hear its bell after it heard it, so that what is put meanwhile goes
-    /// out together. With no rest a steady flow to many listeners is nothing but wakes.
-    pub(crate) fn rest_millis(&self) -> u64
+    /// How long a stream rests at most between two rings of its bell, in milliseconds.
+    pub(crate) fn longest_rest(&self) -> u64
         ensures least { 1 ≤ result }
         ensures most { result ≤ 16 }
     {
@@ -56,11 +55,12 @@ impl<'a> OpenStream<'a> {
         OpenStream { crowd }
     }
 
-    pub(crate) fn rest_millis(&self) -> u64
+    /// How long it rests at most between two rings of its bell, in milliseconds.
+    pub(crate) fn longest_rest(&self) -> u64
         ensures least { 1 ≤ result }
         ensures most { result ≤ 16 }
     {
-        self.crowd.rest_millis()
+        self.crowd.longest_rest()
     }
 }
 

@@ -3,6 +3,7 @@
 ghost use Rattle.std.specs.Prelude.{◌≡◌, IfErr};
 
 use crate::alarm::{Alarm, StreamBell};
+use crate::rest::Rest;
 use crate::stream_count::{OpenStream, StreamCount};
 use mio::unix::SourceFd;
 use mio::{Events, Interest, Poll, Token, Waker};
@@ -22,6 +23,18 @@ const BELL: Token = Token(1);
 // one that waits all the same, as where the last bytes filled the buffer exactly.
 const FULL_READ_MILLIS: u64 = 1;
 
+// How many reads in a row bring nothing before a stream whose bell hangs waits longer.
+const BRIEF_READS: u32 = 20;
+
+/// How long a read waits at most.
+#[derive(Clone, Copy, Debug)]
+pub struct Waits {
+    /// At first, and where no bell hangs.
+    pub brief: Duration,
+    /// Once reads brought nothing for a while, and the bell hangs: then nothing is missed.
+    pub long: Duration,
+}
+
 /// A blocking stream whose reads wait for bytes or for the bell, and no longer than a set time. A
 /// read that ends by the bell or by the time answers `WouldBlock`. A write is the stream's own, with
 /// its own timeout.
@@ -32,8 +45,11 @@ pub struct Wakeable<'a> {
     events: Events,
     alarm: Arc<Alarm, Global>,
     place: OpenStream<'a>,
-    wait: Duration,
+    waits: Waits,
+    // How many reads in a row brought nothing.
+    idle_reads: u32,
     was_rung: bool,
+    rest: Rest,
     // Whether there may be something to read that `poll` won't report again.
     has_more: bool,
     // Whether the peer has closed, which is reported once.
@@ -63,13 +79,13 @@ fn parts(
 }
 
 impl<'a> Wakeable<'a> {
-    /// A stream whose reads wait for this long at most, and its bell. Where the system has no two
+    /// A stream whose reads wait no longer than these times, and its bell. Where the system has no two
     /// descriptors or no memory for it, the stream comes back.
     pub fn new(
         net: &impl Net,
         alloc: Global,
         stream: TcpStream,
-        wait: Duration,
+        waits: Waits,
         crowd: &'a StreamCount,
     ) -> Result<(Wakeable<'a>, StreamBell), TcpStream>
         ensures back { IfErr result (λ back. back ≡ stream) }
@@ -82,8 +98,10 @@ impl<'a> Wakeable<'a> {
                     events,
                     alarm,
                     place: OpenStream::new(crowd),
-                    wait,
+                    waits,
+                    idle_reads: 0,
                     was_rung: false,
+                    rest: Rest::new(),
                     has_more: false,
                     is_ended: false,
                 };
@@ -93,25 +111,44 @@ impl<'a> Wakeable<'a> {
         }
     }
 
+    // How long the next read waits at most.
+    fn wait(&self) -> Duration {
+        if self.idle_reads >= BRIEF_READS && self.alarm.hangs() {
+            self.waits.long
+        } else {
+            self.waits.brief
+        }
+    }
+
     // Waits until there is something to read, the bell rings or the time is up.
     fn sleep(&mut self) -> io::Result<()> {
-        let mut wait = self.wait;
-        if self.was_rung {
+        let mut wait = self.wait();
+        let rest = Duration::from_millis(self.rest.millis());
+        if self.was_rung && !rest.is_zero() {
             self.was_rung = false;
-            let rest = Duration::from_millis(self.place.rest_millis());
             self.listen(rest)?;
             if self.has_more {
                 return Ok(());
             }
             wait = wait.saturating_sub(rest);
         }
-        if !self.alarm.may_sleep() {
-            self.was_rung = true;
+        let rings = self.alarm.fall_asleep();
+        if rings > 0 {
+            self.hear(rings);
             return Ok(());
         }
         let listened = self.listen(wait);
-        self.was_rung = self.alarm.was_rung();
+        let rings = self.alarm.wake_up();
+        self.hear(rings);
         listened
+    }
+
+    // The bell was rung this often since it was heard last.
+    fn hear(&mut self, rings: usize) {
+        self.was_rung = rings > 0;
+        if self.was_rung {
+            self.rest.note(rings, self.place.longest_rest());
+        }
     }
 
     // Waits for a report on the stream. Any report is reason to read: the read finds out which.
@@ -135,8 +172,10 @@ impl Read for Wakeable<'_> {
             self.sleep()?;
         }
         if !self.has_more {
+            self.idle_reads = self.idle_reads.saturating_add(1);
             return Err(io::Error::from(ErrorKind::WouldBlock));
         }
+        self.idle_reads = 0;
         let got = self.stream.read(buf);
         self.has_more = match &got {
             Ok(count) => *count == buf.len() || self.is_ended,

@@ -1,7 +1,7 @@
 //! What ends a read of a stream that waits for bytes or for its bell.
 
 use pres_hub::Bell;
-use pres_tcp::{StreamBell, StreamCount, Wakeable};
+use pres_tcp::{StreamBell, StreamCount, Waits, Wakeable};
 use std::alloc::Global;
 use std::io::{ErrorKind, Read, Write};
 use std::net::{Net, TcpListener, TcpStream};
@@ -30,7 +30,9 @@ fn waking<'a, R: Net<Listener = TcpListener, Stream = TcpStream> + Abort>(
     crowd: &'a StreamCount,
 ) -> (Wakeable<'a>, StreamBell, TcpStream) {
     let (near, far) = pair(rt).expect(rt, "a connection");
-    match Wakeable::new(rt, alloc, near, Duration::from_millis(millis), crowd) {
+    let brief = Duration::from_millis(millis);
+    let long = Duration::from_millis(LONG_MILLIS);
+    match Wakeable::new(rt, alloc, near, Waits { brief, long }, crowd) {
         Ok((stream, bell)) => (stream, bell, far),
         Err(_) => panic!(rt; "no descriptors"),
     }
@@ -59,6 +61,27 @@ fn time_ends_a_read(rt: HostRuntime) {
     let start = Instant::now(&rt).expect(&rt, "a clock");
     expect_read(&rt, &mut stream, Err(ErrorKind::WouldBlock));
     assert!(rt; start.elapsed(&rt).expect(&rt, "a clock") >= Duration::from_millis(30));
+}
+
+// Reads that bring nothing end soon at first, and later only by the bell, which hangs.
+#[test]
+fn an_idle_stream_waits_for_its_bell(rt: HostRuntime) {
+    let crowd = StreamCount::new();
+    let (mut stream, bell, _far) = waking(&rt, rt.alloc(), 1, &crowd);
+    bell.hang();
+    for _ in 0..20u8 {
+        expect_read(&rt, &mut stream, Err(ErrorKind::WouldBlock));
+    }
+    let start = Instant::now(&rt).expect(&rt, "a clock");
+    let child = thread::spawn(&rt, move || {
+        thread::sleep(&rt, Duration::from_millis(30));
+        bell.ring();
+    })
+    .expect(&rt, "a thread");
+    expect_read(&rt, &mut stream, Err(ErrorKind::WouldBlock));
+    assert!(rt; start.elapsed(&rt).expect(&rt, "a clock") >= Duration::from_millis(30));
+    expect_soon(&rt, &start);
+    child.join(&rt);
 }
 
 #[test]
