@@ -117,8 +117,8 @@ server_low (array ds) s h = cc
 server_low (object ms) s h =
     let one = chosen (is_one ms) (increment_of (get_member (codes "increment") ms)) s h in
     let found = increment_low (get_member (codes "increment") ms) s one.1 in
-    let low = here_of (codes "increment") number_here ms found.0 one.0 found.1.0 in
-    let none = found.1.1 in
+    let low = here_of (codes "increment") number_here ms found.0 one.0 found.1 in
+    let none = found.2 in
     omega (arith, low, none)
 
 placeholder_low : (ms : Members) (o : Option Data) (s : DraftLeaf) → get_member (codes ".sv") ms ≡ o → placeholder ms o ≡ leaf s → depth (object ms) ≤ 2
