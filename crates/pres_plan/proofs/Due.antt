@@ -1,5 +1,5 @@
 -- The writes that are due, row after row.
-use Rattle.std.proofs.Common.{refl, sym, ◌∙◌, ap, arith, ◌≡◌, ◌+◌, ◌<◌, ℕ, suc, false, List, [], ◌∷◌, ◌++◌, ◌||◌, length, take, drop, get_or, drop-cons, length-drop, add-one, append_assoc, append-nil}
+use Rattle.std.proofs.Common.{refl, sym, ◌∙◌, ap, arith, ◌≡◌, ◌+◌, ◌<◌, ℕ, suc, false, List, [], ◌∷◌, ◌++◌, ◌||◌, length, take, drop, get_or, drop-cons, add-one, append_assoc, append-nil}
 use Rattle.std.specs.List.{list_any}
 use Rattle.std.specs.Map.{values_of}
 use Rattle.std.proofs.Math.Seq.{take-suc}
@@ -75,10 +75,6 @@ without_first (x ∷ xs) = xs
 
 pub next_left : {A : Type 0} (i : ℕ) (xs : List A) (a : A) (ys : List A) → i < length xs → drop i xs ≡ a ∷ ys → drop (i + 1) xs ≡ ys
 next_left i xs a ys h e = ap without_first (sym (drop_more xs i a h) ∙ e)
-
--- as many writes are left as rows
-pub some_left : {A : Type 0} (i : ℕ) (xs : List A) → i < length xs → drop i xs ≡ [] → ⊥
-some_left i xs h none = let left = length-drop i xs in let no = ap length none in absurd (omega arith)
 
 numbered_last : (xs : List PlanRow) (row : PlanRow) (writes : List Basic) (b : Basic) (ys : List Basic) → drop (length xs) writes ≡ b ∷ ys
     → numbered (xs ++ row ∷ []) writes ≡ numbered xs writes ++ record { q = row.q; basic = b } ∷ []

@@ -207,12 +207,12 @@ impl Plan {
         ensures writes { IfOk result (λ made. made ≡ due tree.now moment self.now) }
         ensures err { IfErr result (λ e. e ≡ Memory) }
     {
-        let mut made = Vec::with_capacity(alloc, self.standing.rows.len())?;
+        let mut writes = Vec::with_capacity(alloc, self.standing.rows.len())?;
         for (_, row) in self.standing.rows.as_slice() {
-            let write = row.action.write(alloc, tree, made.as_slice(), moment)?;
-            made.push(write)?;
+            let write = row.action.write(alloc, tree, writes.as_slice(), moment)?;
+            writes.push(write)?;
         }
-        Ok(Items::of(made))
+        Ok(Items::of(writes))
     }
 }
 

@@ -55,8 +55,9 @@ impl Action {
         match self {
             Action::Put(placement) => {
                 let path = placement.path().copy(alloc)?;
-                let held = held_for(tree, before, &path, placement.draft(), moment);
-                let value = settle(alloc, placement.draft(), held, moment)?;
+                let draft = placement.draft();
+                let held = held_for(tree, before, &path, draft, moment);
+                let value = settle(alloc, draft, held, moment)?;
                 Ok(fitting(path, value))
             }
             Action::Keep(path) => {
