@@ -76,7 +76,7 @@ fn row_text(rt: &impl Abort, alloc: Global, row: &PlanRow) -> String {
     let path = path_text(rt, alloc, row.action.path());
     let text = match &row.action {
         Action::Put(placement) => {
-            let tree = settle(alloc, placement.draft(), Moment::at(0)).expect(rt, "memory");
+            let tree = settle(alloc, placement.draft(), None, Moment::at(0)).expect(rt, "memory");
             let draft = tree_text(rt, alloc, &tree);
             format!(in alloc; "[{q},{path},{draft}]")
         }
