@@ -1,5 +1,5 @@
 -- Values that fit at a path are read there as they are printed, and nest few levels.
-use Rattle.std.proofs.Common.{◌≡◌, ◌-◌, ◌≤◌, length, length-append, cond, Option, Some, None, is_none, sym, ap, ◌∙◌, arith}
+use Rattle.std.proofs.Common.{◌≡◌, ◌+◌, ◌-◌, ◌≤◌, length, length-append, cond, Option, Some, None, is_none, sym, ap, ◌∙◌, arith}
 use Rattle.serde_json.specs.Data.{Data, depth}
 use Rattle.pres_tree.specs.declared.fault.TreeFault.{TreeFault}
 use Rattle.pres_tree.specs.declared.scalar.Scalar.{Scalar}
