@@ -157,7 +157,7 @@ impl BatchJson for Placement {
 pub(crate) fn puts_value(alloc: Global, puts: &Puts) -> Result<Value, AllocError>
     ensures json { IfOk result (λ made. view made ≡ list_json put_json puts.now) }
     ensures reads_back { IfOk result (λ _. puts_in (list_json put_json puts.now) ≡ Some puts.now) }
-    ensures low { IfOk result (λ _. depth (list_json put_json puts.now) ≤ 35) }
+    ensures low { IfOk result (λ _. depth (list_json put_json puts.now) ≤ 36) }
 {
     list_value(alloc, puts.as_slice())
 }
