@@ -34,8 +34,7 @@ const PLACES: &str =
 {"now":5,"op":"set","path":"/p/n","value":{"a":{".sv":{"increment":1}},"b":{".sv":{"increment":0}},"c":2}}
 "#;
 
-const NO_INCREMENT: &str =
-    r#"{"now":1,"op":"set","path":"/n","value":{".sv":{"increment":1.5}}}
+const NO_INCREMENT: &str = r#"{"now":1,"op":"set","path":"/n","value":{".sv":{"increment":1.5}}}
 {"now":1,"op":"set","path":"/n","value":{".sv":{"increment":9223372036854775808}}}
 {"now":1,"op":"set","path":"/n","value":{".sv":{"increment":"x"}}}
 "#;
