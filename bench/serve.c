@@ -22,6 +22,7 @@
 //                                          opens sessions that listen to so many paths each, says so, and waits for the end of
 //                                          its input; SERVER: presence, mqtt or redis
 //   load listen PORT PATHS ROUNDS          a session listens to so many paths, then to none of them, and ends: how long each takes
+//   load leave PORT ROWS ROUNDS            how long the end of a session takes that left so many writes, of values and of increments
 #define _GNU_SOURCE
 #include <arpa/inet.h>
 #include <errno.h>
@@ -921,6 +922,30 @@ static void time_listens(int paths, int rounds) {
     puts("");
 }
 
+// ---- what ends
+
+static void time_left(int rows, int rounds) {
+    Times values = {0}, increments = {0};
+    Conn *c = conns_of(1, "e");
+    for (int round = 0; round < 2 * rounds; round++) {
+        const char *value = round % 2 ? "{\".sv\":{\"increment\":1}}" : "1";
+        open_session(c);
+        for (int k = 0; k < rows; k++) {
+            say(c, "{\"m\":\"left\",\"op\":{\"op\":\"set\",\"path\":\"/left/%d\",\"value\":%s},\"q\":%ld," SESSION "}", k,
+                value, ++c->q, OF(c));
+            hear(c, "armed");
+        }
+        double asked = now();
+        say(c, "{\"m\":\"bye\",\"q\":%ld," SESSION "}", ++c->q, OF(c));
+        hear(c, "gone");
+        note(round % 2 ? &increments : &values, now() - asked);
+        close(c->fd);
+    }
+    print_times("values_", &values);
+    print_times("increments_", &increments);
+    puts("");
+}
+
 // ---- a file of many batches, and connections that wait
 
 // Makes its share of the batches by writes, apart from its opening and its end.
@@ -986,6 +1011,7 @@ int main(int count, char **words) {
     else if (!strcmp(use, "fill") && count == 4) fill(atol(words[3]));
     else if (!strcmp(use, "hold") && count == 6) hold(news_of(kind), atoi(words[4]), atoi(words[5]));
     else if (!strcmp(use, "listen") && count == 5) time_listens(atoi(words[3]), atoi(words[4]));
+    else if (!strcmp(use, "leave") && count == 5) time_left(atoi(words[3]), atoi(words[4]));
     else return 2;
     return 0;
 }

@@ -8,7 +8,7 @@ import sys
 from pathlib import Path
 from typing import Any, List
 
-from presence_client import ABORT, SERVER_TIMESTAMP, Snapshot, errors
+from presence_client import ABORT, SERVER_TIMESTAMP, Increment, Snapshot, errors
 from presence_client.database import Database
 from tests.support import LONG, ShellTest, until
 
@@ -182,6 +182,48 @@ class Losses(ShellTest):
         self.assertLess(number, (await watching.ref("/n").get()).number)
         reply = cuts[0][cuts[0].index(b"{") :]
         self.assertIn(b'"done":%d,' % number, reply)
+
+    async def test_increments_are_saved_and_replayed(self) -> None:
+        server = await self.server()
+        alice = await self.opened(server.url)
+        bob = await self.opened(server.url, "bob")
+        for db in (alice, bob):
+            await db.ref("/count").on_disconnect().set(Increment(-1))
+            await db.ref("/count").set(Increment(1))
+        await alice.ref("/a/b").set(5)
+        await alice.ref("/a").on_disconnect().set({"b": 1})
+        await alice.ref("/a/b").on_disconnect().set(Increment(1))
+        self.assertEqual((await bob.ref("/count").get()).value, 2)
+        await alice.close()
+        shown: List[Any] = []
+        bob.ref("/").on_value(lambda value: shown.append(value.value))
+        await until(lambda: shown and shown[-1] == {"a": {"b": 2}, "count": 1})
+        await server.kill()
+        await server.start()
+        # the start ends the session that was open
+        carol = await self.opened(server.url, "carol")
+        self.assertEqual((await carol.ref("/").get()).value, {"a": {"b": 2}, "count": 0})
+
+    async def test_an_increment_whose_reply_is_lost_counts_once(self) -> None:
+        server = await self.server()
+        relay = await self.relay(server)
+        db = await self.opened(relay.url)
+        cuts: List[bytes] = []
+
+        def cuts_first_reply(data: bytes) -> bool:
+            if not cuts and b'"m":"reply"' in data:
+                cuts.append(data)
+                return True
+            return False
+
+        relay.cuts_at = cuts_first_reply
+        await asyncio.wait_for(db.ref("/n").set(Increment(1)), LONG)
+        self.assertEqual(len(cuts), 1)
+        self.assertEqual((await db.ref("/n").get()).value, 1)
+        await server.kill()
+        await server.start()
+        bob = await self.opened(server.url, "bob")
+        self.assertEqual((await bob.ref("/n").get()).value, 1)
 
     async def test_offline_writes_go_out_in_order(self) -> None:
         server = await self.server()
