@@ -112,7 +112,7 @@ does_insert limit mode k b db after text tally has does =
     let edit : edited trees (edit_of trees table [] Chosen 0 given.0) ≡ put_row (stored k b) (trees 2) = ap (λ all. edited trees (edit_of trees table [] Chosen 0 all)) given.1.1 ∙ rw (cast_null, cast_int (pos k), cast_int (pos b.moment)) in
     (ap (λ (d : Database). d.schema) now ∙ ap (λ tables. let s : Schema = record db.schema { tables = tables } in s) (sym has.tables), ap (λ (d : Database). d.trees 2) now ∙ ap (λ (t : Trees). t 2) ends ∙ rows ∙ edit)
 
-put_above : (k : ℕ) (b : RowContent) (rows : List Row) → AreBelow k rows → put_row (stored k b) rows ≡ rows ++ stored k b ∷ []
+pub put_above : (k : ℕ) (b : RowContent) (rows : List Row) → AreBelow k rows → put_row (stored k b) rows ≡ rows ++ stored k b ∷ []
 put_above k b [] h = refl
 put_above k b (r ∷ rows) h = rw (h.0) (ap (λ l. r ∷ l) (put_above k b rows h.1))
 
@@ -233,7 +233,7 @@ below_more : (k : ℕ) (rows : List Row) → AreBelow k rows → AreBelow (k + 1
 below_more k [] h = tt
 below_more k (r ∷ rows) h = (value_cmp_total.trans (rowid r) (Int (pos k)) (Int (pos (k + 1))) h.0 (below k (k + 1) (omega arith)), below_more k rows h.1)
 
-below_push : (k : ℕ) (b : RowContent) (rows : List Row) → AreBelow k rows → AreBelow (k + 1) (rows ++ stored k b ∷ [])
+pub below_push : (k : ℕ) (b : RowContent) (rows : List Row) → AreBelow k rows → AreBelow (k + 1) (rows ++ stored k b ∷ [])
 below_push k b [] h = (below k (k + 1) (omega arith), tt)
 below_push k b (r ∷ rows) h = (value_cmp_total.trans (rowid r) (Int (pos k)) (Int (pos (k + 1))) h.0 (below k (k + 1) (omega arith)), below_push k b rows h.1)
 
@@ -242,7 +242,7 @@ all_push : (v : Value) (k : ℕ) (b : RowContent) (rows : List Row) → value_cm
 all_push v k b [] less h = (less, tt)
 all_push v k b (r ∷ rows) less h = (h.0, all_push v k b rows less h.1)
 
-rising_push : (k : ℕ) (b : RowContent) (rows : List Row) → AreBelow k rows → IsTable rows → IsTable (rows ++ stored k b ∷ [])
+pub rising_push : (k : ℕ) (b : RowContent) (rows : List Row) → AreBelow k rows → IsTable rows → IsTable (rows ++ stored k b ∷ [])
 rising_push k b [] h rising = (tt, tt)
 rising_push k b (r ∷ rows) h rising = (all_push (rowid r) k b rows h.0 rising.0, rising_push k b rows h.1 rising.1)
 

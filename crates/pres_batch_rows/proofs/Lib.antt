@@ -9,3 +9,11 @@ pub mod Finding
 pub mod Collecting
 pub mod Growing
 pub mod Shut
+pub mod Grouping
+pub mod Lookups
+pub mod CheckpointStatements
+pub mod MigrationStatements
+pub mod Deleting
+pub mod Checkpointing
+pub mod Migrating
+pub mod Basing

@@ -4,3 +4,7 @@ pub mod TableStates
 pub mod RowIteration
 pub mod TableCreation
 pub mod TableOpening
+pub mod CheckpointTables
+pub mod Checkpoints
+pub mod Migrations
+pub mod SavedCheckpoints

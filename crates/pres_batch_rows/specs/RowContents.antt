@@ -1,5 +1,5 @@
 -- What the rows of the table batch save.
-use Rattle.std.specs.Prelude.{◌≡◌, ◌+◌, ◌==◌, ◌&&◌, nat_le, if◌then◌else◌, List, [], ◌∷◌, map, Option, Some, None, Result, Ok, Err, ℕ, pos, string_bytes}
+use Rattle.std.specs.Prelude.{◌≡◌, ◌≤◌, ◌+◌, ◌==◌, ◌&&◌, nat_le, if◌then◌else◌, List, [], ◌∷◌, map, Option, Some, None, Result, Ok, Err, ℕ, pos, string_bytes}
 use Rattle.std.specs.Str.{is_utf8}
 use Rattle.std.specs.List.{AllByRecursion}
 use Rattle.std.specs.declared.cmp.Ordering.TheVariants.{Less}
@@ -19,9 +19,18 @@ pub record RowContent : Type 0 where
 abbrev pub saved_of : SavedRow → RowContent
 saved_of row = record { moment = row.moment; body = string_bytes row.body }
 
+-- its moment is one of those that there are
+abbrev pub HasMoment : RowContent → Type 0
+HasMoment s = s.moment ≤ last_moment
+
 -- the row with a number as it is stored: the number, the place of the column k, the moment and the text
 abbrev pub stored : ℕ → RowContent → Row
 stored k s = Int (pos k) ∷ Null ∷ Int (pos s.moment) ∷ Text s.body ∷ []
+
+-- the rows of these, numbered from this number on
+abbrev pub stored_from : ℕ → List RowContent → List Row
+stored_from k [] = []
+stored_from k (s ∷ more) = stored k s ∷ stored_from (k + 1) more
 
 -- the rows of the table batch
 abbrev pub rows_in : State → List Row

@@ -9,7 +9,7 @@ use Rattle.sqlite.specs.Table.{Table}
 use Rattle.sqlite.specs.State.{State, HasCleanDisk}
 use Rattle.sqlite.specs.Held.{Held, held_code, state}
 use Rattle.pres_batch_rows.specs.Schemas.{saved_schema}
-use Rattle.pres_batch_rows.specs.RowContents.{RowContent, stored, rows_in, AreBelow}
+use Rattle.pres_batch_rows.specs.RowContents.{RowContent, stored, stored_from, rows_in, AreBelow}
 
 -- the connection, and the number of the last row
 pub record TableState (S : Type 0) : Type 0 where
@@ -51,6 +51,15 @@ Serves g t = Awaits (state g t.connection) (t.last + 1)
 -- one row more, which is committed
 pub record AddsRow (old new : State) (k : ℕ) (saved : RowContent) : Type 0 where
   pub rows : rows_in new ≡ rows_in old ++ stored k saved ∷ []
+  pub schema : new.now.schema ≡ old.now.schema
+  pub committed : new.committed ≡ new.now
+  pub mode : new.in_transaction ≡ false
+  pub was_open : IsTrue old.is_open
+  pub is_open : IsTrue new.is_open
+
+-- these rows more, in their order, which are all committed
+pub record AddsRows (old new : State) (k : ℕ) (all : List RowContent) : Type 0 where
+  pub rows : rows_in new ≡ rows_in old ++ stored_from k all
   pub schema : new.now.schema ≡ old.now.schema
   pub committed : new.committed ≡ new.now
   pub mode : new.in_transaction ≡ false

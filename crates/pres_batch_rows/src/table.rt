@@ -5,15 +5,15 @@ ghost use Rattle.sqlite.specs.Held.{state};
 ghost use Rattle.sqlite.specs.State.{HasCleanDisk, IsUnchanged, Survives};
 ghost use Rattle.sqlite.specs.View.{doubt};
 ghost use Rattle.pres_ids.specs.Numbers.{greatest_number};
-ghost use Rattle.pres_batch_rows.specs.TableStates.{IsOurs, Serves, AddsRow, IsSame, IsLeft, Lasts, Outlasts};
+ghost use Rattle.pres_batch_rows.specs.TableStates.{IsOurs, Serves, AddsRow, AddsRows, IsSame, IsLeft, Lasts, Outlasts};
 ghost use Rattle.pres_batch_rows.specs.TableOpening.{HasFormat, LacksFormat, IsFound};
 ghost use Rattle.pres_batch_rows.specs.TableCreation.{IsMade, HoldsFormat, Makes, FailsToMake, making_fault};
 ghost use Rattle.pres_batch_rows.specs.Schemas.{no_schema};
-ghost use Rattle.pres_batch_rows.specs.RowContents.{saved_of, saved_rows, shown_rows, stored, rows_in};
+ghost use Rattle.pres_batch_rows.specs.RowContents.{saved_of, saved_rows, shown_rows, stored, stored_from, rows_in};
 ghost use Rattle.pres_batch_rows.specs.RowIteration.{GoesOver, TakesRows};
 
 use crate::format::find;
-use crate::insert::insert;
+use crate::insert::{insert, insert_all};
 use crate::make::{make, making_fault};
 use crate::row::SavedRow;
 use crate::take::{Collector, Take, go_over};
@@ -166,6 +166,55 @@ impl<S: Alter + Drop> BatchTable<S> {
         let _ = moment.millis();
         insert(&mut self.connection, self.last + 1, moment, body)?;
         self.last += 1;
+        Ok(())
+    }
+
+    /// Adds the rows in their order, numbered on from the last, and commits them all at once, by
+    /// one sync: all or none. Once that is answered, whatever a crash leaves has them, also a crash
+    /// in a later call. A list of one is saved as by `append`. Database where the number of the last
+    /// of them would be above 2^53 - 1.
+    pub fn append_all(&mut self, rows: &[SavedRow]) -> Result<(), SavedFault>
+        ensures ok { HasCleanDisk (state S.Store self.new.connection) → Serves S.Store self.old
+            → OnOk result (AddsRows (state S.Store self.old.connection)
+            (state S.Store self.new.connection) (self.old.last + 1) (map saved_of rows.now)) }
+        ensures saved { HasCleanDisk (state S.Store self.new.connection) → Serves S.Store self.old
+            → OnOk result ((before : _)
+            → saved_rows (shown_rows (state S.Store self.old.connection)) ≡ Ok before
+            → self.old.last ≡ length before
+            → saved_rows (shown_rows (state S.Store self.new.connection))
+            ≡ Ok (before ++ map saved_of rows.now)) }
+        ensures last { self.new.last
+            ≡ (if is_ok result then self.old.last + length rows.now else self.old.last) }
+        ensures err { HasCleanDisk (state S.Store self.new.connection) → Serves S.Store self.old
+            → OnErr result (IsLeft (state S.Store self.old.connection)
+            (state S.Store self.new.connection)) }
+        ensures named { IfErr result (λ e. (e ≡ SavedFault.Memory) ⊎ (e ≡ SavedFault.Database)) }
+        ensures shut { HasCleanDisk (state S.Store self.new.connection) → Serves S.Store self.old
+            → (IsTrue (state S.Store self.old.connection).is_open → ⊥)
+            → is_ok result ≡ false }
+        ensures spent { greatest_number < self.old.last + length rows.now
+            → result ≡ Err SavedFault.Database }
+        ensures crash { Serves S.Store self.old
+            → Survives (state S.Store self.old.connection) (state S.Store self.new.connection)
+            (λ db. IsTrue (state S.Store self.old.connection).is_open
+            × (db 2 ≡ rows_in (state S.Store self.old.connection)
+            ++ stored_from (self.old.last + 1) (map saved_of rows.now))) }
+        ensures durable { HasCleanDisk (state S.Store self.new.connection)
+            → Serves S.Store self.old
+            → OnOk result (Lasts (state S.Store self.new.connection)) }
+        ensures outlasts { HasCleanDisk (state S.Store self.new.connection)
+            → Serves S.Store self.old
+            → (rows : _) → Outlasts rows (state S.Store self.old.connection)
+            → Outlasts rows (state S.Store self.new.connection) }
+        ensures serves { Serves S.Store self.old → Serves S.Store self.new }
+    {
+        let count = rows.len() as u64;
+        match MAX_SAFE_INTEGER.checked_sub(self.last) {
+            Some(room) if count <= room => {}
+            _ => return Err(SavedFault::Database),
+        }
+        insert_all(&mut self.connection, self.last + 1, rows)?;
+        self.last += count;
         Ok(())
     }
 

@@ -46,6 +46,27 @@ impl Take for Until {
     }
 }
 
+// The row that a moment and a text stand for.
+fn row_of(rt: &impl Abort, alloc: Global, row: &str) -> SavedRow {
+    let (millis, body) = row.split_once(' ').expect(rt, "a text");
+    let millis: u64 = millis.parse().expect(rt, "a number");
+    if millis > MAX_SAFE_INTEGER {
+        panic!(rt; "no moment");
+    }
+    SavedRow {
+        moment: Moment::at(millis),
+        body: said(rt, alloc, body),
+    }
+}
+
+// Whether rows were appended.
+fn appended(rt: &impl Abort, alloc: Global, result: Result<(), SavedFault>) -> String {
+    match result {
+        Ok(()) => said(rt, alloc, "appended"),
+        Err(fault) => refused(rt, alloc, fault),
+    }
+}
+
 // Adds the row of a moment and a text.
 fn append<S: Alter + Drop>(
     rt: &impl Abort,
@@ -53,15 +74,19 @@ fn append<S: Alter + Drop>(
     table: &mut BatchTable<S>,
     row: &str,
 ) -> String {
-    let (millis, body) = row.split_once(' ').expect(rt, "a text");
-    let millis: u64 = millis.parse().expect(rt, "a number");
-    if millis > MAX_SAFE_INTEGER {
-        panic!(rt; "no moment");
-    }
-    match table.append(Moment::at(millis), body) {
-        Ok(()) => said(rt, alloc, "appended"),
-        Err(fault) => refused(rt, alloc, fault),
-    }
+    let row = row_of(rt, alloc, row);
+    appended(rt, alloc, table.append(row.moment, row.body.as_str()))
+}
+
+// Adds the row, and another with the same moment and text, at once.
+fn append_twice<S: Alter + Drop>(
+    rt: &impl Abort,
+    alloc: Global,
+    table: &mut BatchTable<S>,
+    row: &str,
+) -> String {
+    let rows = [row_of(rt, alloc, row), row_of(rt, alloc, row)];
+    appended(rt, alloc, table.append_all(&rows))
 }
 
 fn load<S: Alter + Drop>(rt: &impl Abort, alloc: Global, table: &mut BatchTable<S>) -> String {
@@ -95,6 +120,8 @@ fn answer<S: Alter + Drop>(
     match word {
         "open" => said(rt, alloc, "found"),
         "append" => append(rt, alloc, table, rest),
+        "append_twice" => append_twice(rt, alloc, table, rest),
+        "append_none" => appended(rt, alloc, table.append_all(&[])),
         "load" => load(rt, alloc, table),
         "each" => each(rt, alloc, table),
         _ => panic!(rt; "no such call"),
@@ -166,6 +193,19 @@ append 5 f => appended
 load => rows, 1 a, 5 f
 sql INSERT INTO batch(k, moment, body) VALUES(-1, 1, 'g') => run
 load => BadRow 1"#;
+
+const GROUPS: &str = r#"create => created
+append_twice 1 a => appended
+append 2 b => appended
+append_none => appended
+load => rows, 1 a, 1 a, 2 b
+append_twice 3 c => appended
+each => a, a, b, c, c, all"#;
+
+#[test]
+fn groups_are_kept_in_order(rt: HostRuntime) {
+    check_database(&rt, rt.alloc(), GROUPS);
+}
 
 #[test]
 fn rows_are_kept_in_order(rt: HostRuntime) {
