@@ -1,4 +1,4 @@
-//! Tests of bases and of kept answers, over the public calls of their crates. They stand in a crate of
+//! Tests of bases, of their bodies and of kept answers, over the public calls of their crates. They stand in a crate of
 //! their own, since a crate with tests is proved twice.
 #![tactic(auto)]
 
@@ -6,3 +6,5 @@
 mod answers;
 #[cfg(test)]
 mod bases;
+#[cfg(test)]
+mod bodies;

@@ -1,0 +1,5 @@
+pub mod Fields
+pub mod Lists
+pub mod Nulls
+pub mod Parts
+pub mod Plans

@@ -1,0 +1,11 @@
+//! The text in which a base is saved: the body of a checkpoint.
+#![tactic(auto)]
+
+mod answers;
+mod body;
+mod form;
+mod part;
+mod plain;
+mod plan;
+
+pub use body::{print_base, read_base};
