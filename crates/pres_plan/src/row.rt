@@ -98,13 +98,22 @@ fn held_after<'a>(tree: &'a Tree, before: &'a [Basic], path: &Path) -> Option<&'
     let Some((last, earlier)) = before.split_last() else {
         return tree.at(path);
     };
-    if !last.path().is_prefix_of(path) {
+    if !is_above(last, path) {
         return held_after(tree, earlier, path);
     }
     let value = last.value()?;
     // it ensures that the value's rows are in order
     let _ = value.is_empty();
     value.at_below(path, last.path().len())
+}
+
+// Whether the write, which isn't at the path or below it, is above it. Of most writes the length
+// of the path tells.
+fn is_above(write: &Basic, path: &Path) -> bool
+    requires { is_prefix path.now write.now.path ≡ false }
+    ensures { result ≡ is_prefix write.now.path path.now }
+{
+    write.path().len() < path.len() && write.path().is_prefix_of(path)
 }
 
 // The write of a value that may stand at the path.

@@ -1,9 +1,7 @@
-use Rattle.std.proofs.Common.{◌≡◌, ◌∷◌, ◌++◌, [], List, length, length-append, arith, drop, sym, ap, subst, ◌∙◌}
+use Rattle.std.proofs.Common.{◌≡◌, ◌∷◌, ◌++◌, [], length, length-append, arith, drop, sym, ap, subst, ◌∙◌}
 use Rattle.std.specs.Prelude.{option_copied}
-use Rattle.pres_tree.specs.Paths.{is_prefix}
 use Rattle.pres_tree.specs.Rows.{rows_in, value_at}
 use Rattle.pres_tree.proofs.After.{value_alone}
-use Rattle.pres_write.specs.declared.basic.Basic.{Basic}
 use Rattle.pres_write.specs.Basics.{applied}
 use Rattle.pres_write.proofs.Held.{held_is, rows_of_option}
 use Rattle.pres_plan.proofs.HeldAfter.{NoneBelow, held_above, held_elsewhere, no_writes, none_before}
@@ -22,13 +20,17 @@ returns-in_default t c =
     ap rows_in (held_is (λ r. r.now) c.at.result v c.at.ensures) ∙ rows_of_option v ∙ sym (value_alone p tree c.is_empty.ensures.value.in_order)
     ∙ ap (λ b. value_at p (applied tree b)) (sym (no_writes c.args.before.now c.in_default.ensures.cases))
 
-pub returns-then-not-is_prefix_of : goal.returns-then-not-is_prefix_of
-returns-then-not-is_prefix_of t c =
+pub is_above-requires : goal.is_above-requires
+is_above-requires t c =
+    (none_before c.args.path.now c.in-Some.earlier.now c.in-Some.last.now (subst (NoneBelow c.args.path.now) c.in-Some.ensures.cases.0 c.requires)).1
+
+pub returns-then-not-is_above : goal.returns-then-not-is_above
+returns-then-not-is_above t c =
     let p = c.args.path.now in
     let tree = c.args.tree.now in
     let is : c.args.before.now ≡ c.in-Some.earlier.now ++ c.in-Some.last.now ∷ [] = c.in-Some.ensures.cases.0 in
     let none = none_before p c.in-Some.earlier.now c.in-Some.last.now (subst (NoneBelow p) is c.requires) in
-    let above = sym (ap (λ q. is_prefix q p) c.path.ensures.path) ∙ sym c.is_prefix_of.ensures ∙ c.if-not-is_prefix_of.true in
+    let above = sym c.is_above.ensures ∙ c.if-not-is_above.true in
     c.held_after.ensures
     ∙ sym (held_elsewhere tree p c.in-Some.earlier.now c.in-Some.last.now none.1 above)
     ∙ ap (λ b. value_at p (applied tree b)) (sym is)
@@ -38,7 +40,7 @@ returns-in_err-value t c =
     let p = c.args.path.now in
     let tree = c.args.tree.now in
     let is : c.args.before.now ≡ c.in-Some.earlier.now ++ c.in-Some.last.now ∷ [] = c.in-Some.ensures.cases.0 in
-    let above = sym (ap (λ q. is_prefix q p) c.path.ensures.path) ∙ sym c.is_prefix_of.ensures ∙ c.if-not-is_prefix_of.false in
+    let above = sym c.is_above.ensures ∙ c.if-not-is_above.false in
     ap (λ o. rows_in (option_copied o)) c.from_residual.ensures
     ∙ sym (held_above tree p c.in-Some.earlier.now c.in-Some.last.now [] (sym (ap rows_in c.in_err-value.ensures.value)) above tt)
     ∙ ap (λ b. value_at p (applied tree b)) (sym is)
@@ -48,10 +50,10 @@ returns t c =
     let p = c.args.path.now in
     let tree = c.args.tree.now in
     let is : c.args.before.now ≡ c.in-Some.earlier.now ++ c.in-Some.last.now ∷ [] = c.in-Some.ensures.cases.0 in
-    let above = sym (ap (λ q. is_prefix q p) c.path.ensures.path) ∙ sym c.is_prefix_of.ensures ∙ c.if-not-is_prefix_of.false in
+    let above = sym c.is_above.ensures ∙ c.if-not-is_above.false in
     let v = c.in_ok-value.value.now in
     let w = value_at (drop c.len.result p) v in
     ap rows_in (held_is (λ r. r.now) c.at_below.result w c.at_below.ensures) ∙ rows_of_option w
-    ∙ ap (λ n. value_at (drop n p) v) (c.len.ensures.len ∙ ap length c.path-2.ensures.path)
+    ∙ ap (λ n. value_at (drop n p) v) (c.len.ensures.len ∙ ap length c.path.ensures.path)
     ∙ sym (held_above tree p c.in-Some.earlier.now c.in-Some.last.now v (sym (ap rows_in c.in_ok-value.ensures.value)) above c.is_empty-2.ensures.value.in_order)
     ∙ ap (λ b. value_at p (applied tree b)) (sym is)
