@@ -1,7 +1,7 @@
 -- What a check refuses stays refused.
-use Rattle.std.proofs.Common.{◌≡◌, ◌∙◌, ap, ℕ, refl, sym, subst, List, [], ◌∷◌, length, Bool, true, false, cond, nat_le, Ok, Err, Option, Some, None, Result}
+use Rattle.std.proofs.Common.{◌≡◌, ◌∙◌, ap, ℕ, sym, subst, List, [], ◌∷◌, length, Bool, cond, nat_le, Ok, Err, Option, Some, Result}
 use Rattle.std.proofs.lemmas.Bool.{false≢true}
-use Rattle.std.specs.Prelude.{IsSome}
+use Rattle.std.specs.Prelude.{IfSome}
 use Rattle.std.specs.Result.{IsErr, IsErrAnd}
 use Rattle.pres_ids.specs.declared.id.SessionId.{SessionId}
 use Rattle.pres_wire.specs.declared.down.Limit.TheVariants as limit
@@ -12,8 +12,8 @@ use Rattle.pres_fan.proofs.Places.{with_step}
 use Rattle.pres_log.specs.declared.entry.Entry.TheVariants as entry
 use Rattle.pres_log.specs.declared.fault.Fault.{Fault}
 use Rattle.pres_server.specs.declared.turn.TurnEffect.{TurnEffect}
-use Rattle.pres_server.specs.Turns.{Decision, IsRefusal, Decides, quiet, makes}
-use Rattle.pres_server.specs.InternalParts.{LivePart, limited_by, said_by, said, listens_by}
+use Rattle.pres_server.specs.Turns.{Decision, IsRefusal, Decides, makes}
+use Rattle.pres_server.specs.InternalParts.{LivePart, limited_by, listens_by}
 use Rattle.pres_server.proofs.Clients.{session_itself}
 
 -- a result that gives the refusal of a call on
@@ -25,11 +25,9 @@ refused_by from d (Err x) f h q = subst (IsRefusal d) (sym h.1) q
 pub decided_as : (from : Option SessionId) (n o : ℕ) (d e : Decision) (r : Result TurnEffect Fault) → d ≡ e → Decides from (limited_by n o e) r → Decides from (limited_by n o d) r
 decided_as from n o d e r same h = subst (λ x. Decides from (limited_by n o x) r) (sym same) h
 
--- a session is open where the check of a message passes
-pub live_if_said : (l : Option LivePart) (s : SessionId) (q : ℕ) (b : Bool) → ((d : Decision) → said_by l s q d ≡ said (Ok b) d) → IsSome l
-live_if_said None s q true h = let e = h quiet in absurd (cc)
-live_if_said None s q false h = let e = h quiet in absurd (cc)
-live_if_said (Some l) s q b h = refl
+-- the open session that is handed back
+pub session_of : {S : Type 0} (part : S → LivePart) (live : Option LivePart) (found : Option S) (it : S) → IfSome found (λ x. live ≡ Some (part x)) → found ≡ Some it → live ≡ Some (part it)
+session_of part live found it h is = subst (λ o. IfSome o (λ x. live ≡ Some (part x))) is h
 
 -- a session that may listen to one path more does, and another is denied
 pub listens_more : (s : SessionId) (q : ℕ) (path : Path) (listeners : List Listener) (b : Bool) → IsListeners listeners → b ≡ nat_le (length (paths_of s (with_listener s path listeners))) most_paths

@@ -16,7 +16,7 @@ use Rattle.pres_retry.specs.Verdicts.{verdict, again}
 use Rattle.pres_log.specs.declared.entry.Entry.{Entry}
 use Rattle.pres_log.specs.declared.entry.Entry.TheVariants as entry
 use Rattle.pres_log.specs.declared.fault.Fault.{Fault}
-use Rattle.pres_log.specs.Logs.{tree, writes_of}
+use Rattle.pres_log.specs.Logs.{writes_of}
 use Rattle.pres_fan.specs.declared.listeners.Listener.{Listener}
 use Rattle.pres_fan.specs.Listeners.{most_paths, paths_of, with_listener, without, without_session, touched}
 use Rattle.pres_server.specs.declared.index.Index.{Index}

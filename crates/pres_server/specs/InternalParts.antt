@@ -1,5 +1,5 @@
 -- What is known of each client: plain data, changed by one entry, and what an input asks for by it.
-use Rattle.std.specs.Prelude.{ℕ, ◌+◌, ◌-◌, Bool, true, List, [], ◌∷◌, ◌++◌, ◌<◌, All, map, length, Option, Some, None, slice_get, ◌^◌, false, ◌&&◌, if◌then◌else◌, nat_lt, nat_le, ◌==◌, unwrap_or, Result, Ok, Err}
+use Rattle.std.specs.Prelude.{ℕ, ◌+◌, ◌-◌, Bool, true, List, [], ◌∷◌, ◌++◌, ◌<◌, All, map, length, Option, Some, None, slice_get, ◌^◌, false, ◌&&◌, if◌then◌else◌, nat_lt, nat_le, ◌==◌, unwrap_or, is_some, Result, Ok, Err}
 use Rattle.pres_write.specs.Outcomes.{kept_of}
 use Rattle.pres_ids.specs.declared.id.Stamp.{Stamp}
 use Rattle.pres_ids.specs.declared.id.SessionId.{SessionId}
@@ -188,7 +188,7 @@ abbrev pub checked : Result (Unit {0}) Fault → Decision → Decision
 checked (Ok _) decision = decision
 checked (Err f) decision = refused f
 
--- whether a message is the next one; one that was accepted before is passed over
-abbrev pub said : Result Bool Fault → Decision → Decision
-said (Ok next) accepted = if next then accepted else quiet
+-- the open session of a message that is the next one; one that was accepted before is passed over
+abbrev pub said : {S : Type 0} → Result (Option S) Fault → Decision → Decision
+said (Ok next) accepted = if is_some next then accepted else quiet
 said (Err f) accepted = refused f

@@ -1,6 +1,6 @@
 //! What an input asks for.
 
-ghost use Rattle.std.specs.Prelude.{◌≡◌, ◌<◌, ◌∷◌, ◌^◌, [], IfOk, IfErr, IsSome, Option, Some, None};
+ghost use Rattle.std.specs.Prelude.{◌≡◌, ◌<◌, ◌∷◌, ◌^◌, [], IfOk, IfErr, IfSome, is_some, Option, Some, None, option_copied};
 ghost use Rattle.pres_ids.specs.Ids.{stamp_of};
 ghost use Rattle.pres_ids.specs.declared.id.SessionId.{SessionId};
 ghost use Rattle.pres_wire.specs.declared.up.Up.TheVariants as up;
@@ -86,23 +86,60 @@ fn effect_of(entries: Result<Items<Entry>, Fault>) -> Result<TurnEffect, Fault>
     }
 }
 
+// The entry of puts that are left, or of their denial.
+fn left_entry(live: &Live<Plan>, session: SessionId, q: Number, puts: Puts) -> Entry
+    ensures { makes (result ∷ []) ≡
+        leaves_by (Some (live_part live.now)) (entry.Left session q puts) session q }
+{
+    if live.plan().may_update(&puts) {
+        return Entry::Left { session, q, puts };
+    }
+    let why = Limit::Plan;
+    Entry::Denied { session, q, why }
+}
+
+// The entry of a cancel, or of its denial.
+fn cancel_entry(live: &Live<Plan>, session: SessionId, q: Number, path: Path) -> Entry
+    ensures { makes (result ∷ []) ≡
+        leaves_by (Some (live_part live.now)) (entry.Cancelled session q path) session q }
+{
+    if live.plan().may_cancel(&path) {
+        return Entry::Cancelled { session, q, path };
+    }
+    let why = Limit::Plan;
+    Entry::Denied { session, q, why }
+}
+
 impl Index {
-    // Whether it is the open session's next message, and not one that was accepted before.
-    fn is_next(&self, session: &SessionId, q: Number) -> Result<bool, Fault>
-        ensures { (accepted : Decision)
+    // The open session that this is.
+    fn open_session(&self, session: &SessionId) -> Option<&Live<Plan>>
+        ensures is { IfSome (option_copied result)
+            (λ live. live_at self.now session.now ≡ Some (live_part live)) }
+        ensures live { is_some result
+            ≡ is_live (live_at self.now session.now) (stamp_of session.now) }
+    {
+        let live = self.places.session(&session.client)?;
+        if session.stamp() != live.stamp() {
+            return None;
+        }
+        Some(live)
+    }
+
+    // The open session, where the message is its next one, and none where it was accepted before.
+    fn next_of(&self, session: &SessionId, q: Number) -> Result<Option<&Live<Plan>>, Fault>
+        ensures is { IfOk result (λ next. IfSome (option_copied next)
+            (λ live. live_at self.now session.now ≡ Some (live_part live))) }
+        ensures decides { (accepted : Decision)
             → said_by (live_at self.now session.now) session.now q accepted ≡ said result accepted }
     {
-        let Some(live) = self.places.session(&session.client) else {
+        let Some(live) = self.open_session(session) else {
             return Err(Fault::Session);
         };
-        if session.stamp() != live.stamp() {
-            return Err(Fault::Session);
-        }
         if q.get() <= live.count().get() {
-            return Ok(false);
+            return Ok(None);
         }
         if live.count().next() == Some(q) {
-            Ok(true)
+            Ok(Some(live))
         } else {
             Err(Fault::Order)
         }
@@ -112,10 +149,7 @@ impl Index {
     pub(crate) fn is_live(&self, session: &SessionId) -> bool
         ensures { result ≡ is_live (live_at self.now session.now) (stamp_of session.now) }
     {
-        match self.places.session(&session.client) {
-            Some(live) => session.stamp() == live.stamp(),
-            None => false,
-        }
+        self.open_session(session).is_some()
     }
 
     // The entry of the end of an open session, with what is due.
@@ -147,20 +181,17 @@ impl Index {
     fn end_entries(
         &self,
         alloc: Global,
+        live: &Live<Plan>,
         session: SessionId,
         q: Option<Number>,
         why: Why,
         now: TurnTime,
     ) -> Result<Items<Entry>, Fault>
         requires ready { Ready self.now now }
-        requires open { IsSome (live_at self.now session) }
-        ensures { Makes (limited_on self.now now.number (makes
-            (end_by (live_at self.now session) self.now.tree now.moment q why session ∷ [])))
-            result }
+        requires open { 0 < open_count self.now.places }
+        ensures { Makes (limited_on self.now now.number (makes (end_by (Some (live_part live.now))
+            self.now.tree now.moment q why session ∷ []))) result }
     {
-        let Some(live) = self.places.session(&session.client) else {
-            unreachable!()
-        };
         limits(now.number + 1, self.places.open_count() - 1)?;
         let ended = self.end_entry(alloc, live, session, q, why, now)?;
         one(alloc, ended)
@@ -316,9 +347,9 @@ impl Index {
         requires { Ready self.now now }
         ensures { DecidesOn self.now now (input.Up (up.Op session q n op)) result }
     {
-        match self.is_next(&session, q) {
-            Ok(true) => effect_of(self.op_entries(alloc, session, q, n, op, now)),
-            Ok(false) => {
+        match self.next_of(&session, q) {
+            Ok(Some(_)) => effect_of(self.op_entries(alloc, session, q, n, op, now)),
+            Ok(None) => {
                 drop(op);
                 Ok(TurnEffect::Quiet(Some(session)))
             }
@@ -340,45 +371,29 @@ impl Index {
         requires { Ready self.now now }
         ensures { DecidesOn self.now now (input.Up (up.Bye session q)) result }
     {
-        if !self.is_next(&session, q)? {
+        let Some(live) = self.next_of(&session, q)? else {
             return Ok(TurnEffect::Quiet(Some(session)));
-        }
-        effect_of(self.end_entries(alloc, session, Some(q), Why::Bye, now))
-    }
-
-    // The entry of puts that are left, or of their denial.
-    fn left_entry(&self, session: SessionId, q: Number, puts: Puts) -> Entry
-        requires open { IsSome (live_at self.now session) }
-        ensures { makes (result ∷ []) ≡
-            leaves_by (live_at self.now session) (entry.Left session q puts) session q }
-    {
-        let Some(live) = self.places.session(&session.client) else {
-            unreachable!()
         };
-        if live.plan().may_update(&puts) {
-            return Entry::Left { session, q, puts };
-        }
-        let why = Limit::Plan;
-        Entry::Denied { session, q, why }
+        effect_of(self.end_entries(alloc, live, session, Some(q), Why::Bye, now))
     }
 
     // What an operation makes that is left by the open session's next message.
     fn left_entries(
         &self,
         alloc: Global,
+        live: &Live<Plan>,
         session: SessionId,
         q: Number,
         op: &Unconditional,
         now: TurnTime,
     ) -> Result<Items<Entry>, Fault>
-        requires ready { Ready self.now now }
-        requires open { IsSome (live_at self.now session) }
-        ensures { Makes (limited_on self.now now.number (leaves_by (live_at self.now session)
+        requires { Ready self.now now }
+        ensures { Makes (limited_on self.now now.number (leaves_by (Some (live_part live.now))
             (entry.Left session q (puts_of op.now)) session q)) result }
     {
         limits(now.number + 1, self.places.open_count())?;
         let puts = op.puts(alloc)?;
-        let entry = self.left_entry(session, q, puts);
+        let entry = left_entry(live, session, q, puts);
         one(alloc, entry)
     }
 
@@ -394,44 +409,28 @@ impl Index {
         requires { Ready self.now now }
         ensures { DecidesOn self.now now (input.Up (up.Left session q op.now)) result }
     {
-        if !self.is_next(&session, q)? {
+        let Some(live) = self.next_of(&session, q)? else {
             return Ok(TurnEffect::Quiet(Some(session)));
-        }
-        effect_of(self.left_entries(alloc, session, q, op, now))
-    }
-
-    // The entry of a cancel, or of its denial.
-    fn cancel_entry(&self, session: SessionId, q: Number, path: Path) -> Entry
-        requires open { IsSome (live_at self.now session) }
-        ensures { makes (result ∷ []) ≡
-            leaves_by (live_at self.now session) (entry.Cancelled session q path) session q }
-    {
-        let Some(live) = self.places.session(&session.client) else {
-            unreachable!()
         };
-        if live.plan().may_cancel(&path) {
-            return Entry::Cancelled { session, q, path };
-        }
-        let why = Limit::Plan;
-        Entry::Denied { session, q, why }
+        effect_of(self.left_entries(alloc, live, session, q, op, now))
     }
 
     // What a cancel makes that is the open session's next message.
     fn cancel_entries(
         &self,
         alloc: Global,
+        live: &Live<Plan>,
         session: SessionId,
         q: Number,
         path: Path,
         now: TurnTime,
     ) -> Result<Items<Entry>, Fault>
-        requires ready { Ready self.now now }
-        requires open { IsSome (live_at self.now session) }
-        ensures { Makes (limited_on self.now now.number (leaves_by (live_at self.now session)
+        requires { Ready self.now now }
+        ensures { Makes (limited_on self.now now.number (leaves_by (Some (live_part live.now))
             (entry.Cancelled session q path) session q)) result }
     {
         limits(now.number + 1, self.places.open_count())?;
-        let entry = self.cancel_entry(session, q, path);
+        let entry = cancel_entry(live, session, q, path);
         one(alloc, entry)
     }
 
@@ -447,10 +446,10 @@ impl Index {
         requires { Ready self.now now }
         ensures { DecidesOn self.now now (input.Up (up.Cancel session q path)) result }
     {
-        if !self.is_next(&session, q)? {
+        let Some(live) = self.next_of(&session, q)? else {
             return Ok(TurnEffect::Quiet(Some(session)));
-        }
-        effect_of(self.cancel_entries(alloc, session, q, path, now))
+        };
+        effect_of(self.cancel_entries(alloc, live, session, q, path, now))
     }
 
     // The entry of a session that listens, or of its denial.
@@ -494,7 +493,7 @@ impl Index {
         requires { Ready self.now now }
         ensures { DecidesOn self.now now (input.Up (up.On session q path)) result }
     {
-        if !self.is_next(&session, q)? {
+        if self.next_of(&session, q)?.is_none() {
             return Ok(TurnEffect::Quiet(Some(session)));
         }
         effect_of(self.on_entries(alloc, session, q, path, now))
@@ -529,7 +528,7 @@ impl Index {
         requires { Ready self.now now }
         ensures { DecidesOn self.now now (input.Up (up.Off session q path)) result }
     {
-        if !self.is_next(&session, q)? {
+        if self.next_of(&session, q)?.is_none() {
             return Ok(TurnEffect::Quiet(Some(session)));
         }
         effect_of(self.off_entries(alloc, session, q, path, now))
@@ -578,10 +577,10 @@ impl Index {
         ensures { Decides None (limited_on self.now now.number
             (ends_live (live_at self.now session) self.now.tree now.moment why session)) result }
     {
-        if !self.is_live(&session) {
+        let Some(live) = self.open_session(&session) else {
             return Ok(TurnEffect::Quiet(None));
-        }
-        effect_of(self.end_entries(alloc, session, None, why, now))
+        };
+        effect_of(self.end_entries(alloc, live, session, None, why, now))
     }
 
     // The end of the client's open session, where it has one.

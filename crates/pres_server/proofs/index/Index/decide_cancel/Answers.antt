@@ -1,23 +1,25 @@
-use Rattle.std.proofs.Common.{◌≡◌, ◌∙◌, ap, inl, true, cond, rules}
+use Rattle.std.specs.Prelude.{option_copied}
+use Rattle.std.proofs.Common.{◌∙◌, ap, inl, cond, is_some, Bool, Option, Some}
 use Rattle.pres_log.specs.declared.entry.Entry.TheVariants as entry
 use Rattle.pres_server.specs.Turns.{Decision, quiet}
-use Rattle.pres_server.specs.InternalParts.{limited_by, leaves_by}
-use Rattle.pres_server.specs.InternalSessions.{open_count}
+use Rattle.pres_server.specs.InternalParts.{LivePart, limited_by, leaves_by}
+use Rattle.pres_server.specs.InternalSessions.{live_part, open_count}
 use Rattle.pres_server.specs.InternalIndex.{live_at}
-use Rattle.pres_server.proofs.Checks.{refused_by, decided_as, live_if_said}
+use Rattle.pres_server.proofs.Checks.{refused_by, decided_as, session_of}
 use Rattle.pres_server.proofs.index.Index.decide_cancel.Goals as goal
 
-pub cancel_entries-requires-clause-open : goal.cancel_entries-requires-clause-open
-cancel_entries-requires-clause-open c = live_if_said _ c.args.session c.args.q c.in_ok-is_next.field-0 c.in_ok-is_next.ensures
-
-pub returns-in_err-is_next : goal.returns-in_err-is_next
-returns-in_err-is_next c =
-    let accepted : Decision = leaves_by (live_at c.args.self.now c.args.session) (entry.Cancelled c.args.session c.args.q c.args.path) c.args.session c.args.q in
-    refused_by _ _ c.from_residual.result c.in_err-is_next.field-0.0 c.from_residual.ensures
-    (inl (ap (limited_by c.args.now.number (open_count c.args.self.now.places)) (c.in_err-is_next.ensures accepted)))
+pub returns-in_err-live : goal.returns-in_err-live
+returns-in_err-live c =
+    let decision : Option LivePart → Decision = λ l. leaves_by l (entry.Cancelled c.args.session c.args.q c.args.path) c.args.session c.args.q in
+    refused_by _ _ c.from_residual.result c.in_err-live.field-0.0 c.from_residual.ensures
+    (inl (ap (limited_by c.args.now.number (open_count c.args.self.now.places)) (c.in_err-live.ensures.decides (decision (live_at c.args.self.now c.args.session)))))
 
 pub returns : goal.returns
 returns c =
-    let accepted : Decision = leaves_by (live_at c.args.self.now c.args.session) (entry.Cancelled c.args.session c.args.q c.args.path) c.args.session c.args.q in
-    let next : c.in_ok-is_next.field-0 ≡ true = search rules in
-    decided_as _ _ _ _ accepted _ (c.in_ok-is_next.ensures accepted ∙ ap (λ b. cond b accepted quiet) next) (c.effect_of.ensures _ _ c.cancel_entries.ensures)
+    let decision : Option LivePart → Decision = λ l. leaves_by l (entry.Cancelled c.args.session c.args.q c.args.path) c.args.session c.args.q in
+    let live = session_of live_part _ _ c.in-Some.live.now c.in_ok-live.ensures.is (ap option_copied c.in-Some.is) in
+    decided_as _ _ _ _ (decision (Some (live_part c.in-Some.live.now))) _
+    (c.in_ok-live.ensures.decides (decision (live_at c.args.self.now c.args.session))
+    ∙ ap (λ (b : Bool). cond b (decision (live_at c.args.self.now c.args.session)) quiet) (ap is_some c.in-Some.is)
+    ∙ ap decision live)
+    (c.effect_of.ensures _ _ c.cancel_entries.ensures)
