@@ -59,7 +59,7 @@ use denote.RattleType.{RattleType}
 use Rattle.std.specs.declared.sync.ledger.Ledger as ledger
 use Rattle.pres_keeper.specs.declared.keeper.Keeper as keeping
 use Rattle.pres_keeper.specs.contracts.engine.Engine as engine
-use Rattle.pres_dispatch.specs.contracts.dispatcher.Dispatcher as exchange
+use Rattle.pres_dispatch.specs.contracts.dispatcher.Dispatcher as dispatcher
 use Rattle.pres_dispatch.specs.contracts.bells.Bells as bells
 use Rattle.pres_dispatch.specs.contracts.bells.SessionBell as hung
 use Rattle.pres_dispatch.specs.contracts.bells.DueBell as due
@@ -178,12 +178,12 @@ module _ (B : RattleType) (b : IsSend B) where
   bells_send = search (hung_send, due_send, session_is, maps, declared_send, as_row_send, crosses, sendable) depth 60 fits 20000
 
 module _ (K B : RattleType) (g : keeping.Ghosts K.Denot) where
-  pub exchange_send : IsSend K → IsSend B → IsSend (exchange.the_row K B g)
-  exchange_send k b = search (engine_send, lines_send, bells_send, declared_send, as_row_send, crosses, sendable) depth 60 fits 20000
+  pub dispatcher_send : IsSend K → IsSend B → IsSend (dispatcher.the_row K B g)
+  dispatcher_send k b = search (engine_send, lines_send, bells_send, declared_send, as_row_send, crosses, sendable) depth 60 fits 20000
 
 module _ (L K B : RattleType) (l : ledger.Ghosts L.Denot) (g : keeping.Ghosts K.Denot) where
   pub core_send : IsSend K → IsSend B → IsSend (core.the_row L K B l g)
-  core_send k b = search (exchange_send, tally_is, global_is, declared_send, as_row_send, crosses, sendable) depth 60 fits 20000
+  core_send k b = search (dispatcher_send, tally_is, global_is, declared_send, as_row_send, crosses, sendable) depth 60 fits 20000
 
   module _ (G : RattleType) where
     pub hub_sync : IsSend K → IsSend B → IsSync G → IsSync (hub.the_row L K B G l g)

@@ -44,7 +44,7 @@ pub struct Said {
 /// number that the start left.
 pub struct Core<L: Ledger, K: Keeper + Drop, B> {
     alloc: Global,
-    exchange: Dispatcher<K, B>,
+    dispatcher: Dispatcher<K, B>,
     tally: Tally<L>,
     start: u64,
 }
@@ -55,15 +55,15 @@ impl<L: Ledger, K: Keeper + Drop, B> Model for Core<L, K, B> {
     ghost Value = { CoreState K };
 
     ghost view = { λ c. record {
-      run = c.exchange.run;
-      lines = c.exchange.lines;
+      run = c.dispatcher.run;
+      lines = c.dispatcher.lines;
       counts = c.tally;
       start = c.start;
     } };
 
     ghost invariant = { λ c. CoreInvariant K.works K.keeps (record {
-      run = c.exchange.run;
-      lines = c.exchange.lines;
+      run = c.dispatcher.run;
+      lines = c.dispatcher.lines;
       counts = c.tally;
       start = c.start;
     }) };
@@ -95,39 +95,39 @@ fn is_apart(server: &Server, session: &SessionId, mine: Count) -> bool
 
 // Takes the message to the server, and counts it where it was accepted.
 fn take_message<L: Ledger, K: Keeper + Drop, B: Bell + Clone + Drop>(
-    exchange: &mut Dispatcher<K, B>,
+    dispatcher: &mut Dispatcher<K, B>,
     tally: &mut Tally<L>,
     seat: &mut Seat<L>,
     up: Up,
     now: Moment,
 ) -> Result<(), HubFault>
     requires hello { is_hello up ≡ false }
-    requires abreast { HasSameCount up seat.old.q exchange.old.run.server }
-    requires few { Runs (λ s. tally.old.accepted < 2 ^ 53) exchange.old.run.server }
-    ensures answered { IfOk result (λ _. IsAnswered exchange.old.run.server (Message up) now
-        exchange.new.run.server exchange.old.lines exchange.new.lines) }
+    requires abreast { HasSameCount up seat.old.q dispatcher.old.run.server }
+    requires few { Runs (λ s. tally.old.accepted < 2 ^ 53) dispatcher.old.run.server }
+    ensures answered { IfOk result (λ _. IsAnswered dispatcher.old.run.server (Message up) now
+        dispatcher.new.run.server dispatcher.old.lines dispatcher.new.lines) }
     ensures seat { OnOk result (seat.new ≡ record seat.old {
-      q = seat.old.q + accepted_of exchange.old.run.server up now;
-      made = seat.old.made + accepted_of exchange.old.run.server up now;
+      q = seat.old.q + accepted_of dispatcher.old.run.server up now;
+      made = seat.old.made + accepted_of dispatcher.old.run.server up now;
     }) }
     ensures tally { OnOk result (tally.new ≡ record tally.old {
-      accepted = tally.old.accepted + accepted_of exchange.old.run.server up now;
+      accepted = tally.old.accepted + accepted_of dispatcher.old.run.server up now;
     }) }
-    ensures rises { exchange.old.run.number ≤ exchange.new.run.number }
+    ensures rises { dispatcher.old.run.number ≤ dispatcher.new.run.number }
     ensures refused { IfErr result (IsEventRefused (Message up) now
-        exchange.old.run.server exchange.new.run.server) }
+        dispatcher.old.run.server dispatcher.new.run.server) }
     ensures kept { OnErr result ((tally.new ≡ tally.old) × (seat.new ≡ seat.old)) }
-    ensures stays { OnErr result (exchange.new.run.number ≡ exchange.old.run.number) }
-    ensures lines { OnErr result (exchange.new.lines ≡ exchange.old.lines) }
-    ensures stands { (log : Log) → Stands K.works K.keeps log exchange.old → MatchResult result
+    ensures stays { OnErr result (dispatcher.new.run.number ≡ dispatcher.old.run.number) }
+    ensures lines { OnErr result (dispatcher.new.lines ≡ dispatcher.old.lines) }
+    ensures stands { (log : Log) → Stands K.works K.keeps log dispatcher.old → MatchResult result
         (λ _. Stands K.works K.keeps
-        (log_turned log exchange.old.run.server (Message up) now) exchange.new)
-        (λ _. Stands K.works K.keeps log exchange.new) }
+        (log_turned log dispatcher.old.run.server (Message up) now) dispatcher.new)
+        (λ _. Stands K.works K.keeps log dispatcher.new) }
 {
-    let before = exchange.number();
+    let before = dispatcher.number();
     let q = up.q();
-    exchange.turn(Input::Up(up), now)?;
-    let after = exchange.number();
+    dispatcher.turn(Input::Up(up), now)?;
+    let after = dispatcher.number();
     if after > before {
         let Some(q) = q else { unreachable!() };
         tally.add(seat, Count::up_to(q));
@@ -164,11 +164,11 @@ impl<L: Ledger, K: Keeper + Drop, B: Bell + Clone + Drop> Core<L, K, B> {
         ensures ready { IfErr result (λ e. K.ready e.1) }
     {
         match Dispatcher::start(alloc, keeper, now) {
-            Ok(exchange) => {
-                let start = exchange.number();
+            Ok(dispatcher) => {
+                let start = dispatcher.number();
                 Ok(Core {
                     alloc,
-                    exchange,
+                    dispatcher,
                     tally: Tally::open(blank),
                     start,
                 })
@@ -181,14 +181,14 @@ impl<L: Ledger, K: Keeper + Drop, B: Bell + Clone + Drop> Core<L, K, B> {
     pub fn show(&self)
         ensures { CoreInvariant K.works K.keeps self.now }
     {
-        let _ = self.exchange.number();
+        let _ = self.dispatcher.number();
     }
 
     /// The number of the last entry that was answered.
     pub fn number(&self) -> u64
         ensures { result ≡ self.now.run.number }
     {
-        self.exchange.number()
+        self.dispatcher.number()
     }
 
     // Does what the input asks for, and ends each session that doesn't take its messages in time.
@@ -210,8 +210,8 @@ impl<L: Ledger, K: Keeper + Drop, B: Bell + Clone + Drop> Core<L, K, B> {
             CarriesOn K.works K.keeps input now self.old self.new) }
         ensures still { OnErr result (StandsStill K.works K.keeps self.old self.new) }
     {
-        self.exchange.turn(input, now)?;
-        self.exchange.end_slow(self.alloc, now);
+        self.dispatcher.turn(input, now)?;
+        self.dispatcher.end_slow(self.alloc, now);
         Ok(())
     }
 
@@ -244,15 +244,15 @@ impl<L: Ledger, K: Keeper + Drop, B: Bell + Clone + Drop> Core<L, K, B> {
         ensures still { OnErr result (StandsStill K.works K.keeps self.old self.new) }
         ensures kept { OnErr result (self.new.counts ≡ self.old.counts) }
     {
-        if self.exchange.server().is_none() {
+        if self.dispatcher.server().is_none() {
             return Err(HubFault::Down);
         }
         // it ensures that the log is legal
-        let _ = self.exchange.number();
+        let _ = self.dispatcher.number();
         let mine = session.copy(self.alloc)?;
-        let outbox = self.exchange.join(self.alloc, session, now)?;
-        self.exchange.end_slow(self.alloc, now);
-        let seat = self.tally.seat(mine, self.exchange.number());
+        let outbox = self.dispatcher.join(self.alloc, session, now)?;
+        self.dispatcher.end_slow(self.alloc, now);
+        let seat = self.tally.seat(mine, self.dispatcher.number());
         Ok((seat, outbox))
     }
 
@@ -283,10 +283,10 @@ impl<L: Ledger, K: Keeper + Drop, B: Bell + Clone + Drop> Core<L, K, B> {
             return Err(fault);
         }
         // it ensures that the log is legal
-        let _ = self.exchange.number();
-        take_message(&mut self.exchange, &mut self.tally, seat, up, now)?;
-        self.exchange.end_slow(self.alloc, now);
-        let number = self.exchange.number();
+        let _ = self.dispatcher.number();
+        take_message(&mut self.dispatcher, &mut self.tally, seat, up, now)?;
+        self.dispatcher.end_slow(self.alloc, now);
+        let number = self.dispatcher.number();
         seat.see(number);
         Ok(Said { number })
     }
@@ -309,9 +309,9 @@ impl<L: Ledger, K: Keeper + Drop, B: Bell + Clone + Drop> Core<L, K, B> {
         ensures stops { IfErr result (StopsLateOn K.works K.keeps now self.old self.new) }
     {
         loop {
-            let before = self.exchange.number();
+            let before = self.dispatcher.number();
             self.event(Input::Tick, now)?;
-            let after = self.exchange.number();
+            let after = self.dispatcher.number();
             if after == before {
                 return Ok(());
             }
@@ -335,10 +335,10 @@ impl<L: Ledger, K: Keeper + Drop, B: Bell + Clone + Drop> Core<L, K, B> {
         ensures carries { OnOk result (TicksOn K.works K.keeps now self.old self.new) }
         ensures stops { IfErr result (TickStopsOn K.works K.keeps now self.old self.new) }
     {
-        let before = self.exchange.number();
+        let before = self.dispatcher.number();
         self.end_marked(now)?;
         self.end_late(now)?;
-        let after = self.exchange.number();
+        let after = self.dispatcher.number();
         Ok(after - before)
     }
 
@@ -358,10 +358,10 @@ impl<L: Ledger, K: Keeper + Drop, B: Bell + Clone + Drop> Core<L, K, B> {
         ensures carries { OnOk result (EndsMarkedOn K.works K.keeps now self.old self.new) }
         ensures stops { IfErr result (StopsAtMarkOn K.works K.keeps now self.old self.new) }
     {
-        while let Some(next) = self.exchange.first_marked(self.alloc) {
+        while let Some(next) = self.dispatcher.first_marked(self.alloc) {
             let (session, why) = next?;
             // it ensures that the log is legal
-            let _ = self.exchange.number();
+            let _ = self.dispatcher.number();
             self.event(end_by(why, session), now)?;
         }
         Ok(())
@@ -406,11 +406,11 @@ impl<L: Ledger, K: Keeper + Drop, B: Bell + Clone + Drop> Core<L, K, B> {
         ensures still { IfSome result.fault
             (λ _. StandsStill K.works K.keeps self.old self.new) }
     {
-        self.exchange.take_down(seat.session());
+        self.dispatcher.take_down(seat.session());
         match self.end(seat.session(), why, now) {
             Ok(()) => self.tally.take(seat, None),
             Err(fault) => {
-                self.exchange.strike(seat.session(), why);
+                self.dispatcher.strike(seat.session(), why);
                 self.tally.take(seat, Some(fault))
             }
         }
@@ -425,7 +425,7 @@ impl<L: Ledger, K: Keeper + Drop, B: Bell + Clone + Drop> Core<L, K, B> {
         ensures fresh { IfNone result (seat.now.seen ≤ self.now.run.number) }
         ensures abreast { IfNone result (HasSameCount up.now seat.now.q self.now.run.server) }
     {
-        let Some(server) = self.exchange.server() else {
+        let Some(server) = self.dispatcher.server() else {
             return Some(HubFault::Down);
         };
         if matches!(up, Up::Hello { .. }) {
@@ -434,7 +434,7 @@ impl<L: Ledger, K: Keeper + Drop, B: Bell + Clone + Drop> Core<L, K, B> {
         if up.session() != seat.session() {
             return Some(HubFault::Refused(Fault::Session));
         }
-        let have = self.exchange.number();
+        let have = self.dispatcher.number();
         let seen = seat.seen();
         if have < seen {
             return Some(HubFault::Behind { have, seen });
@@ -451,7 +451,7 @@ impl<L: Ledger, K: Keeper + Drop, B: Bell + Clone + Drop> Core<L, K, B> {
         ensures same { self.new ≡ self.old }
         ensures memory { IfErr result (λ e. e ≡ Memory) }
     {
-        self.exchange.hang(self.alloc, seat.session(), bell)?;
+        self.dispatcher.hang(self.alloc, seat.session(), bell)?;
         Ok(())
     }
 
@@ -460,7 +460,7 @@ impl<L: Ledger, K: Keeper + Drop, B: Bell + Clone + Drop> Core<L, K, B> {
     pub fn take_due(&mut self, but: Option<&SessionId>, bells: &mut Vec<B>)
         ensures { self.new ≡ self.old }
     {
-        self.exchange.take_due(but, bells);
+        self.dispatcher.take_due(but, bells);
     }
 
     /// Ends the run.
@@ -473,11 +473,11 @@ impl<L: Ledger, K: Keeper + Drop, B: Bell + Clone + Drop> Core<L, K, B> {
     {
         let Core {
             alloc: _,
-            exchange,
+            dispatcher,
             tally,
             start: _,
         } = self;
-        let number = exchange.number();
-        tally.close(number, exchange.into_keeper())
+        let number = dispatcher.number();
+        tally.close(number, dispatcher.into_keeper())
     }
 }

@@ -2,7 +2,7 @@
 
 mod bases;
 mod disconnections;
-mod exchanges;
+mod dispatchers;
 mod lines;
 mod logs;
 mod pushes;

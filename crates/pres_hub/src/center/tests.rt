@@ -46,7 +46,7 @@ fn say_for<L: Ledger, K: Keeper + Drop, B: Bell + Clone + Drop>(
     up: Up,
     now: Moment,
 ) -> Result<(), HubFault> {
-    let Some(server) = core.exchange.server() else {
+    let Some(server) = core.dispatcher.server() else {
         drop(up);
         return Err(HubFault::Down);
     };
@@ -59,9 +59,9 @@ fn say_for<L: Ledger, K: Keeper + Drop, B: Bell + Clone + Drop>(
         return Err(HubFault::Refused(Fault::Session));
     }
     // it ensures that the log is legal
-    let _ = core.exchange.number();
-    take_message(&mut core.exchange, &mut core.tally, seat, up, now)?;
-    core.exchange.end_slow(core.alloc, now);
+    let _ = core.dispatcher.number();
+    take_message(&mut core.dispatcher, &mut core.tally, seat, up, now)?;
+    core.dispatcher.end_slow(core.alloc, now);
     Ok(())
 }
 

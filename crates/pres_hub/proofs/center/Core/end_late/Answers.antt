@@ -25,7 +25,7 @@ returns-then-after-before-clause-none_late g c =
     let before = c.number-before.ensures.number ∙ ap (λ x. x.run.number) c.self.view_is in
     let after = c.number-after.ensures.number ∙ ap (λ x. x.run.number) c.self-in-loop-self.view_is in
     none_late c.args.now old.run.number new.run.number old.run.server new.run.server old.lines new.lines c.in_ok-event.ensures.done
-    (subst (λ x. Runs Led x.run.server) c.self.view_is (led_by g.K.Keeper.works g.K.Keeper.keeps c.self.inside.exchange c.number-before.ensures.stands))
+    (subst (λ x. Runs Led x.run.server) c.self.view_is (led_by g.K.Keeper.works g.K.Keeper.keeps c.self.inside.dispatcher c.number-before.ensures.stands))
     (subst (λ x. Runs (λ s. x.run.number ≡ s.sum.number) x.run.server) c.self.view_is c.number-before.ensures.counted)
     (subst (λ x. Runs (λ s. x.run.number ≡ s.sum.number) x.run.server) c.self-in-loop-self.view_is c.number-after.ensures.counted)
     (sym after ∙ c.if-after-before.true ∙ before)
@@ -37,7 +37,7 @@ loop-self-smaller g c =
     let before = c.number-before.ensures.number ∙ ap (λ x. x.run.number) c.self.view_is in
     let after = c.number-after.ensures.number ∙ ap (λ x. x.run.number) c.self-in-loop-self.view_is in
     late_fewer input.Tick c.args.now old.run.number new.run.number old.run.server new.run.server old.lines new.lines c.in_ok-event.ensures.done
-    (subst (λ x. Runs Led x.run.server) c.self.view_is (led_by g.K.Keeper.works g.K.Keeper.keeps c.self.inside.exchange c.number-before.ensures.stands))
+    (subst (λ x. Runs Led x.run.server) c.self.view_is (led_by g.K.Keeper.works g.K.Keeper.keeps c.self.inside.dispatcher c.number-before.ensures.stands))
     (subst (λ x. Runs (λ s. x.run.number ≡ s.sum.number) x.run.server) c.self.view_is c.number-before.ensures.counted)
     (subst (λ x. Runs (λ s. x.run.number ≡ s.sum.number) x.run.server) c.self-in-loop-self.view_is c.number-after.ensures.counted)
     (rose old.run.number new.run.number c.in_ok-event.ensures.rises (λ h. c.if-after-before.false (after ∙ h ∙ sym before)))

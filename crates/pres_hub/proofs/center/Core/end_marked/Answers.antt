@@ -20,18 +20,18 @@ use Rattle.pres_hub.proofs.center.Core.end_marked.Goals as goal
 
 pub loop-next-smaller : goal.loop-next-smaller
 loop-next-smaller g c =
-    let old = c.self.inside.exchange in
+    let old = c.self.inside.dispatcher in
     let carried = subst (λ i. IsCarriedOut i c.args.now c.loop-next.self.run.server c.event.new.self.run.server c.loop-next.self.lines c.event.new.self.lines) c.end_by.ensures.input c.in_ok-event.ensures.done in
     let found : first_marked old.lines ≡ Some (c.in_ok-session.session, c.in_ok-session.why) = subst (λ r. IfOk r (λ e. first_marked old.lines ≡ Some e)) c.in_ok-session.was c.in-Some.ensures.session in
     let is : Runs (λ s. is_open_in c.in_ok-session.session s.sum ≡ true) old.run.server = subst (λ o. IfSome o (λ e. Runs (λ s. is_open_in e.0 s.sum ≡ true) old.run.server)) found c.in-Some.ensures.open in
     marked_fewer c.in_ok-session.why c.in_ok-session.session c.args.now c.loop-next.self.run.server c.event.new.self.run.server c.loop-next.self.lines c.event.new.self.lines carried
-    (subst (λ x. Runs Led x.run.server) c.self.view_is (led_by g.K.Keeper.works g.K.Keeper.keeps c.self.inside.exchange c.number.ensures.stands))
+    (subst (λ x. Runs Led x.run.server) c.self.view_is (led_by g.K.Keeper.works g.K.Keeper.keeps c.self.inside.dispatcher c.number.ensures.stands))
     (subst (λ x. Runs (λ s. is_open_in c.in_ok-session.session s.sum ≡ true) x.run.server) c.self.view_is is)
 
 pub loop-next-preserved : goal.loop-next-preserved
 loop-next-preserved g c =
     let before = c.loop-next.invariant in
-    let old = c.self.inside.exchange in
+    let old = c.self.inside.dispatcher in
     let found : first_marked old.lines ≡ Some (c.in_ok-session.session, c.in_ok-session.why) = subst (λ r. IfOk r (λ e. first_marked old.lines ≡ Some e)) c.in_ok-session.was c.in-Some.ensures.session in
     let first : IsFirstMarked (c.in_ok-session.session, c.in_ok-session.why) old.lines = subst (λ o. IfSome o (λ e. IsFirstMarked e old.lines)) found c.in-Some.ensures.first in
     let event = c.in_ok-event.ensures in
@@ -61,7 +61,7 @@ returns-in_err-session-clause-stopped g c =
 
 pub returns-in_err-event-clause-stopped : goal.returns-in_err-event-clause-stopped
 returns-in_err-event-clause-stopped g c =
-    let old = c.self.inside.exchange in
+    let old = c.self.inside.dispatcher in
     let now = c.loop-next.self in
     let new = c.event.new.self in
     let found : first_marked old.lines ≡ Some (c.in_ok-session.session, c.in_ok-session.why) = subst (λ r. IfOk r (λ e. first_marked old.lines ≡ Some e)) c.in_ok-session.was c.in-Some.ensures.session in
@@ -96,7 +96,7 @@ returns-in_err-session-clause-stops g c =
 
 pub returns-in_err-event-clause-stops : goal.returns-in_err-event-clause-stops
 returns-in_err-event-clause-stops g c =
-    let old = c.self.inside.exchange in
+    let old = c.self.inside.dispatcher in
     let now = c.loop-next.self in
     let new = c.event.new.self in
     let next : SessionId × Why = (c.in_ok-session.session, c.in_ok-session.why) in

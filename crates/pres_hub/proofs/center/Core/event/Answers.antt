@@ -18,13 +18,13 @@ invariant_of-self-2 g c =
     record {
       stands =
           some_goes_on g.K.Keeper.works g.K.Keeper.keeps
-          (record { run = c.self.inside.exchange.run; lines = c.self.inside.exchange.lines; counts = c.self.inside.tally; start = c.self.inside.start })
+          (record { run = c.self.inside.dispatcher.run; lines = c.self.inside.dispatcher.lines; counts = c.self.inside.tally; start = c.self.inside.start })
           (record { run = c.end_slow.new.self.run; lines = c.end_slow.new.self.lines; counts = c.self.inside.tally; start = c.self.inside.start })
           (goes_carried g.K.Keeper.works g.K.Keeper.keeps
-          (record { run = c.self.inside.exchange.run; lines = c.self.inside.exchange.lines; counts = c.self.inside.tally; start = c.self.inside.start })
+          (record { run = c.self.inside.dispatcher.run; lines = c.self.inside.dispatcher.lines; counts = c.self.inside.tally; start = c.self.inside.start })
           (record { run = c.end_slow.new.self.run; lines = c.end_slow.new.self.lines; counts = c.self.inside.tally; start = c.self.inside.start })
           c.turn.new.self c.args.input c.args.now refl c.in_ok-turn.ensures.stands
-          (λ log h. same_accepted c.self.inside.start c.self.inside.tally.accepted log c.self.inside.exchange.run.server c.turn.new.self.run.server c.args.input c.args.now done.0 c.requires done.1 h) c.end_slow.ensures.stands)
+          (λ log h. same_accepted c.self.inside.start c.self.inside.tally.accepted log c.self.inside.dispatcher.run.server c.turn.new.self.run.server c.args.input c.args.now done.0 c.requires done.1 h) c.end_slow.ensures.stands)
           c.self.invariant.stands;
       none_slow = c.end_slow.ensures.none_slow;
     }
@@ -34,10 +34,10 @@ returns-clause-goes_on g c =
     let done = c.in_ok-turn.ensures.answered in
     subst (λ x. GoesOn g.K.Keeper.works g.K.Keeper.keeps x (record { run = c.end_slow.new.self.run; lines = c.end_slow.new.self.lines; counts = c.self.inside.tally; start = c.self.inside.start })) c.self.view_is
     (goes_carried g.K.Keeper.works g.K.Keeper.keeps
-    (record { run = c.self.inside.exchange.run; lines = c.self.inside.exchange.lines; counts = c.self.inside.tally; start = c.self.inside.start })
+    (record { run = c.self.inside.dispatcher.run; lines = c.self.inside.dispatcher.lines; counts = c.self.inside.tally; start = c.self.inside.start })
     (record { run = c.end_slow.new.self.run; lines = c.end_slow.new.self.lines; counts = c.self.inside.tally; start = c.self.inside.start })
     c.turn.new.self c.args.input c.args.now refl c.in_ok-turn.ensures.stands
-    (λ log h. same_accepted c.self.inside.start c.self.inside.tally.accepted log c.self.inside.exchange.run.server c.turn.new.self.run.server c.args.input c.args.now done.0 c.requires done.1 h) c.end_slow.ensures.stands)
+    (λ log h. same_accepted c.self.inside.start c.self.inside.tally.accepted log c.self.inside.dispatcher.run.server c.turn.new.self.run.server c.args.input c.args.now done.0 c.requires done.1 h) c.end_slow.ensures.stands)
 
 pub returns-clause-done : goal.returns-clause-done
 returns-clause-done g c =
@@ -53,12 +53,12 @@ pub invariant_of-self : goal.invariant_of-self
 invariant_of-self g c = record {
   stands =
       some_goes_on g.K.Keeper.works g.K.Keeper.keeps
-      (record { run = c.self.inside.exchange.run; lines = c.self.inside.exchange.lines; counts = c.self.inside.tally; start = c.self.inside.start })
+      (record { run = c.self.inside.dispatcher.run; lines = c.self.inside.dispatcher.lines; counts = c.self.inside.tally; start = c.self.inside.start })
       (record { run = c.turn.new.self.run; lines = c.turn.new.self.lines; counts = c.self.inside.tally; start = c.self.inside.start })
       (goes_same g.K.Keeper.works g.K.Keeper.keeps
-      (record { run = c.self.inside.exchange.run; lines = c.self.inside.exchange.lines; counts = c.self.inside.tally; start = c.self.inside.start })
+      (record { run = c.self.inside.dispatcher.run; lines = c.self.inside.dispatcher.lines; counts = c.self.inside.tally; start = c.self.inside.start })
       (record { run = c.turn.new.self.run; lines = c.turn.new.self.lines; counts = c.self.inside.tally; start = c.self.inside.start })
-      c.in_err-turn.ensures.stands (turn_left c.args.input c.args.now c.self.inside.exchange.run.server c.turn.new.self.run.server c.in_err-turn.field-0.0 c.in_err-turn.ensures.refused) refl refl)
+      c.in_err-turn.ensures.stands (turn_left c.args.input c.args.now c.self.inside.dispatcher.run.server c.turn.new.self.run.server c.in_err-turn.field-0.0 c.in_err-turn.ensures.refused) refl refl)
       c.self.invariant.stands;
   none_slow = subst NoneSlow (sym c.in_err-turn.ensures.lines) c.self.invariant.none_slow;
 }
@@ -67,9 +67,9 @@ pub returns-in_err-turn-clause-goes_on : goal.returns-in_err-turn-clause-goes_on
 returns-in_err-turn-clause-goes_on g c =
     subst (λ x. GoesOn g.K.Keeper.works g.K.Keeper.keeps x (record { run = c.turn.new.self.run; lines = c.turn.new.self.lines; counts = c.self.inside.tally; start = c.self.inside.start })) c.self.view_is
     (goes_same g.K.Keeper.works g.K.Keeper.keeps
-    (record { run = c.self.inside.exchange.run; lines = c.self.inside.exchange.lines; counts = c.self.inside.tally; start = c.self.inside.start })
+    (record { run = c.self.inside.dispatcher.run; lines = c.self.inside.dispatcher.lines; counts = c.self.inside.tally; start = c.self.inside.start })
     (record { run = c.turn.new.self.run; lines = c.turn.new.self.lines; counts = c.self.inside.tally; start = c.self.inside.start })
-    c.in_err-turn.ensures.stands (turn_left c.args.input c.args.now c.self.inside.exchange.run.server c.turn.new.self.run.server c.in_err-turn.field-0.0 c.in_err-turn.ensures.refused) refl refl)
+    c.in_err-turn.ensures.stands (turn_left c.args.input c.args.now c.self.inside.dispatcher.run.server c.turn.new.self.run.server c.in_err-turn.field-0.0 c.in_err-turn.ensures.refused) refl refl)
 
 pub returns-clause-carries : goal.returns-clause-carries
 returns-clause-carries g c =
@@ -78,15 +78,15 @@ returns-clause-carries g c =
     (λ log stands.
     let k =
     carries_on g.K.Keeper.works g.K.Keeper.keeps
-    (record { run = c.self.inside.exchange.run; lines = c.self.inside.exchange.lines; counts = c.self.inside.tally; start = c.self.inside.start })
+    (record { run = c.self.inside.dispatcher.run; lines = c.self.inside.dispatcher.lines; counts = c.self.inside.tally; start = c.self.inside.start })
     (record { run = c.end_slow.new.self.run; lines = c.end_slow.new.self.lines; counts = c.self.inside.tally; start = c.self.inside.start })
     c.turn.new.self c.args.input c.args.now refl c.in_ok-turn.ensures.stands
-    (λ l h. same_accepted c.self.inside.start c.self.inside.tally.accepted l c.self.inside.exchange.run.server c.turn.new.self.run.server c.args.input c.args.now done.0 c.requires done.1 h) c.end_slow.ensures.stands log stands in
+    (λ l h. same_accepted c.self.inside.start c.self.inside.tally.accepted l c.self.inside.dispatcher.run.server c.turn.new.self.run.server c.args.input c.args.now done.0 c.requires done.1 h) c.end_slow.ensures.stands log stands in
     (record { middle = c.turn.new.self.run.server; lines = c.turn.new.self.lines; answered = done; ended = k.0 }, k.1))
 
 pub returns-in_err-turn-clause-still : goal.returns-in_err-turn-clause-still
 returns-in_err-turn-clause-still g c =
     subst (λ x. OnErr c.from_residual.result (StandsStill g.K.Keeper.works g.K.Keeper.keeps x (record { run = c.turn.new.self.run; lines = c.turn.new.self.lines; counts = c.self.inside.tally; start = c.self.inside.start }))) c.self.view_is
-    (on_err c.from_residual.result (StandsStill g.K.Keeper.works g.K.Keeper.keeps (record { run = c.self.inside.exchange.run; lines = c.self.inside.exchange.lines; counts = c.self.inside.tally; start = c.self.inside.start }) (record { run = c.turn.new.self.run; lines = c.turn.new.self.lines; counts = c.self.inside.tally; start = c.self.inside.start }))
-    (stands_still g.K.Keeper.works g.K.Keeper.keeps (record { run = c.self.inside.exchange.run; lines = c.self.inside.exchange.lines; counts = c.self.inside.tally; start = c.self.inside.start }) (record { run = c.turn.new.self.run; lines = c.turn.new.self.lines; counts = c.self.inside.tally; start = c.self.inside.start })
-    c.in_err-turn.ensures.stands (turn_left c.args.input c.args.now c.self.inside.exchange.run.server c.turn.new.self.run.server c.in_err-turn.field-0.0 c.in_err-turn.ensures.refused) refl refl))
+    (on_err c.from_residual.result (StandsStill g.K.Keeper.works g.K.Keeper.keeps (record { run = c.self.inside.dispatcher.run; lines = c.self.inside.dispatcher.lines; counts = c.self.inside.tally; start = c.self.inside.start }) (record { run = c.turn.new.self.run; lines = c.turn.new.self.lines; counts = c.self.inside.tally; start = c.self.inside.start }))
+    (stands_still g.K.Keeper.works g.K.Keeper.keeps (record { run = c.self.inside.dispatcher.run; lines = c.self.inside.dispatcher.lines; counts = c.self.inside.tally; start = c.self.inside.start }) (record { run = c.turn.new.self.run; lines = c.turn.new.self.lines; counts = c.self.inside.tally; start = c.self.inside.start })
+    c.in_err-turn.ensures.stands (turn_left c.args.input c.args.now c.self.inside.dispatcher.run.server c.turn.new.self.run.server c.in_err-turn.field-0.0 c.in_err-turn.ensures.refused) refl refl))

@@ -16,7 +16,7 @@ pub seat-seat-requires : goal.seat-seat-requires
 seat-seat-requires g c = record {
   few =
       subst (Runs (λ s. c.self.inside.tally.accepted < 2 ^ 53)) c.in_ok-outbox.ensures.joined.ran
-      (few_runs g.K.Keeper.works g.K.Keeper.keeps (record { run = c.self.inside.exchange.run; lines = c.self.inside.exchange.lines; counts = c.self.inside.tally; start = c.self.inside.start }) c.self.invariant.stands);
+      (few_runs g.K.Keeper.works g.K.Keeper.keeps (record { run = c.self.inside.dispatcher.run; lines = c.self.inside.dispatcher.lines; counts = c.self.inside.tally; start = c.self.inside.start }) c.self.invariant.stands);
 }
 
 pub invariant_of-self-2 : goal.invariant_of-self-2
@@ -26,15 +26,15 @@ invariant_of-self-2 g c =
     record {
       stands =
           some_goes_on g.K.Keeper.works g.K.Keeper.keeps
-          (record { run = c.self.inside.exchange.run; lines = c.self.inside.exchange.lines; counts = c.self.inside.tally; start = c.self.inside.start })
+          (record { run = c.self.inside.dispatcher.run; lines = c.self.inside.dispatcher.lines; counts = c.self.inside.tally; start = c.self.inside.start })
           (record { run = c.end_slow.new.self.run; lines = c.end_slow.new.self.lines; counts = c.seat-seat.new.self; start = c.self.inside.start })
           (goes_carried g.K.Keeper.works g.K.Keeper.keeps
-          (record { run = c.self.inside.exchange.run; lines = c.self.inside.exchange.lines; counts = c.self.inside.tally; start = c.self.inside.start })
+          (record { run = c.self.inside.dispatcher.run; lines = c.self.inside.dispatcher.lines; counts = c.self.inside.tally; start = c.self.inside.start })
           (record { run = c.end_slow.new.self.run; lines = c.end_slow.new.self.lines; counts = c.seat-seat.new.self; start = c.self.inside.start })
           c.join.new.self i c.args.now refl c.in_ok-outbox.ensures.stands
           (λ log h.
-          subst (λ n. Runs (Accepted c.self.inside.start n (log_turned log c.self.inside.exchange.run.server i c.args.now)) c.join.new.self.run.server) (sym (ap (λ x. x.accepted) c.seat-seat.ensures.tally))
-          (joined_accepted c.self.inside.start c.self.inside.tally.accepted log c.args.session.now c.args.now c.self.inside.exchange.run.server c.join.new.self.run.server c.self.inside.exchange.lines c.join.new.self.lines c.in_ok-outbox.outbox joined h))
+          subst (λ n. Runs (Accepted c.self.inside.start n (log_turned log c.self.inside.dispatcher.run.server i c.args.now)) c.join.new.self.run.server) (sym (ap (λ x. x.accepted) c.seat-seat.ensures.tally))
+          (joined_accepted c.self.inside.start c.self.inside.tally.accepted log c.args.session.now c.args.now c.self.inside.dispatcher.run.server c.join.new.self.run.server c.self.inside.dispatcher.lines c.join.new.self.lines c.in_ok-outbox.outbox joined h))
           c.end_slow.ensures.stands)
           c.self.invariant.stands;
       none_slow = c.end_slow.ensures.none_slow;
@@ -46,24 +46,24 @@ returns-clause-goes_on g c =
     let i = input.Up (up.Hello c.args.session.now) in
     subst (λ x. GoesOn g.K.Keeper.works g.K.Keeper.keeps x (record { run = c.end_slow.new.self.run; lines = c.end_slow.new.self.lines; counts = c.seat-seat.new.self; start = c.self.inside.start })) c.self.view_is
     (goes_carried g.K.Keeper.works g.K.Keeper.keeps
-    (record { run = c.self.inside.exchange.run; lines = c.self.inside.exchange.lines; counts = c.self.inside.tally; start = c.self.inside.start })
+    (record { run = c.self.inside.dispatcher.run; lines = c.self.inside.dispatcher.lines; counts = c.self.inside.tally; start = c.self.inside.start })
     (record { run = c.end_slow.new.self.run; lines = c.end_slow.new.self.lines; counts = c.seat-seat.new.self; start = c.self.inside.start })
     c.join.new.self i c.args.now refl c.in_ok-outbox.ensures.stands
     (λ log h.
-    subst (λ n. Runs (Accepted c.self.inside.start n (log_turned log c.self.inside.exchange.run.server i c.args.now)) c.join.new.self.run.server) (sym (ap (λ x. x.accepted) c.seat-seat.ensures.tally))
-    (joined_accepted c.self.inside.start c.self.inside.tally.accepted log c.args.session.now c.args.now c.self.inside.exchange.run.server c.join.new.self.run.server c.self.inside.exchange.lines c.join.new.self.lines c.in_ok-outbox.outbox joined h))
+    subst (λ n. Runs (Accepted c.self.inside.start n (log_turned log c.self.inside.dispatcher.run.server i c.args.now)) c.join.new.self.run.server) (sym (ap (λ x. x.accepted) c.seat-seat.ensures.tally))
+    (joined_accepted c.self.inside.start c.self.inside.tally.accepted log c.args.session.now c.args.now c.self.inside.dispatcher.run.server c.join.new.self.run.server c.self.inside.dispatcher.lines c.join.new.self.lines c.in_ok-outbox.outbox joined h))
     c.end_slow.ensures.stands)
 
 pub invariant_of-self : goal.invariant_of-self
 invariant_of-self g c = record {
   stands =
       some_goes_on g.K.Keeper.works g.K.Keeper.keeps
-      (record { run = c.self.inside.exchange.run; lines = c.self.inside.exchange.lines; counts = c.self.inside.tally; start = c.self.inside.start })
+      (record { run = c.self.inside.dispatcher.run; lines = c.self.inside.dispatcher.lines; counts = c.self.inside.tally; start = c.self.inside.start })
       (record { run = c.join.new.self.run; lines = c.join.new.self.lines; counts = c.self.inside.tally; start = c.self.inside.start })
       (goes_same g.K.Keeper.works g.K.Keeper.keeps
-      (record { run = c.self.inside.exchange.run; lines = c.self.inside.exchange.lines; counts = c.self.inside.tally; start = c.self.inside.start })
+      (record { run = c.self.inside.dispatcher.run; lines = c.self.inside.dispatcher.lines; counts = c.self.inside.tally; start = c.self.inside.start })
       (record { run = c.join.new.self.run; lines = c.join.new.self.lines; counts = c.self.inside.tally; start = c.self.inside.start })
-      c.in_err-outbox.ensures.stands (unanswered_left (input.Up (up.Hello c.args.session.now)) c.args.now c.self.inside.exchange.run.server c.join.new.self.run.server c.in_err-outbox.field-0.0 c.in_err-outbox.ensures.refused) refl refl)
+      c.in_err-outbox.ensures.stands (unanswered_left (input.Up (up.Hello c.args.session.now)) c.args.now c.self.inside.dispatcher.run.server c.join.new.self.run.server c.in_err-outbox.field-0.0 c.in_err-outbox.ensures.refused) refl refl)
       c.self.invariant.stands;
   none_slow = λ s. subst (λ line. IfSome line (λ l. is_slow l ≡ false)) (sym (c.in_err-outbox.ensures.lines s)) (c.self.invariant.none_slow s);
 }
@@ -72,9 +72,9 @@ pub returns-in_err-outbox-clause-goes_on : goal.returns-in_err-outbox-clause-goe
 returns-in_err-outbox-clause-goes_on g c =
     subst (λ x. GoesOn g.K.Keeper.works g.K.Keeper.keeps x (record { run = c.join.new.self.run; lines = c.join.new.self.lines; counts = c.self.inside.tally; start = c.self.inside.start })) c.self.view_is
     (goes_same g.K.Keeper.works g.K.Keeper.keeps
-    (record { run = c.self.inside.exchange.run; lines = c.self.inside.exchange.lines; counts = c.self.inside.tally; start = c.self.inside.start })
+    (record { run = c.self.inside.dispatcher.run; lines = c.self.inside.dispatcher.lines; counts = c.self.inside.tally; start = c.self.inside.start })
     (record { run = c.join.new.self.run; lines = c.join.new.self.lines; counts = c.self.inside.tally; start = c.self.inside.start })
-    c.in_err-outbox.ensures.stands (unanswered_left (input.Up (up.Hello c.args.session.now)) c.args.now c.self.inside.exchange.run.server c.join.new.self.run.server c.in_err-outbox.field-0.0 c.in_err-outbox.ensures.refused) refl refl)
+    c.in_err-outbox.ensures.stands (unanswered_left (input.Up (up.Hello c.args.session.now)) c.args.now c.self.inside.dispatcher.run.server c.join.new.self.run.server c.in_err-outbox.field-0.0 c.in_err-outbox.ensures.refused) refl refl)
 
 pub returns-clause-carries : goal.returns-clause-carries
 returns-clause-carries g c =
@@ -84,18 +84,18 @@ returns-clause-carries g c =
     (λ log stands.
     let k =
     carries_on g.K.Keeper.works g.K.Keeper.keeps
-    (record { run = c.self.inside.exchange.run; lines = c.self.inside.exchange.lines; counts = c.self.inside.tally; start = c.self.inside.start })
+    (record { run = c.self.inside.dispatcher.run; lines = c.self.inside.dispatcher.lines; counts = c.self.inside.tally; start = c.self.inside.start })
     (record { run = c.end_slow.new.self.run; lines = c.end_slow.new.self.lines; counts = c.seat-seat.new.self; start = c.self.inside.start })
     c.join.new.self i c.args.now refl c.in_ok-outbox.ensures.stands
     (λ l h.
-    subst (λ n. Runs (Accepted c.self.inside.start n (log_turned l c.self.inside.exchange.run.server i c.args.now)) c.join.new.self.run.server) (sym (ap (λ x. x.accepted) c.seat-seat.ensures.tally))
-    (joined_accepted c.self.inside.start c.self.inside.tally.accepted l c.args.session.now c.args.now c.self.inside.exchange.run.server c.join.new.self.run.server c.self.inside.exchange.lines c.join.new.self.lines c.in_ok-outbox.outbox joined h))
+    subst (λ n. Runs (Accepted c.self.inside.start n (log_turned l c.self.inside.dispatcher.run.server i c.args.now)) c.join.new.self.run.server) (sym (ap (λ x. x.accepted) c.seat-seat.ensures.tally))
+    (joined_accepted c.self.inside.start c.self.inside.tally.accepted l c.args.session.now c.args.now c.self.inside.dispatcher.run.server c.join.new.self.run.server c.self.inside.dispatcher.lines c.join.new.self.lines c.in_ok-outbox.outbox joined h))
     c.end_slow.ensures.stands log stands in
     (record { middle = c.join.new.self.run.server; lines = c.join.new.self.lines; joined = joined; ended = k.0 }, k.1))
 
 pub returns-in_err-outbox-clause-still : goal.returns-in_err-outbox-clause-still
 returns-in_err-outbox-clause-still g c =
     subst (λ x. OnErr c.from_residual-in_err-outbox.result (StandsStill g.K.Keeper.works g.K.Keeper.keeps x (record { run = c.join.new.self.run; lines = c.join.new.self.lines; counts = c.self.inside.tally; start = c.self.inside.start }))) c.self.view_is
-    (on_err c.from_residual-in_err-outbox.result (StandsStill g.K.Keeper.works g.K.Keeper.keeps (record { run = c.self.inside.exchange.run; lines = c.self.inside.exchange.lines; counts = c.self.inside.tally; start = c.self.inside.start }) (record { run = c.join.new.self.run; lines = c.join.new.self.lines; counts = c.self.inside.tally; start = c.self.inside.start }))
-    (stands_still g.K.Keeper.works g.K.Keeper.keeps (record { run = c.self.inside.exchange.run; lines = c.self.inside.exchange.lines; counts = c.self.inside.tally; start = c.self.inside.start }) (record { run = c.join.new.self.run; lines = c.join.new.self.lines; counts = c.self.inside.tally; start = c.self.inside.start })
-    c.in_err-outbox.ensures.stands (unanswered_left (input.Up (up.Hello c.args.session.now)) c.args.now c.self.inside.exchange.run.server c.join.new.self.run.server c.in_err-outbox.field-0.0 c.in_err-outbox.ensures.refused) refl refl))
+    (on_err c.from_residual-in_err-outbox.result (StandsStill g.K.Keeper.works g.K.Keeper.keeps (record { run = c.self.inside.dispatcher.run; lines = c.self.inside.dispatcher.lines; counts = c.self.inside.tally; start = c.self.inside.start }) (record { run = c.join.new.self.run; lines = c.join.new.self.lines; counts = c.self.inside.tally; start = c.self.inside.start }))
+    (stands_still g.K.Keeper.works g.K.Keeper.keeps (record { run = c.self.inside.dispatcher.run; lines = c.self.inside.dispatcher.lines; counts = c.self.inside.tally; start = c.self.inside.start }) (record { run = c.join.new.self.run; lines = c.join.new.self.lines; counts = c.self.inside.tally; start = c.self.inside.start })
+    c.in_err-outbox.ensures.stands (unanswered_left (input.Up (up.Hello c.args.session.now)) c.args.now c.self.inside.dispatcher.run.server c.join.new.self.run.server c.in_err-outbox.field-0.0 c.in_err-outbox.ensures.refused) refl refl))

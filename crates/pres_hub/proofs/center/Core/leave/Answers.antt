@@ -8,8 +8,8 @@ pub returns-in-Ok-clause-carries : goal.returns-in-Ok-clause-carries
 returns-in-Ok-clause-carries g c =
     let before : c.args.self.now ≡ record { run = c.take_down.new.self.run; lines = c.take_down.new.self.lines; counts = c.self.inside.tally; start = c.self.inside.start } =
     sym (ap (λ x. record { run = x.run; lines = x.lines; counts = c.self.inside.tally; start = c.self.inside.start }) c.take_down.ensures ∙ c.self.view_is) in
-    on_none c.take.result.fault (CarriesOn g.K.Keeper.works g.K.Keeper.keeps (end_by c.args.why c.args.seat.session) c.args.now c.args.self.now (record { run = c.self-2.inside.exchange.run; lines = c.self-2.inside.exchange.lines; counts = c.take.new.self; start = c.self-2.inside.start }))
-    (carries_recounted g.K.Keeper.works g.K.Keeper.keeps (record { run = c.self-2.inside.exchange.run; lines = c.self-2.inside.exchange.lines; counts = c.self-2.inside.tally; start = c.self-2.inside.start }) c.take.new.self (ap (λ t. t.accepted) c.take.ensures.tally) (end_by c.args.why c.args.seat.session) c.args.now c.args.self.now
+    on_none c.take.result.fault (CarriesOn g.K.Keeper.works g.K.Keeper.keeps (end_by c.args.why c.args.seat.session) c.args.now c.args.self.now (record { run = c.self-2.inside.dispatcher.run; lines = c.self-2.inside.dispatcher.lines; counts = c.take.new.self; start = c.self-2.inside.start }))
+    (carries_recounted g.K.Keeper.works g.K.Keeper.keeps (record { run = c.self-2.inside.dispatcher.run; lines = c.self-2.inside.dispatcher.lines; counts = c.self-2.inside.tally; start = c.self-2.inside.start }) c.take.new.self (ap (λ t. t.accepted) c.take.ensures.tally) (end_by c.args.why c.args.seat.session) c.args.now c.args.self.now
     (subst (λ x. CarriesOn g.K.Keeper.works g.K.Keeper.keeps (end_by c.args.why c.args.seat.session) c.args.now c.args.self.now x) (sym c.self-2.view_is)
     (subst (λ x. CarriesOn g.K.Keeper.works g.K.Keeper.keeps (end_by c.args.why c.args.seat.session) c.args.now x c.end.new.self) (sym before)
     (subst (λ s. CarriesOn g.K.Keeper.works g.K.Keeper.keeps (end_by c.args.why s) c.args.now (record { run = c.take_down.new.self.run; lines = c.take_down.new.self.lines; counts = c.self.inside.tally; start = c.self.inside.start }) c.end.new.self) c.session-2.ensures
@@ -20,12 +20,12 @@ returns-in-Err-clause-goes_on g c =
     let before : c.args.self.now ≡ record { run = c.take_down.new.self.run; lines = c.take_down.new.self.lines; counts = c.self.inside.tally; start = c.self.inside.start } =
     sym (ap (λ x. record { run = x.run; lines = x.lines; counts = c.self.inside.tally; start = c.self.inside.start }) c.take_down.ensures ∙ c.self.view_is) in
     goes_twice g.K.Keeper.works g.K.Keeper.keeps c.args.self.now
-    (record { run = c.self-2.inside.exchange.run; lines = c.self-2.inside.exchange.lines; counts = c.self-2.inside.tally; start = c.self-2.inside.start })
+    (record { run = c.self-2.inside.dispatcher.run; lines = c.self-2.inside.dispatcher.lines; counts = c.self-2.inside.tally; start = c.self-2.inside.start })
     (record { run = c.strike.new.self.run; lines = c.strike.new.self.lines; counts = c.take-in-Err.new.self; start = c.self-2.inside.start })
     (subst (λ x. GoesOn g.K.Keeper.works g.K.Keeper.keeps c.args.self.now x) (sym c.self-2.view_is)
     (subst (λ x. GoesOn g.K.Keeper.works g.K.Keeper.keeps x c.end.new.self) (sym before) c.end.ensures.goes_on))
-    (goes_still g.K.Keeper.works g.K.Keeper.keeps (record { run = c.self-2.inside.exchange.run; lines = c.self-2.inside.exchange.lines; counts = c.self-2.inside.tally; start = c.self-2.inside.start })
+    (goes_still g.K.Keeper.works g.K.Keeper.keeps (record { run = c.self-2.inside.dispatcher.run; lines = c.self-2.inside.dispatcher.lines; counts = c.self-2.inside.tally; start = c.self-2.inside.start })
     (record { run = c.strike.new.self.run; lines = c.strike.new.self.lines; counts = c.take-in-Err.new.self; start = c.self-2.inside.start })
-    (stands_still g.K.Keeper.works g.K.Keeper.keeps (record { run = c.self-2.inside.exchange.run; lines = c.self-2.inside.exchange.lines; counts = c.self-2.inside.tally; start = c.self-2.inside.start })
+    (stands_still g.K.Keeper.works g.K.Keeper.keeps (record { run = c.self-2.inside.dispatcher.run; lines = c.self-2.inside.dispatcher.lines; counts = c.self-2.inside.tally; start = c.self-2.inside.start })
     (record { run = c.strike.new.self.run; lines = c.strike.new.self.lines; counts = c.take-in-Err.new.self; start = c.self-2.inside.start })
     c.strike.ensures.stands (inl (ap (λ run. run.server) c.strike.ensures.run)) refl (ap (λ t. t.accepted) c.take-in-Err.ensures.tally)))

@@ -14,7 +14,7 @@ use Rattle.pres_hub.proofs.center.Core.say.Goals as goal
 
 pub take_message-requires-clause-few : goal.take_message-requires-clause-few
 take_message-requires-clause-few g c =
-    few_runs g.K.Keeper.works g.K.Keeper.keeps (record { run = c.self.inside.exchange.run; lines = c.self.inside.exchange.lines; counts = c.self.inside.tally; start = c.self.inside.start }) c.self.invariant.stands
+    few_runs g.K.Keeper.works g.K.Keeper.keeps (record { run = c.self.inside.dispatcher.run; lines = c.self.inside.dispatcher.lines; counts = c.self.inside.tally; start = c.self.inside.start }) c.self.invariant.stands
 
 pub invariant_of-self-2 : goal.invariant_of-self-2
 invariant_of-self-2 g c =
@@ -23,15 +23,15 @@ invariant_of-self-2 g c =
     record {
       stands =
           some_goes_on g.K.Keeper.works g.K.Keeper.keeps
-          (record { run = c.self.inside.exchange.run; lines = c.self.inside.exchange.lines; counts = c.self.inside.tally; start = c.self.inside.start })
+          (record { run = c.self.inside.dispatcher.run; lines = c.self.inside.dispatcher.lines; counts = c.self.inside.tally; start = c.self.inside.start })
           (record { run = c.end_slow.new.self.run; lines = c.end_slow.new.self.lines; counts = c.take_message.new.tally; start = c.self.inside.start })
           (goes_carried g.K.Keeper.works g.K.Keeper.keeps
-          (record { run = c.self.inside.exchange.run; lines = c.self.inside.exchange.lines; counts = c.self.inside.tally; start = c.self.inside.start })
+          (record { run = c.self.inside.dispatcher.run; lines = c.self.inside.dispatcher.lines; counts = c.self.inside.tally; start = c.self.inside.start })
           (record { run = c.end_slow.new.self.run; lines = c.end_slow.new.self.lines; counts = c.take_message.new.tally; start = c.self.inside.start })
-          c.take_message.new.exchange i c.args.now refl c.in_ok-take_message.ensures.stands
+          c.take_message.new.dispatcher i c.args.now refl c.in_ok-take_message.ensures.stands
           (λ log h.
-          subst (λ n. Runs (Accepted c.self.inside.start n (log_turned log c.self.inside.exchange.run.server i c.args.now)) c.take_message.new.exchange.run.server) (sym (ap (λ x. x.accepted) c.in_ok-take_message.ensures.tally))
-          (said_accepted c.self.inside.start c.self.inside.tally.accepted log c.self.inside.exchange.run.server c.take_message.new.exchange.run.server c.args.up c.args.now answered.0 answered.1 h))
+          subst (λ n. Runs (Accepted c.self.inside.start n (log_turned log c.self.inside.dispatcher.run.server i c.args.now)) c.take_message.new.dispatcher.run.server) (sym (ap (λ x. x.accepted) c.in_ok-take_message.ensures.tally))
+          (said_accepted c.self.inside.start c.self.inside.tally.accepted log c.self.inside.dispatcher.run.server c.take_message.new.dispatcher.run.server c.args.up c.args.now answered.0 answered.1 h))
           c.end_slow.ensures.stands)
           c.self.invariant.stands;
       none_slow = c.end_slow.ensures.none_slow;
@@ -43,12 +43,12 @@ returns-clause-goes_on g c =
     let i = input.Up c.args.up in
     subst (λ x. GoesOn g.K.Keeper.works g.K.Keeper.keeps x (record { run = c.end_slow.new.self.run; lines = c.end_slow.new.self.lines; counts = c.take_message.new.tally; start = c.self.inside.start })) c.self.view_is
     (goes_carried g.K.Keeper.works g.K.Keeper.keeps
-    (record { run = c.self.inside.exchange.run; lines = c.self.inside.exchange.lines; counts = c.self.inside.tally; start = c.self.inside.start })
+    (record { run = c.self.inside.dispatcher.run; lines = c.self.inside.dispatcher.lines; counts = c.self.inside.tally; start = c.self.inside.start })
     (record { run = c.end_slow.new.self.run; lines = c.end_slow.new.self.lines; counts = c.take_message.new.tally; start = c.self.inside.start })
-    c.take_message.new.exchange i c.args.now refl c.in_ok-take_message.ensures.stands
+    c.take_message.new.dispatcher i c.args.now refl c.in_ok-take_message.ensures.stands
     (λ log h.
-    subst (λ n. Runs (Accepted c.self.inside.start n (log_turned log c.self.inside.exchange.run.server i c.args.now)) c.take_message.new.exchange.run.server) (sym (ap (λ x. x.accepted) c.in_ok-take_message.ensures.tally))
-    (said_accepted c.self.inside.start c.self.inside.tally.accepted log c.self.inside.exchange.run.server c.take_message.new.exchange.run.server c.args.up c.args.now answered.0 answered.1 h))
+    subst (λ n. Runs (Accepted c.self.inside.start n (log_turned log c.self.inside.dispatcher.run.server i c.args.now)) c.take_message.new.dispatcher.run.server) (sym (ap (λ x. x.accepted) c.in_ok-take_message.ensures.tally))
+    (said_accepted c.self.inside.start c.self.inside.tally.accepted log c.self.inside.dispatcher.run.server c.take_message.new.dispatcher.run.server c.args.up c.args.now answered.0 answered.1 h))
     c.end_slow.ensures.stands)
 
 pub returns-clause-heard : goal.returns-clause-heard
@@ -58,8 +58,8 @@ returns-clause-heard g c =
     record {
       taken = record { runs = taken.runs; own = taken.own; fresh = taken.fresh; abreast = taken.abreast };
       carried = subst (λ x. IsCarriedOut (input.Up c.args.up) c.args.now x.run.server new x.lines c.end_slow.new.self.lines) c.self.view_is (record {
-        middle = c.take_message.new.exchange.run.server;
-        lines = c.take_message.new.exchange.lines;
+        middle = c.take_message.new.dispatcher.run.server;
+        lines = c.take_message.new.dispatcher.lines;
         answered = c.in_ok-take_message.ensures.answered;
         ended = c.end_slow.ensures.ended;
       });
@@ -72,12 +72,12 @@ pub invariant_of-self : goal.invariant_of-self
 invariant_of-self g c = record {
   stands =
       some_goes_on g.K.Keeper.works g.K.Keeper.keeps
-      (record { run = c.self.inside.exchange.run; lines = c.self.inside.exchange.lines; counts = c.self.inside.tally; start = c.self.inside.start })
-      (record { run = c.take_message.new.exchange.run; lines = c.take_message.new.exchange.lines; counts = c.take_message.new.tally; start = c.self.inside.start })
+      (record { run = c.self.inside.dispatcher.run; lines = c.self.inside.dispatcher.lines; counts = c.self.inside.tally; start = c.self.inside.start })
+      (record { run = c.take_message.new.dispatcher.run; lines = c.take_message.new.dispatcher.lines; counts = c.take_message.new.tally; start = c.self.inside.start })
       (goes_same g.K.Keeper.works g.K.Keeper.keeps
-      (record { run = c.self.inside.exchange.run; lines = c.self.inside.exchange.lines; counts = c.self.inside.tally; start = c.self.inside.start })
-      (record { run = c.take_message.new.exchange.run; lines = c.take_message.new.exchange.lines; counts = c.take_message.new.tally; start = c.self.inside.start })
-      c.in_err-take_message.ensures.stands (event_left (input.Up c.args.up) c.args.now c.self.inside.exchange.run.server c.take_message.new.exchange.run.server c.in_err-take_message.field-0.0 c.in_err-take_message.ensures.refused) refl
+      (record { run = c.self.inside.dispatcher.run; lines = c.self.inside.dispatcher.lines; counts = c.self.inside.tally; start = c.self.inside.start })
+      (record { run = c.take_message.new.dispatcher.run; lines = c.take_message.new.dispatcher.lines; counts = c.take_message.new.tally; start = c.self.inside.start })
+      c.in_err-take_message.ensures.stands (event_left (input.Up c.args.up) c.args.now c.self.inside.dispatcher.run.server c.take_message.new.dispatcher.run.server c.in_err-take_message.field-0.0 c.in_err-take_message.ensures.refused) refl
       (ap (λ x. x.accepted) c.in_err-take_message.ensures.kept.0))
       c.self.invariant.stands;
   none_slow = subst NoneSlow (sym c.in_err-take_message.ensures.lines) c.self.invariant.none_slow;
@@ -85,11 +85,11 @@ invariant_of-self g c = record {
 
 pub returns-in_err-take_message-clause-goes_on : goal.returns-in_err-take_message-clause-goes_on
 returns-in_err-take_message-clause-goes_on g c =
-    subst (λ x. GoesOn g.K.Keeper.works g.K.Keeper.keeps x (record { run = c.take_message.new.exchange.run; lines = c.take_message.new.exchange.lines; counts = c.take_message.new.tally; start = c.self.inside.start })) c.self.view_is
+    subst (λ x. GoesOn g.K.Keeper.works g.K.Keeper.keeps x (record { run = c.take_message.new.dispatcher.run; lines = c.take_message.new.dispatcher.lines; counts = c.take_message.new.tally; start = c.self.inside.start })) c.self.view_is
     (goes_same g.K.Keeper.works g.K.Keeper.keeps
-    (record { run = c.self.inside.exchange.run; lines = c.self.inside.exchange.lines; counts = c.self.inside.tally; start = c.self.inside.start })
-    (record { run = c.take_message.new.exchange.run; lines = c.take_message.new.exchange.lines; counts = c.take_message.new.tally; start = c.self.inside.start })
-    c.in_err-take_message.ensures.stands (event_left (input.Up c.args.up) c.args.now c.self.inside.exchange.run.server c.take_message.new.exchange.run.server c.in_err-take_message.field-0.0 c.in_err-take_message.ensures.refused) refl
+    (record { run = c.self.inside.dispatcher.run; lines = c.self.inside.dispatcher.lines; counts = c.self.inside.tally; start = c.self.inside.start })
+    (record { run = c.take_message.new.dispatcher.run; lines = c.take_message.new.dispatcher.lines; counts = c.take_message.new.tally; start = c.self.inside.start })
+    c.in_err-take_message.ensures.stands (event_left (input.Up c.args.up) c.args.now c.self.inside.dispatcher.run.server c.take_message.new.dispatcher.run.server c.in_err-take_message.field-0.0 c.in_err-take_message.ensures.refused) refl
     (ap (λ x. x.accepted) c.in_err-take_message.ensures.kept.0))
 
 pub returns-clause-carries : goal.returns-clause-carries
@@ -100,19 +100,19 @@ returns-clause-carries g c =
     (λ log stands.
     let k =
     carries_on g.K.Keeper.works g.K.Keeper.keeps
-    (record { run = c.self.inside.exchange.run; lines = c.self.inside.exchange.lines; counts = c.self.inside.tally; start = c.self.inside.start })
+    (record { run = c.self.inside.dispatcher.run; lines = c.self.inside.dispatcher.lines; counts = c.self.inside.tally; start = c.self.inside.start })
     (record { run = c.end_slow.new.self.run; lines = c.end_slow.new.self.lines; counts = c.take_message.new.tally; start = c.self.inside.start })
-    c.take_message.new.exchange i c.args.now refl c.in_ok-take_message.ensures.stands
+    c.take_message.new.dispatcher i c.args.now refl c.in_ok-take_message.ensures.stands
     (λ l h.
-    subst (λ n. Runs (Accepted c.self.inside.start n (log_turned l c.self.inside.exchange.run.server i c.args.now)) c.take_message.new.exchange.run.server) (sym (ap (λ x. x.accepted) c.in_ok-take_message.ensures.tally))
-    (said_accepted c.self.inside.start c.self.inside.tally.accepted l c.self.inside.exchange.run.server c.take_message.new.exchange.run.server c.args.up c.args.now answered.0 answered.1 h))
+    subst (λ n. Runs (Accepted c.self.inside.start n (log_turned l c.self.inside.dispatcher.run.server i c.args.now)) c.take_message.new.dispatcher.run.server) (sym (ap (λ x. x.accepted) c.in_ok-take_message.ensures.tally))
+    (said_accepted c.self.inside.start c.self.inside.tally.accepted l c.self.inside.dispatcher.run.server c.take_message.new.dispatcher.run.server c.args.up c.args.now answered.0 answered.1 h))
     c.end_slow.ensures.stands log stands in
-    (record { middle = c.take_message.new.exchange.run.server; lines = c.take_message.new.exchange.lines; answered = answered; ended = k.0 }, k.1))
+    (record { middle = c.take_message.new.dispatcher.run.server; lines = c.take_message.new.dispatcher.lines; answered = answered; ended = k.0 }, k.1))
 
 pub returns-in_err-take_message-clause-still : goal.returns-in_err-take_message-clause-still
 returns-in_err-take_message-clause-still g c =
-    subst (λ x. OnErr c.from_residual.result (StandsStill g.K.Keeper.works g.K.Keeper.keeps x (record { run = c.take_message.new.exchange.run; lines = c.take_message.new.exchange.lines; counts = c.take_message.new.tally; start = c.self.inside.start }))) c.self.view_is
-    (on_err c.from_residual.result (StandsStill g.K.Keeper.works g.K.Keeper.keeps (record { run = c.self.inside.exchange.run; lines = c.self.inside.exchange.lines; counts = c.self.inside.tally; start = c.self.inside.start }) (record { run = c.take_message.new.exchange.run; lines = c.take_message.new.exchange.lines; counts = c.take_message.new.tally; start = c.self.inside.start }))
-    (stands_still g.K.Keeper.works g.K.Keeper.keeps (record { run = c.self.inside.exchange.run; lines = c.self.inside.exchange.lines; counts = c.self.inside.tally; start = c.self.inside.start }) (record { run = c.take_message.new.exchange.run; lines = c.take_message.new.exchange.lines; counts = c.take_message.new.tally; start = c.self.inside.start })
-    c.in_err-take_message.ensures.stands (event_left (input.Up c.args.up) c.args.now c.self.inside.exchange.run.server c.take_message.new.exchange.run.server c.in_err-take_message.field-0.0 c.in_err-take_message.ensures.refused) refl
+    subst (λ x. OnErr c.from_residual.result (StandsStill g.K.Keeper.works g.K.Keeper.keeps x (record { run = c.take_message.new.dispatcher.run; lines = c.take_message.new.dispatcher.lines; counts = c.take_message.new.tally; start = c.self.inside.start }))) c.self.view_is
+    (on_err c.from_residual.result (StandsStill g.K.Keeper.works g.K.Keeper.keeps (record { run = c.self.inside.dispatcher.run; lines = c.self.inside.dispatcher.lines; counts = c.self.inside.tally; start = c.self.inside.start }) (record { run = c.take_message.new.dispatcher.run; lines = c.take_message.new.dispatcher.lines; counts = c.take_message.new.tally; start = c.self.inside.start }))
+    (stands_still g.K.Keeper.works g.K.Keeper.keeps (record { run = c.self.inside.dispatcher.run; lines = c.self.inside.dispatcher.lines; counts = c.self.inside.tally; start = c.self.inside.start }) (record { run = c.take_message.new.dispatcher.run; lines = c.take_message.new.dispatcher.lines; counts = c.take_message.new.tally; start = c.self.inside.start })
+    c.in_err-take_message.ensures.stands (event_left (input.Up c.args.up) c.args.now c.self.inside.dispatcher.run.server c.take_message.new.dispatcher.run.server c.in_err-take_message.field-0.0 c.in_err-take_message.ensures.refused) refl
     (ap (λ x. x.accepted) c.in_err-take_message.ensures.kept.0)))

@@ -22,7 +22,7 @@ returns-clause-closed g c = λ s marked.
     let gone : line_at s c.end_marked.new.self.lines ≡ None = c.in_ok-end_marked.ensures.left s marked in
     let none : line_at s c.end_late.new.self.lines ≡ None = subst (λ line. StaysMarked line (line_at s c.end_late.new.self.lines)) gone (c.in_ok-end_late.ensures.marks s) in
     subst (λ x. Runs (λ t. is_open_in s t.sum ≡ false) x.run.server) c.self-2.view_is
-    (closed_there g.K.Keeper.works g.K.Keeper.keeps c.self-2.inside.exchange c.number-after.ensures.stands s (ap (λ x. line_at s x.lines) c.self-2.view_is ∙ none))
+    (closed_there g.K.Keeper.works g.K.Keeper.keeps c.self-2.inside.dispatcher c.number-after.ensures.stands s (ap (λ x. line_at s x.lines) c.self-2.view_is ∙ none))
 
 pub returns-clause-carries : goal.returns-clause-carries
 returns-clause-carries g c = λ log stands.

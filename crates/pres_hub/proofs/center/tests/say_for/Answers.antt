@@ -19,7 +19,7 @@ take_message-requires-clause-abreast g c =
 
 pub take_message-requires-clause-few : goal.take_message-requires-clause-few
 take_message-requires-clause-few g c =
-    few_runs g.K.Keeper.works g.K.Keeper.keeps (record { run = c.core.inside.exchange.run; lines = c.core.inside.exchange.lines; counts = c.core.inside.tally; start = c.core.inside.start }) c.core.invariant.stands
+    few_runs g.K.Keeper.works g.K.Keeper.keeps (record { run = c.core.inside.dispatcher.run; lines = c.core.inside.dispatcher.lines; counts = c.core.inside.tally; start = c.core.inside.start }) c.core.invariant.stands
 
 pub invariant_of-core-2 : goal.invariant_of-core-2
 invariant_of-core-2 g c =
@@ -28,15 +28,15 @@ invariant_of-core-2 g c =
     record {
       stands =
           some_goes_on g.K.Keeper.works g.K.Keeper.keeps
-          (record { run = c.core.inside.exchange.run; lines = c.core.inside.exchange.lines; counts = c.core.inside.tally; start = c.core.inside.start })
+          (record { run = c.core.inside.dispatcher.run; lines = c.core.inside.dispatcher.lines; counts = c.core.inside.tally; start = c.core.inside.start })
           (record { run = c.end_slow.new.self.run; lines = c.end_slow.new.self.lines; counts = c.take_message.new.tally; start = c.core.inside.start })
           (goes_carried g.K.Keeper.works g.K.Keeper.keeps
-          (record { run = c.core.inside.exchange.run; lines = c.core.inside.exchange.lines; counts = c.core.inside.tally; start = c.core.inside.start })
+          (record { run = c.core.inside.dispatcher.run; lines = c.core.inside.dispatcher.lines; counts = c.core.inside.tally; start = c.core.inside.start })
           (record { run = c.end_slow.new.self.run; lines = c.end_slow.new.self.lines; counts = c.take_message.new.tally; start = c.core.inside.start })
-          c.take_message.new.exchange i c.args.now refl c.in_ok-take_message.ensures.stands
+          c.take_message.new.dispatcher i c.args.now refl c.in_ok-take_message.ensures.stands
           (λ log h.
-          subst (λ n. Runs (Accepted c.core.inside.start n (log_turned log c.core.inside.exchange.run.server i c.args.now)) c.take_message.new.exchange.run.server) (sym (ap (λ x. x.accepted) c.in_ok-take_message.ensures.tally))
-          (said_accepted c.core.inside.start c.core.inside.tally.accepted log c.core.inside.exchange.run.server c.take_message.new.exchange.run.server c.args.up c.args.now answered.0 answered.1 h))
+          subst (λ n. Runs (Accepted c.core.inside.start n (log_turned log c.core.inside.dispatcher.run.server i c.args.now)) c.take_message.new.dispatcher.run.server) (sym (ap (λ x. x.accepted) c.in_ok-take_message.ensures.tally))
+          (said_accepted c.core.inside.start c.core.inside.tally.accepted log c.core.inside.dispatcher.run.server c.take_message.new.dispatcher.run.server c.args.up c.args.now answered.0 answered.1 h))
           c.end_slow.ensures.stands)
           c.core.invariant.stands;
       none_slow = c.end_slow.ensures.none_slow;
@@ -46,12 +46,12 @@ pub invariant_of-core : goal.invariant_of-core
 invariant_of-core g c = record {
   stands =
       some_goes_on g.K.Keeper.works g.K.Keeper.keeps
-      (record { run = c.core.inside.exchange.run; lines = c.core.inside.exchange.lines; counts = c.core.inside.tally; start = c.core.inside.start })
-      (record { run = c.take_message.new.exchange.run; lines = c.take_message.new.exchange.lines; counts = c.take_message.new.tally; start = c.core.inside.start })
+      (record { run = c.core.inside.dispatcher.run; lines = c.core.inside.dispatcher.lines; counts = c.core.inside.tally; start = c.core.inside.start })
+      (record { run = c.take_message.new.dispatcher.run; lines = c.take_message.new.dispatcher.lines; counts = c.take_message.new.tally; start = c.core.inside.start })
       (goes_same g.K.Keeper.works g.K.Keeper.keeps
-      (record { run = c.core.inside.exchange.run; lines = c.core.inside.exchange.lines; counts = c.core.inside.tally; start = c.core.inside.start })
-      (record { run = c.take_message.new.exchange.run; lines = c.take_message.new.exchange.lines; counts = c.take_message.new.tally; start = c.core.inside.start })
-      c.in_err-take_message.ensures.stands (event_left (input.Up c.args.up) c.args.now c.core.inside.exchange.run.server c.take_message.new.exchange.run.server c.in_err-take_message.field-0.0 c.in_err-take_message.ensures.refused) refl
+      (record { run = c.core.inside.dispatcher.run; lines = c.core.inside.dispatcher.lines; counts = c.core.inside.tally; start = c.core.inside.start })
+      (record { run = c.take_message.new.dispatcher.run; lines = c.take_message.new.dispatcher.lines; counts = c.take_message.new.tally; start = c.core.inside.start })
+      c.in_err-take_message.ensures.stands (event_left (input.Up c.args.up) c.args.now c.core.inside.dispatcher.run.server c.take_message.new.dispatcher.run.server c.in_err-take_message.field-0.0 c.in_err-take_message.ensures.refused) refl
       (ap (λ x. x.accepted) c.in_err-take_message.ensures.kept.0))
       c.core.invariant.stands;
   none_slow = subst NoneSlow (sym c.in_err-take_message.ensures.lines) c.core.invariant.none_slow;

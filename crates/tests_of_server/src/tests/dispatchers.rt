@@ -24,12 +24,12 @@ fn now() -> Moment {
     Moment::at(1000)
 }
 
-// An exchange over what the keeper holds.
+// A dispatcher over what the keeper holds.
 fn started<K: Keeper + Drop>(rt: &impl Abort, alloc: Global, keeper: K) -> Dispatcher<K, Numbered>
     requires ready { K.ready keeper }
 {
     match Dispatcher::start(alloc, keeper, now()) {
-        Ok(exchange) => exchange,
+        Ok(dispatcher) => dispatcher,
         Err((fault, _)) => panic!(rt; "{fault}"),
     }
 }
@@ -37,11 +37,11 @@ fn started<K: Keeper + Drop>(rt: &impl Abort, alloc: Global, keeper: K) -> Dispa
 fn join<K: Keeper + Drop>(
     rt: &impl Abort,
     alloc: Global,
-    exchange: &mut Dispatcher<K, Numbered>,
+    dispatcher: &mut Dispatcher<K, Numbered>,
     text: &str,
 ) -> Outbox {
     let session = session(rt, alloc, text);
-    exchange
+    dispatcher
         .join(alloc, &session, now())
         .expect(rt, "an outbox")
 }
@@ -49,15 +49,15 @@ fn join<K: Keeper + Drop>(
 fn say<K: Keeper + Drop>(
     rt: &impl Abort,
     alloc: Global,
-    exchange: &mut Dispatcher<K, Numbered>,
+    dispatcher: &mut Dispatcher<K, Numbered>,
     text: &str,
 ) {
     let up = Up::decode(alloc, text).expect(rt, "a message");
     if matches!(up, Up::Hello { .. }) {
         panic!(rt; "a Hello");
     }
-    let turned = exchange.turn(Input::Up(up), now());
-    exchange.end_slow(alloc, now());
+    let turned = dispatcher.turn(Input::Up(up), now());
+    dispatcher.end_slow(alloc, now());
     turned.expect(rt, "a turn");
 }
 
@@ -73,27 +73,27 @@ fn set(rt: &impl Abort, alloc: Global, n: u32) -> String {
 fn listened<K: Keeper + Drop>(
     rt: &impl Abort,
     alloc: Global,
-    exchange: &mut Dispatcher<K, Numbered>,
+    dispatcher: &mut Dispatcher<K, Numbered>,
     writes: u32,
 ) -> u64 {
-    drop(join(rt, alloc, exchange, ALICE));
-    drop(join(rt, alloc, exchange, BOB));
+    drop(join(rt, alloc, dispatcher, ALICE));
+    drop(join(rt, alloc, dispatcher, BOB));
     let on = format!(in alloc; r#"{{"m":"on","path":"/a","q":1,"s":{ALICE}}}"#);
     let on = on.expect(rt, "memory");
-    say(rt, alloc, exchange, on.as_str());
+    say(rt, alloc, dispatcher, on.as_str());
     for write in 0..writes {
-        say(rt, alloc, exchange, set(rt, alloc, write + 1).as_str());
+        say(rt, alloc, dispatcher, set(rt, alloc, write + 1).as_str());
     }
-    exchange.number()
+    dispatcher.number()
 }
 
 // The number after this many writes.
 fn number_after<K: Keeper + Drop>(rt: &impl Abort, alloc: Global, keeper: K, writes: u32) -> u64
     requires ready { K.ready keeper }
 {
-    let mut exchange = started(rt, alloc, keeper);
-    let number = listened(rt, alloc, &mut exchange, writes);
-    drop(exchange.into_keeper());
+    let mut dispatcher = started(rt, alloc, keeper);
+    let number = listened(rt, alloc, &mut dispatcher, writes);
+    drop(dispatcher.into_keeper());
     number
 }
 
@@ -115,13 +115,13 @@ fn a_session_that_is_slow_is_ended(rt: HostRuntime) {
 fn taken<K: Keeper + Drop>(
     rt: &impl Abort,
     alloc: Global,
-    exchange: &mut Dispatcher<K, Numbered>,
+    dispatcher: &mut Dispatcher<K, Numbered>,
 ) -> Vec<String> {
-    let mut outbox = join(rt, alloc, exchange, ALICE);
+    let mut outbox = join(rt, alloc, dispatcher, ALICE);
     let op = format!(in alloc;
         r#"{{"m":"op","n":1,"op":{{"op":"set","path":"/a","value":1}},"q":1,"s":{ALICE}}}"#
     ).expect(rt, "memory");
-    say(rt, alloc, exchange, op.as_str());
+    say(rt, alloc, dispatcher, op.as_str());
     let mut texts = Vec::new(alloc);
     for _ in 0..300 {
         let Some(message) = outbox.take() else {
@@ -138,13 +138,13 @@ fn taken<K: Keeper + Drop>(
 fn lost<K: Keeper + Drop>(
     rt: &impl Abort,
     alloc: Global,
-    exchange: &mut Dispatcher<K, Numbered>,
+    dispatcher: &mut Dispatcher<K, Numbered>,
 ) -> (usize, bool) {
-    let count = taken(rt, alloc, exchange).len();
+    let count = taken(rt, alloc, dispatcher).len();
     let alice = session(rt, alloc, ALICE);
-    exchange.strike(&alice, Why::Lost);
+    dispatcher.strike(&alice, Why::Lost);
     let is_marked =
-        matches!(exchange.first_marked(alloc), Some(Ok((found, Why::Lost))) if found == alice);
+        matches!(dispatcher.first_marked(alloc), Some(Ok((found, Why::Lost))) if found == alice);
     (count, is_marked)
 }
 
@@ -152,10 +152,10 @@ fn lost<K: Keeper + Drop>(
 fn answered<K: Keeper + Drop>(rt: &impl Abort, alloc: Global, keeper: K) -> (bool, usize, bool)
     requires ready { K.ready keeper }
 {
-    let mut exchange = started(rt, alloc, keeper);
-    let runs = exchange.server().is_some();
-    let (count, is_marked) = lost(rt, alloc, &mut exchange);
-    drop(exchange.into_keeper());
+    let mut dispatcher = started(rt, alloc, keeper);
+    let runs = dispatcher.server().is_some();
+    let (count, is_marked) = lost(rt, alloc, &mut dispatcher);
+    drop(dispatcher.into_keeper());
     (runs, count, is_marked)
 }
 
@@ -169,11 +169,15 @@ fn answers_are_put_on_lines(rt: HostRuntime) {
 }
 
 // Alice's bell is 1, and Bob's is 2.
-fn hang<K: Keeper + Drop>(rt: &impl Abort, alloc: Global, exchange: &mut Dispatcher<K, Numbered>) {
-    exchange
+fn hang<K: Keeper + Drop>(
+    rt: &impl Abort,
+    alloc: Global,
+    dispatcher: &mut Dispatcher<K, Numbered>,
+) {
+    dispatcher
         .hang(alloc, &session(rt, alloc, ALICE), Numbered(1))
         .expect(rt, "a session");
-    exchange
+    dispatcher
         .hang(alloc, &session(rt, alloc, BOB), Numbered(2))
         .expect(rt, "a session");
 }
@@ -183,16 +187,16 @@ fn hang<K: Keeper + Drop>(rt: &impl Abort, alloc: Global, exchange: &mut Dispatc
 fn due<K: Keeper + Drop>(
     rt: &impl Abort,
     alloc: Global,
-    exchange: &mut Dispatcher<K, Numbered>,
+    dispatcher: &mut Dispatcher<K, Numbered>,
     writes: Range<u32>,
     own: &str,
 ) -> String {
     for write in writes {
-        say(rt, alloc, exchange, set(rt, alloc, write).as_str());
+        say(rt, alloc, dispatcher, set(rt, alloc, write).as_str());
     }
     let own = session(rt, alloc, own);
     let mut bells = Vec::new(alloc);
-    exchange.take_due(Some(&own), &mut bells);
+    dispatcher.take_due(Some(&own), &mut bells);
     let mut numbers = String::new(alloc);
     for bell in bells.iter() {
         numbers
@@ -209,12 +213,12 @@ fn due<K: Keeper + Drop>(
 fn add_due<K: Keeper + Drop>(
     rt: &impl Abort,
     alloc: Global,
-    exchange: &mut Dispatcher<K, Numbered>,
+    dispatcher: &mut Dispatcher<K, Numbered>,
     said: &mut String,
     writes: Range<u32>,
     own: &str,
 ) {
-    let due = due(rt, alloc, exchange, writes, own);
+    let due = due(rt, alloc, dispatcher, writes, own);
     said.push(' ').expect(rt, "memory");
     said.push_str(due.as_str()).expect(rt, "memory");
 }
@@ -224,22 +228,22 @@ fn add_due<K: Keeper + Drop>(
 fn rung<K: Keeper + Drop>(
     rt: &impl Abort,
     alloc: Global,
-    exchange: &mut Dispatcher<K, Numbered>,
+    dispatcher: &mut Dispatcher<K, Numbered>,
 ) -> String {
-    listened(rt, alloc, exchange, 0);
-    hang(rt, alloc, exchange);
+    listened(rt, alloc, dispatcher, 0);
+    hang(rt, alloc, dispatcher);
     let mut said = String::new(alloc);
-    add_due(rt, alloc, exchange, &mut said, 1..2, BOB);
-    add_due(rt, alloc, exchange, &mut said, 2..2, BOB);
-    add_due(rt, alloc, exchange, &mut said, 2..4, BOB);
-    add_due(rt, alloc, exchange, &mut said, 4..5, ALICE);
-    add_due(rt, alloc, exchange, &mut said, 5..6, BOB);
-    exchange.take_down(&session(rt, alloc, ALICE));
-    add_due(rt, alloc, exchange, &mut said, 6..7, BOB);
-    hang(rt, alloc, exchange);
-    add_due(rt, alloc, exchange, &mut said, 7..255, BOB);
-    add_due(rt, alloc, exchange, &mut said, 255..256, BOB);
-    add_due(rt, alloc, exchange, &mut said, 256..257, BOB);
+    add_due(rt, alloc, dispatcher, &mut said, 1..2, BOB);
+    add_due(rt, alloc, dispatcher, &mut said, 2..2, BOB);
+    add_due(rt, alloc, dispatcher, &mut said, 2..4, BOB);
+    add_due(rt, alloc, dispatcher, &mut said, 4..5, ALICE);
+    add_due(rt, alloc, dispatcher, &mut said, 5..6, BOB);
+    dispatcher.take_down(&session(rt, alloc, ALICE));
+    add_due(rt, alloc, dispatcher, &mut said, 6..7, BOB);
+    hang(rt, alloc, dispatcher);
+    add_due(rt, alloc, dispatcher, &mut said, 7..255, BOB);
+    add_due(rt, alloc, dispatcher, &mut said, 255..256, BOB);
+    add_due(rt, alloc, dispatcher, &mut said, 256..257, BOB);
     said
 }
 
@@ -247,9 +251,9 @@ fn rung<K: Keeper + Drop>(
 fn rung_over<K: Keeper + Drop>(rt: &impl Abort, alloc: Global, keeper: K) -> String
     requires ready { K.ready keeper }
 {
-    let mut exchange = started(rt, alloc, keeper);
-    let said = rung(rt, alloc, &mut exchange);
-    drop(exchange.into_keeper());
+    let mut dispatcher = started(rt, alloc, keeper);
+    let said = rung(rt, alloc, &mut dispatcher);
+    drop(dispatcher.into_keeper());
     said
 }
 
