@@ -1,0 +1,6 @@
+use Rattle.std.proofs.Common.{ap₂, ◌∙◌, ◌++◌}
+use Rattle.std.proofs.lemmas.Result.{IfOk-weaker}
+use Rattle.pres_pages.proofs.traffic.sent_text.Goals as goal
+
+pub returns : goal.returns
+returns c = IfOk-weaker c.format.result _ _ (λ text is. is ∙ ap₂ ◌++◌ c.in_ok-head.ensures (ap₂ ◌++◌ c.in_ok-answers.ensures c.in_ok-told.ensures)) c.format.ensures.ok
