@@ -1,0 +1,91 @@
+-- What the files of a copy hold, by what a connection to them shows and a keeper over it reads.
+use Rattle.std.proofs.Common.{◌≡◌, ◌<◌, ℕ, Bool, true, false, IsTrue, List, [], ◌∷◌, length, Result, Ok, Err, IfOk, IfErr, inl, inr, refl, sym, ap, ap₂, subst, ◌∙◌, arith}
+use Rattle.std.specs.Prelude.{◌&&◌, ⊤}
+use Rattle.sqlite_disk.specs.declared.Disk as disk
+use Rattle.sqlite_disk.specs.Disk.{Holds as HoldsBytes, Torn}
+use Rattle.sqlite_wal.specs.Recovery.{Image}
+use Rattle.sqlite_wal.proofs.CreateLemmas.{page_if_held}
+use Rattle.sqlite_pool.specs.Pool.{files}
+use Rattle.sqlite_trees.proofs.Doubt.{no_doubt}
+use Rattle.sqlite_store.specs.declared.store.FileStore.{FileStore}
+use Rattle.sqlite.specs.Effect.{Database}
+use Rattle.sqlite.specs.Files.{file_state}
+use Rattle.sqlite.specs.Held.{Held, state}
+use Rattle.sqlite.specs.State.{HasCleanDisk}
+use Rattle.sqlite.proofs.OpenLemmas.{pool_files}
+use Rattle.sqlite.specs.Store.{Ghosts}
+use Rattle.pres_file.specs.FileOpening.{KeepsWhatIsThere}
+use Rattle.pres_keeper.specs.Keepers.{MakesSum, Readable, SomeLog, whole}
+use Rattle.pres_keeper.proofs.Behind.{makes_all}
+use Rattle.pres_log.specs.Logs.{Log}
+use Rattle.pres_server.specs.Sums.{Sum}
+use Rattle.pres_server.specs.SumStates.{SumState, blank}
+use Rattle.pres_saved.specs.SqlKeepers.{readable_in}
+use Rattle.pres_saved.specs.SavedLogs.{readable_by, readable_rows}
+use Rattle.pres_batch_rows.specs.TableStates.{HasOurTables, IsOurs, TableState, Serves}
+use Rattle.pres_batch_rows.specs.RowContents.{shown_rows}
+use Rattle.pres_batch_rows.specs.Schemas.{no_schema}
+use Rattle.pres_inspect.specs.Copies.{Holds, HoldsRows, IsFoundIn, IsFoundKeeper}
+
+-- what was written to an empty file is all that it holds
+pub written : (bytes new : List ℕ) → (0 < length bytes → HoldsBytes new 0 bytes) → Torn 0 (length bytes) [] new → new ≡ bytes
+written [] new holds torn = page_if_held [] [] new (omega arith) torn (record { within = omega arith; each = λ i low. absurd (omega (arith, low)) })
+written (b ∷ bytes) new holds torn = page_if_held (b ∷ bytes) [] new (omega arith) torn (holds (omega arith))
+
+-- a disk without wrong answers is clean
+pub is_clean : {D : Type 0} (g : disk.Ghosts D) → ((file : D) → IsTrue (g.is_clean file)) → (c : Held (FileStore D g)) → HasCleanDisk (file_state c)
+is_clean g honest c =
+    let pool = c.store.pool in
+    no_doubt _ ((pool_files pool).1 ∙ ap₂ ◌&&◌ (honest (files pool).0) (honest (files pool).1))
+
+-- what follows from a fact of a success, or of a refusal, that rests on a premise
+pub inside : {T E A : Type 0} {Q R : T → Type 0} (r : Result T E) → (A → IfOk r Q) → ((t : T) → (A → Q t) → R t) → IfOk r R
+inside (Ok t) h f = f t h
+inside (Err e) h f = tt
+
+pub inside_refusal : {T E A : Type 0} {Q R : E → Type 0} (r : Result T E) → (A → IfErr r Q) → ((e : E) → (A → Q e) → R e) → IfErr r R
+inside_refusal (Ok t) h f = tt
+inside_refusal (Err e) h f = f e h
+
+-- a server without a history has a log without batches
+pub no_log : (s : SumState) → s ≡ blank → SomeLog (λ log. whole [] ≡ whole log) s.sum
+no_log s is = record { log = []; makes = subst (λ (t : SumState). MakesSum [] t.sum) (sym is) (makes_all [] tt); held = refl }
+
+-- some log leads to the sum to which a log with a property leads
+pub some_sum : {P : Log → Type 0} (sum : Sum) → SomeLog P sum → SomeLog (λ log. ⊤) sum
+some_sum sum it = record { log = it.log; makes = it.makes; held = tt }
+
+no_table : HasOurTables no_schema → ⊥
+no_table ours = let e = ours.tables in cc
+
+module _ {S : Type 0} (g : Ghosts S) where
+  -- what is so of the rows that a connection shows
+  held : (image : Image) (c : Held S) → IsFoundIn image (state g c) → (P : Readable → Type 0)
+      → (c.schema ≡ no_schema → P (whole [])) → (IsOurs (state g c) → P (readable_rows (shown_rows (state g c)))) → Holds image P
+  held image c found P blank ours =
+      let rows : HoldsRows image P = record {
+        db = (state g c).now;
+        sound = (found.sound found.opens.is_open).0;
+        holds = λ trees holds. ap (λ (d : Database). d.trees) found.opens.clean ∙ found.holds trees holds;
+        blank = blank;
+        ours = λ tables rising. ours (record { schema = tables; rising = rising });
+      } in inr rows
+
+  old_rows : (c : Held S) (is_new : Bool) (keeper : TableState S) → KeepsWhatIsThere g c is_new keeper
+      → HasCleanDisk (state g keeper.connection) → IsOurs (state g c) → readable_in g keeper ≡ readable_rows (shown_rows (state g c))
+  old_rows c true keeper keeps clean ours = absurd (no_table (subst HasOurTables (keeps.new.0 refl) ours.schema))
+  old_rows c false keeper keeps clean ours = keeps.read refl clean
+
+  -- what is so of what a keeper over it reads
+  pub found : (image : Image) (c : Held S) (is_new : Bool) (keeper : TableState S) → IsFoundIn image (state g c)
+      → KeepsWhatIsThere g c is_new keeper → HasCleanDisk (state g keeper.connection)
+      → (P : Readable → Type 0) → (Serves g keeper → P (readable_in g keeper)) → Holds image P
+  found image c is_new keeper finds keeps clean P so =
+      held image c finds P
+      (λ none. let new = keeps.new.1 none in subst P (ap (readable_by _) (keeps.empty new clean)) (so (keeps.ready (inl new)).serves))
+      (λ ours. subst P (old_rows c is_new keeper keeps clean ours) (so (keeps.ready (inr ours)).serves))
+
+  -- the same of a keeper that was found
+  pub found_by : (image : Image) (keeper : TableState S) → IsFoundKeeper g image keeper
+      → (P : Readable → Type 0) → (Serves g keeper → P (readable_in g keeper)) → Holds image P
+  found_by image keeper it P so = found image it.connection it.is_new keeper it.finds it.keeps it.clean P so

@@ -1,0 +1,100 @@
+-- What is wrong with the first bad row.
+use Rattle.std.proofs.Common.{◌≡◌, ◌≢◌, ◌≤◌, ℕ, List, ◌∷◌, length, length-append, inl, inr, ◌⊎◌, map, IsTrue, refl, sym, ap, subst, ◌∙◌, arith, true≢false}
+use Rattle.pres_keeper.specs.Keepers.{Readable, IsFirstBad, IsFirstUnread, whole}
+use Rattle.pres_log.specs.Logs.{Log}
+use Rattle.pres_log.specs.declared.entry.Batch.{Batch}
+use Rattle.pres_server.specs.Replays.{IsFirstIllegal}
+use Rattle.pres_faults.specs.declared.saved_fault.SavedFault.{SavedFault}
+use Rattle.pres_faults.specs.declared.saved_fault.SavedFault.TheVariants as saved
+use Rattle.pres_inspect.specs.declared.fault.InspectFault.{InspectFault}
+use Rattle.pres_inspect.specs.declared.fault.InspectFault.TheVariants as fault
+use Rattle.pres_inspect.specs.Copies.{Holds, IsFlaw, IsRefusal, IsUnreadableAt, ShowsWhileOpen}
+use Rattle.pres_inspect.specs.Faults.{of_saved}
+use Rattle.sqlite.specs.Effect.{Database}
+use Rattle.sqlite.specs.Held.{Held, state}
+use Rattle.sqlite.specs.State.{State, HasCleanDisk}
+use Rattle.sqlite.specs.Store.{Ghosts}
+use Rattle.sqlite_trees.specs.Tree.{IsTable}
+use Rattle.sqlite_wal.specs.Recovery.{Image}
+use Rattle.pres_saved.specs.SavedLogs.{readable_rows}
+use Rattle.pres_saved.specs.SqlKeepers.{readable_in}
+use Rattle.pres_batch_rows.specs.TableStates.{HasOurTables, IsOurs, IsLeft, IsSame, TableState, Serves}
+use Rattle.pres_batch_rows.specs.RowContents.{shown_row, shown_rows}
+
+-- a batch that may not follow is one of those that are read
+is_read : (log : List Batch) (k : ℕ) → IsFirstIllegal log k → k ≤ length log
+is_read log k it =
+    let all = ap length it.parts ∙ length-append it.before (it.batch ∷ it.later) in
+    omega (arith, all, it.number)
+
+-- where another row is the first that isn't read, the first bad one may not follow
+pub not_legal_before : (held : Readable) (k unread : ℕ) → IsFirstUnread held unread → k ≢ unread → IsFirstBad held k → IsFirstIllegal held.batches k
+not_legal_before held k unread is other (inl illegal) = illegal
+not_legal_before held k unread is other (inr (legal, it)) = absurd (other (it.1 ∙ sym is.1))
+
+-- where it is that row, it isn't read
+pub unreadable : (held : Readable) (k : ℕ) → IsFirstUnread held k → IsFirstBad held k → IsUnreadableAt k held
+unreadable held k is (inl illegal) = let low = is_read held.batches k illegal in absurd (omega (arith, low, is.1))
+unreadable held k is (inr (legal, it)) = record { legal = legal; unread = it }
+
+-- where all rows are read, the first bad one may not follow
+pub read_bad : (held : Readable) (log : Log) (k : ℕ) → held ≡ whole log → IsFirstBad held k → IsFirstIllegal held.batches k
+read_bad held log k is (inl illegal) = illegal
+read_bad held log k is (inr (legal, it)) = absurd (true≢false (sym (ap (λ (h : Readable). h.is_all) is) ∙ it.0))
+
+-- a fault of the keeper says nothing of a row
+pub no_flaw : (held : Readable) (e : SavedFault) → IsFlaw held (of_saved e)
+no_flaw held saved.Memory = tt
+no_flaw held saved.Database = tt
+no_flaw held saved.NotOurs = tt
+no_flaw held (saved.BadRow k) = tt
+no_flaw held saved.Version = tt
+
+pub no_refusal : (image : Image) (e : SavedFault) → IsRefusal image (of_saved e)
+no_refusal image saved.Memory = tt
+no_refusal image saved.Database = tt
+no_refusal image saved.NotOurs = tt
+no_refusal image (saved.BadRow k) = tt
+no_refusal image saved.Version = tt
+
+-- what is wrong with the rows that files hold is why they are refused
+pub refusal : (image : Image) (e : InspectFault) → Holds image (λ held. IsFlaw held e) → IsRefusal image e
+refusal image fault.Memory h = tt
+refusal image fault.Output h = tt
+refusal image fault.Missing h = tt
+refusal image fault.InUse h = tt
+refusal image (fault.Store e) h = tt
+refusal image (fault.Unreadable k) h = h
+refusal image (fault.NotLegal k) h = h
+
+-- what one state shows another shows, where it has the same database
+pub shows : (s now : State) (held : Readable) → (IsTrue now.is_open → now.now ≡ s.now) → (IsTrue now.is_open → IsOurs s × (readable_rows (shown_rows s) ≡ held)) → ShowsWhileOpen now held
+shows s now held same shown is_open =
+    let e = same is_open in
+    let it = shown is_open in
+    let ours : IsOurs now = record {
+      schema = subst (λ (d : Database). HasOurTables d.schema) (sym e) it.0.schema;
+      rising = subst (λ (d : Database). IsTable (d.trees 2)) (sym e) it.0.rising;
+    } in
+    (ours, ap (λ (d : Database). readable_rows (map shown_row (d.trees 2))) e ∙ it.1)
+
+-- what a keeper shows after a call that leaves the database as it was
+pub shows_left : {S : Type 0} (g : Ghosts S) (old new : TableState S) → HasCleanDisk (state g old.connection) → Serves g old → IsLeft (state g old.connection) (state g new.connection)
+    → ShowsWhileOpen (state g new.connection) (readable_in g old)
+shows_left g old new clean serves left =
+    shows (state g old.connection) (state g new.connection) (readable_in g old) (λ is_open. (left.same is_open).now)
+    (λ is_open. (((serves clean).ready (left.same is_open).was_open).ours, refl))
+
+-- what a keeper reads is what the connection showed that it was opened over
+pub read_same : {S : Type 0} (g : Ghosts S) (c : Held S) (keeper : TableState S) (held : Readable) → IsSame (state g c) (state g keeper.connection) → ShowsWhileOpen (state g c) held → readable_in g keeper ≡ held
+read_same g c keeper held same shown = ap (λ (d : Database). readable_rows (map shown_row (d.trees 2))) same.now ∙ (shown same.was_open).1
+
+-- no row is said to be bad where memory or the output is refused
+pub no_row : (image : Image) (e : InspectFault) → (e ≡ fault.Memory) ⊎ (e ≡ fault.Output) → IsRefusal image e
+no_row image e (inl is) = subst (IsRefusal image) (sym is) tt
+no_row image e (inr is) = subst (IsRefusal image) (sym is) tt
+
+-- the fault that is told, or why it isn't
+pub told_refusal : (image : Image) (e told : InspectFault) → (told ≡ e) ⊎ ((told ≡ fault.Memory) ⊎ (told ≡ fault.Output)) → IsRefusal image e → IsRefusal image told
+told_refusal image e told (inl is) refusal = subst (IsRefusal image) (sym is) refusal
+told_refusal image e told (inr is) refusal = no_row image told is

@@ -1,0 +1,3 @@
+mod Finding
+mod Flaws
+mod Printing

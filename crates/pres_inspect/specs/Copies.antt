@@ -1,0 +1,74 @@
+-- The history that a copied file holds, and what is wrong with one that holds none.
+use Rattle.std.specs.Prelude.{◌≡◌, ◌⊎◌, ℕ, ⊤, Bool, [], map, IsTrue}
+use Rattle.sqlite.specs.Effect.{Database, IsDatabase}
+use Rattle.sqlite.specs.Files.{HoldsDatabase}
+use Rattle.sqlite.specs.Held.{Held, state}
+use Rattle.sqlite.specs.State.{State, HasCleanDisk, IsLive, Opens}
+use Rattle.sqlite.specs.Store.{Ghosts}
+use Rattle.sqlite_pool.specs.Opening.{IsBlankFile}
+use Rattle.sqlite_trees.specs.Tree.{Trees, IsTable}
+use Rattle.sqlite_wal.specs.Recovery.{Image}
+use Rattle.pres_file.specs.FileOpening.{KeepsWhatIsThere, new_page_size}
+use Rattle.pres_keeper.specs.Keepers.{Readable, IsFirstUnread, whole}
+use Rattle.pres_saved.specs.SavedLogs.{readable_rows}
+use Rattle.pres_server.specs.Replays.{IsFirstIllegal}
+use Rattle.pres_server.specs.Sums.{nothing}
+use Rattle.pres_server.specs.SumTurns.{FollowAll}
+use Rattle.pres_batch_rows.specs.TableStates.{HasOurTables, IsOurs, TableState}
+use Rattle.pres_batch_rows.specs.RowContents.{shown_row, shown_rows}
+use Rattle.pres_batch_rows.specs.Schemas.{no_schema}
+use Rattle.pres_inspect.specs.declared.copied.Copied.{Copied}
+use Rattle.pres_inspect.specs.declared.fault.InspectFault.{InspectFault}
+use Rattle.pres_inspect.specs.declared.fault.InspectFault.TheVariants as fault
+
+-- the bytes of the write-ahead log, and those of the database file
+abbrev pub image_of : Copied → Image
+image_of copied = record { log = copied.log.items; db = copied.database.items }
+
+-- The files hold a database that obeys its own schema. What can be read of its rows has this property, where its tables are
+-- those of a server; where it has no table at all, it has the property of no rows.
+pub record HoldsRows (image : Image) (P : Readable → Type 0) : Type 0 where
+  pub db : Database
+  pub sound : IsDatabase db
+  pub holds : (trees : Trees) → HoldsDatabase image trees → db.trees ≡ trees
+  pub blank : db.schema ≡ no_schema → P (whole [])
+  pub ours : HasOurTables db.schema → IsTable (db.trees 2) → P (readable_rows (map shown_row (db.trees 2)))
+
+-- so it is, or the files hold no database: they have no byte, or a first page that was left half made
+abbrev pub Holds : Image → (Readable → Type 0) → Type 0
+Holds image P = (IsBlankFile new_page_size image × P (whole [])) ⊎ HoldsRows image P
+
+-- the database of a connection that was just opened is the one that the files hold
+pub record IsFoundIn (image : Image) (s : State) : Type 0 where
+  pub opens : Opens s
+  pub sound : IsLive s
+  pub holds : (trees : Trees) → HoldsDatabase image trees → s.committed.trees ≡ trees
+
+-- row k is no batch, and each of those before it may follow the ones before it
+pub record IsUnreadableAt (k : ℕ) (held : Readable) : Type 0 where
+  pub legal : FollowAll nothing held.batches
+  pub unread : IsFirstUnread held k
+
+-- while the store is open, the tables are those of a server, and this can be read of them
+abbrev pub ShowsWhileOpen : State → Readable → Type 0
+ShowsWhileOpen s held = IsTrue s.is_open → IsOurs s × (readable_rows (shown_rows s) ≡ held)
+
+-- what is wrong with rows of which no server is made: the number of the first bad one, and why
+abbrev pub IsFlaw : Readable → InspectFault → Type 0
+IsFlaw held (fault.Unreadable k) = IsUnreadableAt k held
+IsFlaw held (fault.NotLegal k) = IsFirstIllegal held.batches k
+IsFlaw held e = ⊤
+
+-- the same of what the files hold
+abbrev pub IsRefusal : Image → InspectFault → Type 0
+IsRefusal image (fault.Unreadable k) = Holds image (IsUnreadableAt k)
+IsRefusal image (fault.NotLegal k) = Holds image (λ held. IsFirstIllegal held.batches k)
+IsRefusal image e = ⊤
+
+-- a keeper over the database that the files hold, whose disk gives no wrong answer
+pub record IsFoundKeeper {S : Type 0} (g : Ghosts S) (image : Image) (keeper : TableState S) : Type 0 where
+  pub connection : Held S
+  pub is_new : Bool
+  pub finds : IsFoundIn image (state g connection)
+  pub keeps : KeepsWhatIsThere g connection is_new keeper
+  pub clean : HasCleanDisk (state g keeper.connection)
