@@ -66,6 +66,12 @@ asked_is_apply app words m name same has named asks =
     ∙ ap (option_map (λ p. p.0)) (found ∙ ap (λ a. subcommand_of a words) same) ∙ asked_name words asks in
     ap (λ o. unwrap_or o name) e
 
+-- what a parse of the words found is what they ask for
+pub parsed_asks : (app : App) (words : List Text) (m : ArgMatches) (name : Text) (rows : List Row) → app ≡ program → HasMatchesOf app words m
+    → Some name ≡ subcommand_name_of m → Some rows ≡ option_map (λ p. p.1) (subcommand_rows (out-ArgMatches m).subcommand) → Some (name, rows) ≡ subcommand_of program words
+parsed_asks app words m name rows same has is_name are_rows =
+    sym (parsed_subcommand m name rows is_name are_rows) ∙ (has (ap is_simple same ∙ simple)).1 ∙ ap (λ a. subcommand_of a words) same
+
 -- ---- words that are taken
 
 free : is_simple_and_free program ≡ true

@@ -1,3 +1,4 @@
+pub mod Advice
 pub mod Runs
 pub mod Statuses
 pub mod Words

@@ -1,27 +1,33 @@
 //! The program: its words and its streams.
 
-ghost use Rattle.std.specs.Prelude.{◌≡◌, ◌⊎◌, ◌≢◌, ◌++◌, ℕ, IfSome, List, codes, map};
+ghost use Rattle.std.specs.Prelude.{◌≡◌, ◌⊎◌, ◌≢◌, ◌++◌, ℕ, IfSome, IsOk, List, OnOk, codes, map};
 ghost use Rattle.std.specs.Io.KnownBytes.{Appends};
 ghost use Rattle.clap.specs.Words.{Row, kind_of};
 ghost use Rattle.pres_apply.specs.Lines.{Finished, Stopped};
 ghost use Rattle.pres_service.specs.Outputs.{listening_line, number_line};
 ghost use Rattle.pres_sim.specs.Scripts.{IsScript};
 ghost use Rattle.pres_service.specs.ClientRuns.{HasRunClient};
-ghost use Rattle.pres_command.specs.Runs.{Asks, HasCalled, HasServed};
+ghost use Rattle.pres_inspect.specs.Reports.{PrintsSomeState, check_text, tree_text};
+ghost use Rattle.pres_command.specs.Runs.{Asks, HasCalled, HasListed, HasServed, HasViewed, path_given};
 ghost use Rattle.pres_command.specs.Statuses.{IsStatus};
 ghost use Rattle.pres_command.specs.Words.{AreTaken, AsksApply, AsksAnother, IsMistake};
 
-use crate::words::{ClientWords, Request, read_words};
+use crate::advice::{client_advice, server_advice};
+use crate::words::{ClientWords, Request, ServerWords, Viewing, read_words};
 use clap::Error;
 use clap::error::ErrorKind;
 use pres_apply::{RunFault, apply_run};
+use pres_faults::SavedFault;
 use pres_ids::{ClientId, IdFault};
-use pres_service::{ClientOptions, ServeOptions, ServiceFault, client_run, serve_run};
+use pres_inspect::{InspectFault, check_run, history_run, is_in_use, tree_run};
+use pres_service::{ClientOptions, InputEnd, NoRequest, ServiceFault, client_run, serve_run};
 use pres_sim::sim_run;
+use pres_tree::{Path, TreeFault};
 use std::alloc::Global;
 use std::io;
 use std::io::{Read, Write};
 use std::net::{Net, TcpListener, TcpStream};
+use std::os::fd::RawFd;
 use std::random::RandomSource;
 use std::sync::Wait;
 use std::thread::Threads;
@@ -38,7 +44,8 @@ const NO_MEMORY: u8 = 5;
 
 /// Runs the program with the words of its command line, its own name first, and returns the exit
 /// status: 0 done, 1 input refused, 2 bad words, 3 file refused, 4 socket refused, 5 out of memory.
-/// A server without a count of connections runs on.
+/// A server without a count of connections runs on, unless it ends with the input. The descriptor is
+/// the input's, none if a read of it doesn't wait.
 pub fn presence_run<
     H: Net<Listener = TcpListener, Stream = TcpStream>
         + Threads
@@ -50,7 +57,15 @@ pub fn presence_run<
     R: Read,
     W: Write,
     F: Write,
->(host: &HostRuntime, rt: &H, words: &[&str], input: &mut R, output: &mut W, faults: &mut F) -> u8
+>(
+    host: &HostRuntime,
+    rt: &H,
+    words: &[&str],
+    input: &mut R,
+    descriptor: Option<RawFd>,
+    output: &mut W,
+    faults: &mut F,
+) -> u8
     ensures status { IsStatus result }
     ensures asked { AsksApply (map (λ word. word.now) words.now) → result ≢ 2 }
     ensures applied { AsksApply (map (λ word. word.now) words.now) → result ≡ 0
@@ -64,6 +79,15 @@ pub fn presence_run<
     ensures played { (rows : List Row)
         → Asks (codes "sim") rows (map (λ word. word.now) words.now) → result ≡ 0
         → IfSome (R.remaining input.old) IsScript }
+    ensures checked { (rows : List Row)
+        → Asks (codes "check") rows (map (λ word. word.now) words.now) → result ≡ 0
+        → PrintsSomeState check_text (W.contents output.old) (W.contents output.new) }
+    ensures viewed { (rows : List Row)
+        → Asks (codes "tree") rows (map (λ word. word.now) words.now) → result ≡ 0
+        → HasViewed rows (W.contents output.old) (W.contents output.new) }
+    ensures listed { (rows : List Row)
+        → Asks (codes "history") rows (map (λ word. word.now) words.now) → result ≡ 0
+        → HasListed rows (W.contents output.old) (W.contents output.new) }
     ensures untaken { ¬ AreTaken (map (λ word. word.now) words.now) → input.new ≡ input.old }
     ensures done { ¬ AsksAnother (map (λ word. word.now) words.now) → result ≡ 0
         → Finished (R.remaining input.old) (W.contents output.old) (W.contents output.new)
@@ -81,8 +105,16 @@ pub fn presence_run<
             status
         }
         Ok(Request::Sim) => sim_status(alloc, input, output, faults),
-        Ok(Request::Serve(serving)) => serve_status(host, rt, alloc, serving, output, faults),
+        Ok(Request::Serve(words)) => {
+            serve_status(host, rt, alloc, words, input, descriptor, output, faults)
+        }
         Ok(Request::Client(calling)) => client_status(rt, alloc, calling, input, output, faults),
+        Ok(Request::Check(file)) => status_of(check_run(host, file, output), faults),
+        Ok(Request::Tree(viewing)) => tree_status(host, viewing, output, faults),
+        Ok(Request::History(listing)) => {
+            let from = listing.from.unwrap_or(1);
+            status_of(history_run(host, listing.file, from, output), faults)
+        }
         Err(error) => explain(&error, output, faults),
     }
 }
@@ -130,13 +162,16 @@ fn serve_status<
         + RandomSource
         + Copy
         + Sync,
+    R: Read,
     W: Write,
     F: Write,
 >(
     host: &HostRuntime,
     rt: &H,
     alloc: Global,
-    serving: ServeOptions<'_>,
+    words: ServerWords<'_>,
+    input: &mut R,
+    descriptor: Option<RawFd>,
     output: &mut W,
     faults: &mut F,
 ) -> u8
@@ -144,12 +179,52 @@ fn serve_status<
     ensures words { result ≢ 2 }
     ensures done { result ≡ 0 → (number : ℕ) × Appends
         (W.contents output.old) (W.contents output.new)
-        (listening_line serving.entry.address.now ++ number_line number) }
+        (listening_line words.entry.serving.address.now ++ number_line number) }
 {
-    match serve_run(host, rt, alloc, serving, output, faults) {
+    match serve(host, rt, alloc, words, input, descriptor, output, faults) {
         Ok(()) => DONE,
-        Err(fault) => tell_fault(&fault, faults),
+        Err(fault) => {
+            let status = tell_fault(&fault, faults);
+            let is_in_use = matches!(fault, ServiceFault::Store(SavedFault::Database))
+                && is_in_use(host, words.serving.file);
+            tell_advice(server_advice(is_in_use, &fault), faults);
+            status
+        }
     }
+}
+
+// Runs a server, until the input ends if the words say so.
+fn serve<
+    H: Net<Listener = TcpListener, Stream = TcpStream>
+        + Threads
+        + Wait
+        + Clock
+        + RandomSource
+        + Copy
+        + Sync,
+    R: Read,
+    W: Write,
+    F: Write,
+>(
+    host: &HostRuntime,
+    rt: &H,
+    alloc: Global,
+    words: ServerWords<'_>,
+    input: &mut R,
+    descriptor: Option<RawFd>,
+    output: &mut W,
+    faults: &mut F,
+) -> Result<(), ServiceFault>
+    ensures said { OnOk result ((number : ℕ) × Appends
+        (W.contents output.old) (W.contents output.new)
+        (listening_line words.entry.serving.address.now ++ number_line number)) }
+{
+    let serving = words.serving;
+    if words.until_stdin_ends {
+        let mut end = InputEnd::of(rt, alloc, input, descriptor);
+        return serve_run(host, rt, alloc, serving, &mut end, output, faults);
+    }
+    serve_run(host, rt, alloc, serving, &mut NoRequest, output, faults)
 }
 
 // Runs `presence client`, and returns the exit status: that of bad words if the client's id is
@@ -196,7 +271,56 @@ fn client_status<
     };
     match client_run(rt, alloc, visit, input, output) {
         Ok(()) => DONE,
-        Err(fault) => tell_fault(&fault, faults),
+        Err(fault) => {
+            let status = tell_fault(&fault, faults);
+            tell_advice(client_advice(&fault), faults);
+            status
+        }
+    }
+}
+
+// Runs `presence tree`, and returns the exit status: that of bad words if the path is invalid.
+fn tree_status<W: Write, F: Write>(
+    host: &HostRuntime,
+    viewing: Viewing<'_>,
+    output: &mut W,
+    faults: &mut F,
+) -> u8
+    ensures status { IsStatus result }
+    ensures words { result ≡ 2 → output.new ≡ output.old }
+    ensures done { result ≡ 0 → PrintsSomeState (tree_text (path_given viewing.entry))
+        (W.contents output.old) (W.contents output.new) }
+{
+    let path = match Path::parse(host.alloc(), viewing.path.unwrap_or("")) {
+        Ok(path) => path,
+        Err(TreeFault::Memory) => {
+            tell(NO_MEMORY, faults);
+            return NO_MEMORY;
+        }
+        Err(_) => {
+            let _ = faults.write_all(b"presence: bad path\n");
+            return BAD_WORDS;
+        }
+    };
+    let status = status_of(tree_run(host, viewing.file, &path, output), faults);
+    drop(path);
+    status
+}
+
+// The exit status of a look at a file. If it ended early, prints on the error stream why, and what to
+// do.
+fn status_of<F: Write>(looked: Result<(), InspectFault>, faults: &mut F) -> u8
+    ensures status { IsStatus result }
+    ensures words { result ≢ 2 }
+    ensures done { result ≡ 0 → IsOk looked }
+{
+    match looked {
+        Ok(()) => DONE,
+        Err(fault) => {
+            let status = fault.status();
+            let _ = write!(faults, "presence: {fault}\npresence: {}\n", fault.advice());
+            status
+        }
     }
 }
 
@@ -209,6 +333,11 @@ fn tell_fault<F: Write>(fault: &ServiceFault, faults: &mut F) -> u8
 {
     let _ = write!(faults, "presence: {fault}\n");
     fault.status()
+}
+
+// Prints on the error stream what to do about it, in a line.
+fn tell_advice<F: Write>(advice: &str, faults: &mut F) {
+    let _ = write!(faults, "presence: {advice}\n");
 }
 
 // Prints on the error stream why the status is not 0. If that stream fails there is nothing left to

@@ -3,12 +3,12 @@
 ghost use Rattle.std.specs.Prelude.{◌≡◌, Some, IfErr, IfOk, IfSome, MatchResult, codes, false, map};
 ghost use Rattle.clap.specs.Words.{App, app_of, found_of, kind_of, new_rule, rows_of, rule_of, subcommand_of, with_subcommand};
 ghost use Rattle.clap.specs.declared.error.kind.ErrorKind.TheVariants.{OutOfMemory};
-ghost use Rattle.pres_command.specs.Words.{AreTaken, AsksApply, HasNoGlobals, IsAskedBy, IsCalled, IsMistake, IsServed};
-ghost use Rattle.pres_command.specs.Words.{apply_shape, client_shape, needed, program, serve_shape, sim_shape, up_to};
+ghost use Rattle.pres_command.specs.Words.{AreTaken, AsksApply, HasNoGlobals, IsAskedBy, IsCalled, IsInspected, IsListed, IsMistake, IsServed, IsViewed};
+ghost use Rattle.pres_command.specs.Words.{apply_shape, check_shape, client_shape, connections_rule, ending_rule, history_shape, needed, program, serve_shape, sim_shape, tree_shape, up_to, with_inspection};
 
 use clap::builder::ValueParser;
 use clap::error::ErrorKind;
-use clap::{Arg, ArgMatches, Command, Error};
+use clap::{Arg, ArgAction, ArgMatches, Command, Error};
 use pres_ids::Number;
 use pres_service::ServeOptions;
 use std::alloc::{AllocError, Global};
@@ -16,8 +16,78 @@ use std::alloc::{AllocError, Global};
 // The most connections that a server may be asked to end after.
 const MOST_CONNECTIONS: u64 = 1_024;
 
-// The greatest number of a client's start: 2^53 - 1.
-const MOST_INCARNATIONS: u64 = 9_007_199_254_740_991;
+// The greatest number of a client's start, and of an entry: 2^53 - 1.
+const MOST_NUMBERS: u64 = 9_007_199_254_740_991;
+
+// What follows the help of each subcommand.
+const APPLY_HELP: &str = "Example:
+  presence apply < examples/first.jsonl
+
+Exit status:
+  0  done
+  1  a line was refused, or a stream failed
+  2  these words are wrong
+  5  out of memory";
+
+const SIM_HELP: &str = "Example:
+  presence sim < examples/presence.script
+
+Exit status:
+  0  done
+  1  a line is bad, or a stream failed
+  2  these words are wrong
+  5  out of memory";
+
+const SERVE_HELP: &str = "Example:
+  presence serve 127.0.0.1:8080 presence.db
+
+Exit status:
+  0  so many connections have ended, or the standard input has
+  1  the output failed
+  2  these words are wrong
+  3  the file is refused
+  4  the address is refused
+  5  out of memory";
+
+const CLIENT_HELP: &str = "Example:
+  echo 'listen /' | presence client 127.0.0.1:8080 alice 1
+
+Exit status:
+  0  done
+  1  a line is bad, or a stream failed
+  2  these words are wrong, or ID is none
+  4  the connection failed or was refused
+  5  out of memory";
+
+const CHECK_HELP: &str = "Example:
+  presence check presence.db
+
+Exit status:
+  0  the history is legal
+  1  the output failed
+  2  these words are wrong
+  3  the file is refused, or a row of it is bad
+  5  out of memory";
+
+const TREE_HELP: &str = "Example:
+  presence tree presence.db /rooms/lobby
+
+Exit status:
+  0  done
+  1  the output failed
+  2  these words are wrong, or PATH is none
+  3  the file is refused, or a row of it is bad
+  5  out of memory";
+
+const HISTORY_HELP: &str = "Example:
+  presence history presence.db --from 100
+
+Exit status:
+  0  done
+  1  the output failed
+  2  these words are wrong
+  3  the file is refused, or a row of it is bad
+  5  out of memory";
 
 /// What the program is asked to do.
 #[derive(Clone, Copy)]
@@ -27,9 +97,22 @@ pub enum Request<'a> {
     /// Does what the input's lines say, as a script of a world, and prints what that makes.
     Sim,
     /// Serves connections over TCP.
-    Serve(ServeOptions<'a>),
+    Serve(ServerWords<'a>),
     /// Does what the input's lines say as a client of a server.
     Client(ClientWords<'a>),
+    /// Checks the history of this file.
+    Check(&'a str),
+    /// Prints a value of a file's tree.
+    Tree(Viewing<'a>),
+    /// Prints the entries of a file's history.
+    History(Listing<'a>),
+}
+
+/// What a server is to do, and whether it ends with the standard input.
+#[derive(Clone, Copy)]
+pub struct ServerWords<'a> {
+    pub serving: ServeOptions<'a>,
+    pub until_stdin_ends: bool,
 }
 
 /// Where a client goes, and as whom.
@@ -40,22 +123,38 @@ pub struct ClientWords<'a> {
     pub incarnation: Number,
 }
 
+/// Which file's tree is looked at, and the path of the value, none for the whole tree.
+#[derive(Clone, Copy)]
+pub struct Viewing<'a> {
+    pub file: &'a str,
+    pub path: Option<&'a str>,
+}
+
+/// Which file's history is listed, and the number of the first entry, none for all.
+#[derive(Clone, Copy)]
+pub struct Listing<'a> {
+    pub file: &'a str,
+    pub from: Option<u64>,
+}
+
 fn apply_command<'a>(alloc: Global) -> Command<'a>
     ensures app { app_of result ≡ apply_shape }
     ensures local { HasNoGlobals result }
 {
-    Command::new(alloc, "apply").about(
-        "Carries out operations, a JSON line each, and prints replies and the tree",
-    )
+    Command::new(alloc, "apply")
+        .about("Carries out operations, a JSON line each, and prints replies and the tree")
+        .after_help(APPLY_HELP)
 }
 
 fn sim_command<'a>(alloc: Global) -> Command<'a>
     ensures app { app_of result ≡ sim_shape }
     ensures local { HasNoGlobals result }
 {
-    Command::new(alloc, "sim").about(
-        "Runs a script of a server, its clients and the packets between them, and prints what it makes",
-    )
+    Command::new(alloc, "sim")
+        .about(
+            "Runs a script of a server, its clients and the packets between them, and prints what it makes",
+        )
+        .after_help(SIM_HELP)
 }
 
 // A required argument.
@@ -74,15 +173,27 @@ fn serve_command<'a>(alloc: Global) -> Result<Command<'a>, AllocError>
     let file = "The file that keeps the tree's history; made where there is none";
     Command::new(alloc, "serve")
         .about("Serves connections over WebSocket")
+        .after_help(SERVE_HELP)
         .arg(needed_argument(alloc, "ADDRESS", address))?
         .arg(needed_argument(alloc, "FILE", file))?
-        .arg(connections_argument(alloc))
+        .arg(connections_argument(alloc))?
+        .arg(ending_argument(alloc))
+}
+
+// That a server ends with the standard input.
+fn ending_argument<'a>(alloc: Global) -> Arg<'a>
+    ensures rule { rule_of result ≡ ending_rule }
+    ensures local { result.global ≡ false }
+{
+    Arg::new(alloc, "until-stdin-ends")
+        .long("until-stdin-ends")
+        .action(ArgAction::SetTrue)
+        .help("Ends cleanly once the standard input ends")
 }
 
 // After how many connections a server ends.
 fn connections_argument<'a>(alloc: Global) -> Arg<'a>
-    ensures rule { rule_of result ≡ up_to 1024 (record (new_rule (codes "connections"))
-        { long = Some (codes "connections"); value_names = 1 }) }
+    ensures rule { rule_of result ≡ connections_rule }
     ensures local { result.global ≡ false }
 {
     Arg::new(alloc, "connections")
@@ -99,6 +210,7 @@ fn client_command<'a>(alloc: Global) -> Result<Command<'a>, AllocError>
     let id = "The client's name: 1 to 128 of A-Z, a-z, 0-9, _ and -";
     Command::new(alloc, "client")
         .about("Makes the calls that the input's lines say, and prints what it is told")
+        .after_help(CLIENT_HELP)
         .arg(needed_argument(alloc, "ADDRESS", "Where the server listens"))?
         .arg(needed_argument(alloc, "ID", id))?
         .arg(incarnation_argument(alloc))
@@ -111,8 +223,73 @@ fn incarnation_argument<'a>(alloc: Global) -> Arg<'a>
 {
     Arg::new(alloc, "INCARNATION")
         .required(true)
-        .value_parser(ValueParser::unsigned(1, MOST_INCARNATIONS))
+        .value_parser(ValueParser::unsigned(1, MOST_NUMBERS))
         .help("Which start of the client this is: a greater number each time")
+}
+
+// The argument of a file that is only read.
+fn file_argument<'a>(alloc: Global) -> Arg<'a>
+    ensures rule { rule_of result ≡ needed (codes "FILE") }
+    ensures local { result.global ≡ false }
+{
+    needed_argument(
+        alloc,
+        "FILE",
+        "The file of a server that isn't running; nothing is written to it",
+    )
+}
+
+fn check_command<'a>(alloc: Global) -> Result<Command<'a>, AllocError>
+    ensures app { IfOk result (λ made. app_of made ≡ check_shape) }
+    ensures local { IfOk result (λ made. HasNoGlobals made) }
+{
+    Command::new(alloc, "check")
+        .about("Goes over the history in a file, and prints its numbers or the first bad row")
+        .after_help(CHECK_HELP)
+        .arg(file_argument(alloc))
+}
+
+fn tree_command<'a>(alloc: Global) -> Result<Command<'a>, AllocError>
+    ensures app { IfOk result (λ made. app_of made ≡ tree_shape) }
+    ensures local { IfOk result (λ made. HasNoGlobals made) }
+{
+    Command::new(alloc, "tree")
+        .about("Prints the tree in a file, or the value at a path of it")
+        .after_help(TREE_HELP)
+        .arg(file_argument(alloc))?
+        .arg(path_argument(alloc))
+}
+
+// Where a value stands.
+fn path_argument<'a>(alloc: Global) -> Arg<'a>
+    ensures rule { rule_of result ≡ new_rule (codes "PATH") }
+    ensures local { result.global ≡ false }
+{
+    Arg::new(alloc, "PATH").help("Where the value stands; the whole tree without it")
+}
+
+fn history_command<'a>(alloc: Global) -> Result<Command<'a>, AllocError>
+    ensures app { IfOk result (λ made. app_of made ≡ history_shape) }
+    ensures local { IfOk result (λ made. HasNoGlobals made) }
+{
+    Command::new(alloc, "history")
+        .about("Prints the entries of the history in a file, a line of JSON each")
+        .after_help(HISTORY_HELP)
+        .arg(file_argument(alloc))?
+        .arg(from_argument(alloc))
+}
+
+// From which entry on a history is printed.
+fn from_argument<'a>(alloc: Global) -> Arg<'a>
+    ensures rule { rule_of result ≡ up_to 9007199254740991 (record (new_rule (codes "from"))
+        { long = Some (codes "from"); value_names = 1 }) }
+    ensures local { result.global ≡ false }
+{
+    Arg::new(alloc, "from")
+        .long("from")
+        .value_name("K")
+        .value_parser(ValueParser::unsigned(1, MOST_NUMBERS))
+        .help("The number of the first entry that is printed")
 }
 
 // The command with one more subcommand, if that was made.
@@ -144,7 +321,17 @@ fn command<'a>(alloc: Global) -> Result<Command<'a>, AllocError>
         .subcommand(apply_command(alloc))?
         .subcommand(sim_command(alloc))?;
     let command = with_made(command, serve_command(alloc))?;
-    with_made(command, client_command(alloc))
+    let command = with_made(command, client_command(alloc))?;
+    with_inspection(alloc, command)
+}
+
+// The command with those that look at a file below it.
+fn with_inspection<'a>(alloc: Global, command: Command<'a>) -> Result<Command<'a>, AllocError>
+    ensures { IfOk result (λ made. app_of made ≡ with_inspection (app_of command.entry)) }
+{
+    let command = with_made(command, check_command(alloc))?;
+    let command = with_made(command, tree_command(alloc))?;
+    with_made(command, history_command(alloc))
 }
 
 /// Reads the words of the command line, the program's name first.
@@ -193,17 +380,74 @@ fn request_of<'a>(name: &str, given: &ArgMatches<'a>) -> Option<Request<'a>>
             None => None,
         };
     }
+    inspection_of(name, given)
+}
+
+// The look at a file that a subcommand asks for with its arguments: none if they are not enough.
+fn inspection_of<'a>(name: &str, given: &ArgMatches<'a>) -> Option<Request<'a>>
+    ensures { IfSome result (λ request.
+        IsAskedBy request (Some (name.now, rows_of (found_of given.now)))) }
+{
+    if name == "check" {
+        return match file_of(given) {
+            Some(file) => Some(Request::Check(file)),
+            None => None,
+        };
+    }
+    if name == "tree" {
+        return match viewing_of(given) {
+            Some(viewing) => Some(Request::Tree(viewing)),
+            None => None,
+        };
+    }
+    if name == "history" {
+        return match listing_of(given) {
+            Some(listing) => Some(Request::History(listing)),
+            None => None,
+        };
+    }
     None
 }
 
-// What a server is given.
-fn server_of<'a>(given: &ArgMatches<'a>) -> Option<ServeOptions<'a>>
-    ensures { IfSome result (λ serving. IsServed serving (rows_of (found_of given.now))) }
+// The file that is looked at.
+fn file_of<'a>(given: &ArgMatches<'a>) -> Option<&'a str>
+    ensures { IfSome result (λ file. IsInspected file.now (rows_of (found_of given.now))) }
 {
-    Some(ServeOptions {
+    given.get_str("FILE")
+}
+
+// Which file's tree is looked at, and where.
+fn viewing_of<'a>(given: &ArgMatches<'a>) -> Option<Viewing<'a>>
+    ensures { IfSome result (λ viewing. IsViewed viewing (rows_of (found_of given.now))) }
+{
+    Some(Viewing {
+        file: file_of(given)?,
+        path: given.get_str("PATH"),
+    })
+}
+
+// Which file's history is listed, and from where.
+fn listing_of<'a>(given: &ArgMatches<'a>) -> Option<Listing<'a>>
+    ensures { IfSome result (λ listing. IsListed listing (rows_of (found_of given.now))) }
+{
+    Some(Listing {
+        file: file_of(given)?,
+        from: given.get_one("from"),
+    })
+}
+
+// What a server is given.
+fn server_of<'a>(given: &ArgMatches<'a>) -> Option<ServerWords<'a>>
+    ensures { IfSome result (λ words. IsServed words (rows_of (found_of given.now))) }
+{
+    let serving = ServeOptions {
         address: given.get_str("ADDRESS")?,
         file: given.get_str("FILE")?,
         connections: given.get_one("connections"),
+    };
+    Some(ServerWords {
+        serving,
+        until_stdin_ends: given.get_flag("until-stdin-ends"),
     })
 }
 

@@ -3,9 +3,11 @@
 #![tactic(auto)]
 
 mod client;
+mod counted;
 mod fault;
 mod serve;
 
 pub use client::{ClientOptions, client_run};
 pub use fault::ServiceFault;
+pub use pres_tcp::{EndRequest, InputEnd, NoRequest};
 pub use serve::{ServeOptions, serve_run};

@@ -7,12 +7,14 @@ ghost use Rattle.pres_service.specs.declared.fault.ServiceFault.TheVariants as f
 ghost use Rattle.pres_service.specs.Faults.{is_halt};
 ghost use Rattle.pres_service.specs.Outputs.{listening_line, number_line};
 
+use crate::counted::CountedKeeper;
 use crate::fault::ServiceFault;
 use pres_file::{OpenedFile, connect, keeper_for};
 use pres_keeper::{Premise, Supposed};
 use pres_saved::{Commit, Watch, Watched};
 use pres_tcp::{
-    Core, Halt, Health, Hub, Keeper, Moment, OpenGate, StreamBell, WallClock, serve_connections,
+    Core, EndRequest, Halt, Health, Hub, Keeper, Moment, OpenGate, StreamBell, WallClock,
+    serve_connections,
 };
 use sqlite::{Alter, Connection, Unknown};
 use std::alloc::Global;
@@ -34,15 +36,16 @@ pub struct ServeOptions<'a> {
 }
 
 /// Opens the file, or makes it if it is absent or holds nothing, goes over what it holds, listens
-/// at the address, and serves connections. It prints on the output where it listens, once it does,
-/// and at its end the number of the last entry; on the error stream, over an old file, how many
-/// entries it has and how long it took to read them, and when commits begin and end to be refused.
-/// It ends early if it can't go on, because its store was shut or its hub is down.
-pub fn serve_run<R, W: Write, F: Write>(
+/// at the address, and serves connections, until the end is requested. It prints on the output where it
+/// listens, once it does, and at its end the number of the last entry; on the error stream, over an old
+/// file, how many entries it has and how long it took to read them, and when commits begin and end to
+/// be refused. It ends early if it can't go on, because its store was shut or its hub is down.
+pub fn serve_run<R, E: EndRequest, W: Write, F: Write>(
     host: &HostRuntime,
     rt: &R,
     alloc: Global,
     serving: ServeOptions<'_>,
+    request: &mut E,
     output: &mut W,
     faults: &mut F,
 ) -> Result<(), ServiceFault>
@@ -58,7 +61,7 @@ where
         (listening_line serving.entry.address.now)) }
 {
     let connection = connect(host, serving.file, Unknown)?;
-    let number = granted(rt, alloc, connection, serving, output, faults)?;
+    let number = granted(rt, alloc, connection, serving, request, output, faults)?;
     match writeln!(output, "number {number}") {
         Ok(()) => Ok(()),
         Err(_) => Err(ServiceFault::Input),
@@ -67,11 +70,12 @@ where
 
 // The number of the last entry. It is assumed that the tables which were found are those of the
 // statements.
-fn granted<S: Alter + Drop + Send, R, W: Write, F: Write>(
+fn granted<S: Alter + Drop + Send, R, E: EndRequest, W: Write, F: Write>(
     rt: &R,
     alloc: Global,
     connection: Connection<S>,
     serving: ServeOptions<'_>,
+    request: &mut E,
     output: &mut W,
     faults: &mut F,
 ) -> Result<u64, ServiceFault>
@@ -86,15 +90,16 @@ where
         → Appends (W.contents output.old) (W.contents output.new)
         (listening_line serving.entry.address.now)) }
 {
-    supposing::<Brand, S, R, W, F>(rt, alloc, connection, serving, output, faults)
+    supposing::<Brand, S, R, E, W, F>(rt, alloc, connection, serving, request, output, faults)
 }
 
 // The same, where a premise says that what was found was made by our statements.
-fn supposing<P: Premise + Send, S: Alter + Drop + Send, R, W: Write, F: Write>(
+fn supposing<P: Premise + Send, S: Alter + Drop + Send, R, E: EndRequest, W: Write, F: Write>(
     rt: &R,
     alloc: Global,
     connection: Connection<S>,
     serving: ServeOptions<'_>,
+    request: &mut E,
     output: &mut W,
     faults: &mut F,
 ) -> Result<u64, ServiceFault>
@@ -114,8 +119,8 @@ where
     let health = Health::new();
     let keeper = Watched::new(keeper, Noted { health: &health });
     let keeper = Supposed::<Watched<S, Noted<'_>>, P>::new(keeper);
-    counted::<Supposed<Watched<S, Noted<'_>>, P>, R, W, F>(
-        rt, alloc, keeper, &health, serving, is_new, output, faults,
+    counted::<Supposed<Watched<S, Noted<'_>>, P>, R, E, W, F>(
+        rt, alloc, keeper, &health, serving, request, is_new, output, faults,
     )
 }
 
@@ -136,12 +141,13 @@ impl Watch for Noted<'_> {
 }
 
 // The same over a keeper.
-fn counted<K: Keeper + Drop + Send, R, W: Write, F: Write>(
+fn counted<K: Keeper + Drop + Send, R, E: EndRequest, W: Write, F: Write>(
     rt: &R,
     alloc: Global,
     keeper: K,
     health: &Health,
     serving: ServeOptions<'_>,
+    request: &mut E,
     is_new: bool,
     output: &mut W,
     faults: &mut F,
@@ -158,19 +164,21 @@ where
         (listening_line serving.entry.address.now)) }
 {
     let blank = Blank::new(1 << 53);
-    served::<Brand, K, R, W, F>(
-        rt, alloc, blank, keeper, health, serving, is_new, output, faults,
+    let keeper = CountedKeeper::new(keeper, health.meter(), rt);
+    served::<Brand, CountedKeeper<'_, K, R>, R, E, W, F>(
+        rt, alloc, blank, keeper, health, serving, request, is_new, output, faults,
     )
 }
 
 // The same with a ledger that the caller picks.
-fn served<L: Ledger + Send + Sync, K: Keeper + Drop + Send, R, W: Write, F: Write>(
+fn served<L: Ledger + Send + Sync, K: Keeper + Drop + Send, R, E: EndRequest, W: Write, F: Write>(
     rt: &R,
     alloc: Global,
     blank: Blank,
     keeper: K,
     health: &Health,
     serving: ServeOptions<'_>,
+    request: &mut E,
     is_new: bool,
     output: &mut W,
     faults: &mut F,
@@ -198,6 +206,7 @@ where
             return Err(ServiceFault::from(fault));
         }
     };
+    health.meter().begin(core.number());
     if !is_new {
         tell_start(rt, core.number(), start, faults);
     }
@@ -205,7 +214,9 @@ where
         Ok(listener) => {
             let hub = Hub::new(core, OpenGate);
             let count = serving.connections;
-            let ended = serve_connections(rt, alloc, &hub, &listener, count, health, faults);
+            let ended = serve_connections(
+                rt, alloc, &hub, listener, count, request, health, faults,
+            );
             let number = hub.into_core().finish().number();
             match ended {
                 Ok(()) => Ok(number),

@@ -38,18 +38,18 @@ impl Watch {
 
 /// Yields the connections of a listener, and waits for none longer than a set time.
 #[derive(Drop)]
-pub(crate) struct Door<'a> {
-    listener: &'a TcpListener,
+pub(crate) struct Door {
+    listener: TcpListener,
     // None where the system had no descriptor or no memory for it.
     watch: Option<Watch>,
 }
 
-impl<'a> Door<'a> {
+impl Door {
     /// The door of this listener, which doesn't block from then on.
-    pub(crate) fn at(net: &impl Net, alloc: Global, listener: &'a TcpListener) -> Door<'a> {
+    pub(crate) fn at(net: &impl Net, alloc: Global, listener: TcpListener) -> Door {
         // one that blocks all the same is woken by the next connection alone
         let _ = listener.set_nonblocking(true);
-        let watch = Watch::new(net, alloc, listener).ok();
+        let watch = Watch::new(net, alloc, &listener).ok();
         Door { listener, watch }
     }
 

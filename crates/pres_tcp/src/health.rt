@@ -1,5 +1,6 @@
-//! Whether a server can go on, as its threads share it.
+//! Whether a server can go on, and what it counts, as its threads share it.
 
+use crate::meter::Meter;
 use std::sync::atomic::{AtomicBool, AtomicUsize, Ordering};
 
 /// Why a server can't go on: it has to be started again over what it keeps.
@@ -11,13 +12,15 @@ pub enum Halt {
     Down,
 }
 
-/// Whether a server can go on, and whether its commits are taken.
+/// Whether a server can go on, and is to, whether its commits are taken, and what it counts.
 #[derive(Drop)]
 pub struct Health {
     is_shut: AtomicBool,
     is_down: AtomicBool,
+    is_ending: AtomicBool,
     // How often the fate of commits changed: odd while they are refused.
     changes: AtomicUsize,
+    meter: Meter,
 }
 
 impl Health {
@@ -26,7 +29,9 @@ impl Health {
         Health {
             is_shut: AtomicBool::new(false),
             is_down: AtomicBool::new(false),
+            is_ending: AtomicBool::new(false),
             changes: AtomicUsize::new(0),
+            meter: Meter::new(),
         }
     }
 
@@ -47,6 +52,26 @@ impl Health {
             Halt::Shut => self.is_shut.store(true, Ordering::SeqCst),
             Halt::Down => self.is_down.store(true, Ordering::SeqCst),
         }
+    }
+
+    /// From now on the server is to end.
+    pub fn ask_end(&self) {
+        self.is_ending.store(true, Ordering::SeqCst);
+    }
+
+    /// Whether the server is to end.
+    pub fn is_ending(&self) -> bool {
+        self.is_ending.load(Ordering::SeqCst)
+    }
+
+    /// Whether the server goes on, isn't to end, and its last commit was taken.
+    pub fn is_well(&self) -> bool {
+        self.halt().is_none() && !self.is_ending() && !is_odd(self.changes())
+    }
+
+    /// What the server counts.
+    pub fn meter(&self) -> &Meter {
+        &self.meter
     }
 
     /// Notes a commit that was refused, or taken. Only one thread at a time may report commits.

@@ -1,12 +1,15 @@
 //! The connections of the machine: TCP streams whose waiting reads a bell ends, a thread for each
-//! connection of a hub, and one that looks each second which sessions are to end, until the hub
-//! can't go on. It re-exports the names of a hub that its users need.
+//! connection of a hub, and one that looks each second which sessions are to end, until the end is
+//! requested or the hub can't go on. It re-exports the names of a hub that its users need.
 #![tactic(auto)]
 
 mod alarm;
 mod door;
+mod end_request;
 mod ending;
+mod frames;
 mod health;
+mod meter;
 mod notices;
 mod rest;
 mod serve;
@@ -15,7 +18,9 @@ mod stream_count;
 mod wakeable;
 
 pub use alarm::StreamBell;
+pub use end_request::{EndRequest, InputEnd, NoRequest};
 pub use health::{Halt, Health};
+pub use meter::Meter;
 pub use pres_faults::HubFault;
 pub use pres_hub::{Core, Hub, Keeper, Moment, OpenGate};
 pub use pres_sock::Clock;

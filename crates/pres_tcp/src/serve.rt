@@ -2,6 +2,7 @@
 
 use crate::alarm::StreamBell;
 use crate::door::Door;
+use crate::end_request::EndRequest;
 use crate::ending::{Ending, WRITE_MILLIS};
 use crate::health::{Halt, Health};
 use crate::notices::CommitNotices;
@@ -10,6 +11,7 @@ use crate::stream_count::StreamCount;
 use crate::wakeable::{Waits, Wakeable};
 use pres_faults::HubFault;
 use pres_hub::{Bell, Hub, Keeper, Moment, OpenGate};
+use pres_pages::{Page, page_answer, page_asked};
 use pres_sock::serve_stream;
 use pres_websocket::SockFault;
 use std::alloc::Global;
@@ -42,6 +44,12 @@ const UPGRADE_REQUIRED: &[u8] = b"HTTP/1.1 426 Upgrade Required\r\n\
     \r\n\
     A WebSocket is served here.\n";
 
+// The answer to a request for a page for which there is no memory (RFC 9110, 15.6.4).
+const UNAVAILABLE: &[u8] = b"HTTP/1.1 503 Service Unavailable\r\n\
+    Connection: close\r\n\
+    Content-Length: 0\r\n\
+    \r\n";
+
 /// The time of the machine, in milliseconds since 1970. If the clock can't be read it is as it was
 /// read last.
 #[derive(Drop)]
@@ -70,9 +78,10 @@ impl<R: Clock> pres_sock::Clock for WallClock<'_, R> {
 
 /// Serves each connection that comes in a thread of its own, and each second, in a further one,
 /// ends the sessions that are to end. With a count it returns once that many connections have
-/// ended; else it goes on. It ends early if the server can't go on: then no connection is accepted
-/// any more, those that are open are closed, and it prints why. It prints on the error stream when
-/// commits begin to be refused, and when they are taken again.
+/// ended; else it goes on until the end is requested: then it stops listening, and closes each
+/// WebSocket by a frame. It ends early if the server can't go on: then it stops listening, the
+/// connections that are open end, and it prints why. It prints on the error stream when commits begin
+/// to be refused, and when they are taken again.
 ///
 /// A push ends the wait of its connection at once; where the system has no descriptors for that, it
 /// goes out within 50 ms.
@@ -80,13 +89,15 @@ pub fn serve_connections<
     L: Ledger + Send + Sync,
     K: Keeper + Drop + Send,
     R: Net<Listener = TcpListener, Stream = TcpStream> + Threads + Wait + Clock + Sync,
+    E: EndRequest,
     F: Write,
 >(
     rt: &R,
     alloc: Global,
     hub: &Hub<L, K, StreamBell, OpenGate>,
-    listener: &TcpListener,
+    listener: TcpListener,
     count: Option<u32>,
+    request: &mut E,
     health: &Health,
     faults: &mut F,
 ) -> Result<(), Halt> {
@@ -105,6 +116,7 @@ pub fn serve_connections<
             hub,
             listener,
             count,
+            request,
             health,
             &mut notices,
             faults,
@@ -119,32 +131,39 @@ pub fn serve_connections<
 }
 
 // Accepts connections, each of which has a thread of its own, until the given number of them have
-// ended, or the server can't go on. It prints what becomes of commits.
+// ended, the end is requested, or the server can't go on. It prints what becomes of commits.
 #[inline(never)]
 fn accept_all<
     L: Ledger + Send + Sync,
     K: Keeper + Drop + Send,
     R: Net<Listener = TcpListener, Stream = TcpStream> + Threads + Wait + Clock + Sync,
+    E: EndRequest,
     F: Write,
 >(
     rt: &R,
     alloc: Global,
     hub: &Hub<L, K, StreamBell, OpenGate>,
-    listener: &TcpListener,
+    listener: TcpListener,
     count: Option<u32>,
+    request: &mut E,
     health: &Health,
     notices: &mut CommitNotices,
     faults: &mut F,
 ) {
     let crowd = StreamCount::new();
     let shared = &crowd;
-    let mut door = Door::at(rt, alloc, listener);
-    thread::scope(thread::scope_env(), rt, |scope| {
+    thread::scope(thread::scope_env(), rt, move |scope| {
+        // it is let go before the threads are waited for
+        let mut door = Door::at(rt, alloc, listener);
         let mut accepted = 0u32;
         for _ in rt.forever() {
             notices.tell(health, faults);
             let is_full = count == Some(accepted);
             if health.halt().is_some() || is_full && shared.over() >= accepted as usize {
+                break;
+            }
+            if request.is_made() {
+                health.ask_end();
                 break;
             }
             if is_full {
@@ -155,9 +174,11 @@ fn accept_all<
                 continue;
             };
             accepted = accepted.saturating_add(1);
+            health.meter().begin_one();
             let begun = scope.spawn(move || connection(rt, alloc, hub, shared, health, stream));
             // a connection for which there is no thread is closed
             if begun.is_err() {
+                health.meter().end_one();
                 shared.end_one();
             }
         }
@@ -186,18 +207,34 @@ fn connection<
     let long = Duration::from_millis(IDLE_MILLIS);
     match Wakeable::new(rt, alloc, stream, Waits { brief, long }, crowd) {
         Ok((stream, bell)) => {
-            attend(rt, alloc, hub, &mut Ending::new(stream, health), Some(bell));
+            attend(
+                rt,
+                alloc,
+                hub,
+                health,
+                &mut Ending::new(alloc, stream, health),
+                Some(bell),
+            );
         }
         Err(stream) => {
             if stream.set_read_timeout(Some(brief)).is_ok() {
-                attend(rt, alloc, hub, &mut Ending::new(stream, health), None);
+                attend(
+                    rt,
+                    alloc,
+                    hub,
+                    health,
+                    &mut Ending::new(alloc, stream, health),
+                    None,
+                );
             }
         }
     }
+    health.meter().end_one();
     crowd.end_one();
 }
 
-// Serves the connection. A peer that opens no WebSocket gets a text that says what is served here.
+// Serves the connection. A peer that opens no WebSocket gets the page that it requests, or a text that
+// says what is served here. If the server is to end, an open WebSocket is closed.
 fn attend<
     L: Ledger + Send + Sync,
     K: Keeper + Drop + Send,
@@ -207,15 +244,40 @@ fn attend<
     rt: &R,
     alloc: Global,
     hub: &Hub<L, K, StreamBell, OpenGate>,
-    stream: &mut S,
+    health: &Health,
+    stream: &mut Ending<'_, S>,
     mut bell: Option<StreamBell>,
 ) {
     let mut clock = WallClock::new(rt);
     let (parting, ended) = serve_stream(rt, alloc, hub, &mut *stream, &mut bell, &mut clock);
     drop(parting);
-    if let Err(SockFault::Handshake(_)) = ended {
-        let _ = stream.write_all(UPGRADE_REQUIRED);
+    match ended {
+        Err(SockFault::Handshake(_)) => answer_request(alloc, health, stream),
+        Err(SockFault::Stream(_)) => stream.part(),
+        _ => {}
     }
+}
+
+// Answers a request that opens no WebSocket.
+fn answer_request<S: Read + Write>(alloc: Global, health: &Health, stream: &mut Ending<'_, S>) {
+    let request = stream.take_request();
+    let asked = match &request {
+        Some(request) => page_asked(request.as_slice()),
+        None => None,
+    };
+    drop(request);
+    let Some(page) = asked else {
+        let _ = stream.write_all(UPGRADE_REQUIRED);
+        return;
+    };
+    let counts = match page {
+        Page::Health => health.meter().counts(),
+        Page::Metrics => health.meter().take_counts(),
+    };
+    let _ = match page_answer(alloc, page, health.is_well(), &counts) {
+        Ok(text) => stream.write_all(text.as_bytes()),
+        Err(_) => stream.write_all(UNAVAILABLE),
+    };
 }
 
 // Ends the sessions that are to end, each second and once more at the end. What is refused is tried

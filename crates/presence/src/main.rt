@@ -4,6 +4,7 @@
 use pres_command::{explain_unread, presence_run};
 use std::alloc::AllocError;
 use std::net::{Net, TcpListener, TcpStream};
+use std::os::fd::AsRawFd;
 use std::process::ExitCode;
 use std::random::RandomSource;
 use std::sync::Wait;
@@ -31,6 +32,7 @@ fn run<
         rt,
         words.as_slice(),
         &mut host.reader(),
+        Some(host.stdin().as_raw_fd()),
         &mut host.stdout(),
         &mut host.stderr(),
     ))

@@ -8,6 +8,8 @@ mod counters;
 mod drives;
 mod files;
 mod halts;
+mod looks;
+mod pages;
 mod script;
 mod texts;
 mod visits;

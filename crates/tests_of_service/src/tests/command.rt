@@ -24,17 +24,17 @@ impl Write for Clogged {
     }
 }
 
-// What a run wrote, and its exit status.
+/// What a run wrote, and its exit status.
 #[derive(Drop)]
-struct Ran {
+pub(crate) struct Ran {
     status: u8,
     output: Vec<u8>,
     faults: Vec<u8>,
 }
 
 impl Ran {
-    // It must have written this, with this status.
-    fn expect(&self, rt: &impl Abort, status: u8, output: &str, faults: &str) {
+    /// It must have written this, with this status.
+    pub(crate) fn expect(&self, rt: &impl Abort, status: u8, output: &str, faults: &str) {
         assert_eq!(rt; self.status, status, "{output}");
         assert!(rt; self.output.as_slice() == output.as_bytes(), "{output}");
         assert!(rt; self.faults.as_slice() == faults.as_bytes(), "{output}");
@@ -48,7 +48,8 @@ impl Ran {
     }
 }
 
-fn run<
+/// Runs the program with the words and the input.
+pub(crate) fn run<
     H: Net<Listener = TcpListener, Stream = TcpStream>
         + Threads
         + Wait
@@ -61,7 +62,7 @@ fn run<
     let alloc = host.alloc();
     let mut output = Vec::new(alloc);
     let mut faults = Vec::new(alloc);
-    let status = presence_run(host, rt, words, input, &mut output, &mut faults);
+    let status = presence_run(host, rt, words, input, None, &mut output, &mut faults);
     Ran {
         status,
         output,
@@ -115,7 +116,22 @@ fn reads_its_words(rt: HostRuntime) {
         ("presence client 127.0.0.1:1 alice 0", 2),
         ("presence client 127.0.0.1:1 a! 1", 2),
         ("presence client 127.0.0.1:1 alice 1", 4),
+        ("presence check", 2),
+        ("presence check f g", 2),
+        ("presence check /no/such/folder/f", 3),
+        ("presence tree", 2),
+        ("presence tree f /a.b", 2),
+        ("presence tree f /a /b", 2),
+        ("presence tree /no/such/folder/f", 3),
+        ("presence history", 2),
+        ("presence history f --from 0", 2),
+        ("presence history f --from 9007199254740992", 2),
+        ("presence history f --from", 2),
+        ("presence history /no/such/folder/f", 3),
         ("presence --help", 0),
+        ("presence check --help", 0),
+        ("presence tree --help", 0),
+        ("presence history --help", 0),
         ("presence --version", 0),
         ("presence apply", 0),
     ] {
@@ -129,6 +145,14 @@ fn tells_that_a_write_failed(rt: HostRuntime) {
     let mut faults = Vec::new(rt.alloc());
     let words = ["presence", "--help"];
     let mut input = b"".as_slice();
-    let ended = presence_run(&rt, &rt, &words, &mut input, &mut Clogged, &mut faults);
+    let ended = presence_run(
+        &rt,
+        &rt,
+        &words,
+        &mut input,
+        None,
+        &mut Clogged,
+        &mut faults,
+    );
     assert_eq!(rt; ended, 1);
 }

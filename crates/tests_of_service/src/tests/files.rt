@@ -31,7 +31,7 @@ pub(crate) fn new_place<R: Net<Listener = TcpListener, Stream = TcpStream> + Abo
 impl ServerFiles {
     /// Removes the files.
     pub(crate) fn clear(&self, host: &HostRuntime) {
-        for end in ["", "-wal", "-shm", ".other"] {
+        for end in ["", "-wal", "-shm", ".other", ".other-wal"] {
             if let Ok(name) = format!(in host.alloc(); "{}{end}", self.file) {
                 let _ = fs::remove_file(host, name.as_str());
             }

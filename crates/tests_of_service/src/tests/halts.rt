@@ -5,7 +5,7 @@ ghost use Rattle.std.specs.Prelude.{◌≡◌, ◌^◌};
 use crate::tests::texts::expect_text;
 use pres_hub::{Core, Hub, MemKeeper, OpenGate};
 use pres_server::Moment;
-use pres_tcp::{Halt, Health, StreamBell, serve_connections};
+use pres_tcp::{Halt, Health, NoRequest, StreamBell, serve_connections};
 use std::alloc::Global;
 use std::io::Read;
 use std::marker::Brand;
@@ -69,11 +69,20 @@ fn serve<
     rt: &R,
     alloc: Global,
     hub: &Hub<L, MemKeeper, StreamBell, OpenGate>,
-    listener: &TcpListener,
+    listener: TcpListener,
     health: &Health,
 ) -> (Result<(), Halt>, Vec<u8>) {
     let mut faults = Vec::new(alloc);
-    let ended = serve_connections(rt, alloc, hub, listener, None, health, &mut faults);
+    let ended = serve_connections(
+        rt,
+        alloc,
+        hub,
+        listener,
+        None,
+        &mut NoRequest,
+        health,
+        &mut faults,
+    );
     (ended, faults)
 }
 
@@ -94,7 +103,7 @@ fn served_with<
     let ((ended, faults), is_closed) = thread::scope(thread::scope_env(), rt, |scope| {
         let visitor = scope.spawn(move || visit(rt, address, shared, halt));
         let visitor = visitor.expect(rt, "a thread");
-        let served = serve(rt, alloc, &hub, &listener, shared);
+        let served = serve(rt, alloc, &hub, listener, shared);
         (served, visitor.join(rt))
     });
     drop(hub.into_core().finish());

@@ -4,7 +4,7 @@ use crate::tests::board::{Board, Pen};
 use crate::tests::files::{ServerFiles, new_place};
 use crate::tests::texts::expect_text;
 use pres_ids::{ClientId, Number};
-use pres_service::{ClientOptions, ServeOptions, ServiceFault, client_run, serve_run};
+use pres_service::{ClientOptions, NoRequest, ServeOptions, ServiceFault, client_run, serve_run};
 use std::alloc::Global;
 use std::io::{Read, Write};
 use std::net::{Net, TcpListener, TcpStream};
@@ -31,7 +31,15 @@ fn serve<R: Net<Listener = TcpListener, Stream = TcpStream> + Threads + Wait + C
 ) -> (u8, Vec<u8>) {
     let mut output = Vec::new(host.alloc());
     let mut faults = Vec::new(host.alloc());
-    let status = match serve_run(host, rt, host.alloc(), serving, &mut output, &mut faults) {
+    let status = match serve_run(
+        host,
+        rt,
+        host.alloc(),
+        serving,
+        &mut NoRequest,
+        &mut output,
+        &mut faults,
+    ) {
         Ok(()) => 0,
         Err(fault) => fault.status(),
     };

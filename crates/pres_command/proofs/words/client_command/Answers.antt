@@ -7,8 +7,8 @@ use Rattle.pres_command.proofs.words.client_command.Goals as goal
 
 pub returns : goal.returns
 returns c =
-    let base : app_of c.about.result ≡ new_app (codes "client") = search rules in
-    let base_local : HasNoGlobals c.about.result = search rules in
+    let base : app_of c.after_help.result ≡ new_app (codes "client") = search rules in
+    let base_local : HasNoGlobals c.after_help.result = search rules in
     let one : app_of c.in_ok-arg.field-0 ≡ with_rule (new_app (codes "client")) (needed (codes "ADDRESS")) =
     c.in_ok-arg.ensures.shape c.needed_argument.ensures.local ∙ ap₂ with_rule base c.needed_argument.ensures.rule in
     let one_local : HasNoGlobals c.in_ok-arg.field-0 = c.in_ok-arg.ensures.globals ∙ ap₂ ◌||◌ base_local c.needed_argument.ensures.local in

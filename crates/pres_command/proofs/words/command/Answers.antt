@@ -1,7 +1,7 @@
 use Rattle.std.proofs.Common.{rules, ap, ap₂, ◌∙◌, ◌≡◌, codes}
 use Rattle.std.proofs.lemmas.Result.{IfOk-weaker}
 use Rattle.clap.specs.Words.{App, app_of, new_app, with_subcommand}
-use Rattle.pres_command.specs.Words.{apply_shape, client_shape, on_top, serve_shape, sim_shape}
+use Rattle.pres_command.specs.Words.{apply_shape, client_shape, on_top, serve_shape, sim_shape, with_inspection}
 use Rattle.pres_command.proofs.words.command.Goals as goal
 
 abbrev base : App
@@ -16,4 +16,6 @@ returns c =
     c.in_ok-command.ensures.shape c.sim_command.ensures.local ∙ ap₂ with_subcommand one (ap (λ (a : App). a.top) c.sim_command.ensures.app) in
     let three : app_of c.in_ok-command-2.command ≡ with_subcommand (with_subcommand (with_subcommand base apply_shape.top) sim_shape.top) serve_shape.top =
     c.in_ok-command-2.ensures serve_shape c.serve_command.ensures.app c.serve_command.ensures.local ∙ ap (λ a. with_subcommand a serve_shape.top) two in
-    IfOk-weaker c.with_made-2.result _ _ (λ made adds. adds ∙ ap (λ a. with_subcommand a client_shape.top) three) (c.with_made-2.ensures client_shape c.client_command.ensures.app c.client_command.ensures.local)
+    let four : app_of c.in_ok-command-3.command ≡ with_subcommand (with_subcommand (with_subcommand (with_subcommand base apply_shape.top) sim_shape.top) serve_shape.top) client_shape.top =
+    c.in_ok-command-3.ensures client_shape c.client_command.ensures.app c.client_command.ensures.local ∙ ap (λ a. with_subcommand a client_shape.top) three in
+    IfOk-weaker c.with_inspection.result _ _ (λ made adds. adds ∙ ap with_inspection four) c.with_inspection.ensures

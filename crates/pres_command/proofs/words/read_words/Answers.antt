@@ -5,8 +5,8 @@ use Rattle.clap.specs.Walk.{Text}
 use Rattle.clap.specs.Takes.{takes}
 use Rattle.std.specs.Prelude.{unwrap_or}
 use Rattle.std.proofs.lemmas.Option.{none-some}
-use Rattle.pres_command.specs.Words.{AreTaken, IsMistake}
-use Rattle.pres_command.proofs.Asked.{asked_is_apply, asked_is_taken, parsed_is_taken, refused_is_mistake}
+use Rattle.pres_command.specs.Words.{AreTaken, IsAskedBy, IsMistake}
+use Rattle.pres_command.proofs.Asked.{asked_is_apply, asked_is_taken, parsed_asks, parsed_is_taken, refused_is_mistake}
 use Rattle.pres_command.proofs.words.read_words.Goals as goal
 
 -- what `?` passes up
@@ -40,6 +40,12 @@ returns-in-Some-request_of-clause-apply c = λ asks.
 
 pub returns-in-Some-request_of-clause-taken : goal.returns-in-Some-request_of-clause-taken
 returns-in-Some-request_of-clause-taken c = parsed_is_taken _ _ c.in_ok-command.ensures c.in_ok-matches.ensures.kinds
+
+pub returns-in-Some-request_of-clause-asked : goal.returns-in-Some-request_of-clause-asked
+returns-in-Some-request_of-clause-asked c =
+    subst (IsAskedBy c.in-Some-request_of.request)
+    (parsed_asks _ _ _ _ _ c.in_ok-command.ensures c.in_ok-matches.ensures.matches c.in-Some.ensures.name c.in-Some.ensures.rows)
+    c.in-Some-request_of.ensures.asked
 
 pub returns-clause-apply : goal.returns-clause-apply
 returns-clause-apply c = λ asks.

@@ -2,20 +2,23 @@ use Rattle.std.proofs.Common.{rules, ap₂, ◌∙◌, ◌≡◌, codes}
 use Rattle.std.specs.Prelude.{◌||◌}
 use Rattle.std.proofs.lemmas.Result.{IfOk-weaker}
 use Rattle.clap.specs.Words.{app_of, new_app, with_rule}
-use Rattle.pres_command.specs.Words.{HasNoGlobals, needed}
+use Rattle.pres_command.specs.Words.{HasNoGlobals, connections_rule, needed}
 use Rattle.pres_command.proofs.words.serve_command.Goals as goal
 
 pub returns : goal.returns
 returns c =
-    let base : app_of c.about.result ≡ new_app (codes "serve") = search rules in
-    let base_local : HasNoGlobals c.about.result = search rules in
+    let base : app_of c.after_help.result ≡ new_app (codes "serve") = search rules in
+    let base_local : HasNoGlobals c.after_help.result = search rules in
     let one : app_of c.in_ok-arg.field-0 ≡ with_rule (new_app (codes "serve")) (needed (codes "ADDRESS")) =
     c.in_ok-arg.ensures.shape c.needed_argument.ensures.local ∙ ap₂ with_rule base c.needed_argument.ensures.rule in
     let one_local : HasNoGlobals c.in_ok-arg.field-0 = c.in_ok-arg.ensures.globals ∙ ap₂ ◌||◌ base_local c.needed_argument.ensures.local in
     let two : app_of c.in_ok-arg-2.field-0 ≡ with_rule (with_rule (new_app (codes "serve")) (needed (codes "ADDRESS"))) (needed (codes "FILE")) =
     c.in_ok-arg-2.ensures.shape c.needed_argument-2.ensures.local ∙ ap₂ with_rule one c.needed_argument-2.ensures.rule in
     let two_local : HasNoGlobals c.in_ok-arg-2.field-0 = c.in_ok-arg-2.ensures.globals ∙ ap₂ ◌||◌ one_local c.needed_argument-2.ensures.local in
+    let three : app_of c.in_ok-arg-3.field-0 ≡ with_rule (with_rule (with_rule (new_app (codes "serve")) (needed (codes "ADDRESS"))) (needed (codes "FILE"))) connections_rule =
+    c.in_ok-arg-3.ensures.shape c.connections_argument.ensures.local ∙ ap₂ with_rule two c.connections_argument.ensures.rule in
+    let three_local : HasNoGlobals c.in_ok-arg-3.field-0 = c.in_ok-arg-3.ensures.globals ∙ ap₂ ◌||◌ two_local c.connections_argument.ensures.local in
     record {
-      app = IfOk-weaker c.arg-3.result _ _ (λ made adds. adds.shape c.connections_argument.ensures.local ∙ ap₂ with_rule two c.connections_argument.ensures.rule) c.arg-3.ensures;
-      local = IfOk-weaker c.arg-3.result _ _ (λ made adds. adds.globals ∙ ap₂ ◌||◌ two_local c.connections_argument.ensures.local) c.arg-3.ensures;
+      app = IfOk-weaker c.arg-4.result _ _ (λ made adds. adds.shape c.ending_argument.ensures.local ∙ ap₂ with_rule three c.ending_argument.ensures.rule) c.arg-4.ensures;
+      local = IfOk-weaker c.arg-4.result _ _ (λ made adds. adds.globals ∙ ap₂ ◌||◌ three_local c.ending_argument.ensures.local) c.arg-4.ensures;
     }

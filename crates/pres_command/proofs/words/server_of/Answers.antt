@@ -15,4 +15,8 @@ returns c =
       subst (λ text. IsReadAs 32 text c.get_one.result) (one_text-rows found (codes "connections"))
           (read_of 32 _ c.get_one.result (one_text found (codes "connections"))
           (λ t r (h : ParsesUnsigned 32 10 t r × ExplainsUnsignedError 10 t r × HasUnsignedDigitsIfOk t r). h.0) c.get_one.ensures.none c.get_one.ensures.value),
+      (
+        λ given. c.get_flag.ensures.value (one_text-rows found (codes "until-stdin-ends") ∙ given),
+        λ given. c.get_flag.ensures.other (one_text-rows found (codes "until-stdin-ends") ∙ given),
+      ),
     )

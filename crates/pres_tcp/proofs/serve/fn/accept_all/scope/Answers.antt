@@ -10,4 +10,4 @@ use Rattle.pres_tcp.proofs.Captures.{captures_send}
 use Rattle.pres_tcp.proofs.serve.fn.accept_all.scope.Goals as goal
 
 pub spawn-begun-requires-send-F : goal.spawn-begun-requires-send-F
-spawn-begun-requires-send-F g c κs within = search (captures_send, hub_sync, stream_is, gate_is, bell_is, crowd_is, health_is, global_is, c.requires.1.1.1.1, shr_send, param_send, param_sync, arg_send) depth 60 fits 20000
+spawn-begun-requires-send-F g c κs within = search (captures_send, hub_sync, stream_is, gate_is, bell_is, crowd_is, health_is, global_is, c.requires.1.1.1.1.1, shr_send, param_send, param_sync, arg_send) depth 60 fits 20000
