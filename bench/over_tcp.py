@@ -18,6 +18,9 @@ import time
 TOP = os.path.dirname(os.path.dirname(os.path.abspath(__file__)))
 PROGRAM = os.path.join(TOP, "presence")
 
+# A server that is killed here ends at once: the launcher becomes the program.
+os.environ.setdefault("PRESENCE_EXEC", "1")
+
 UPGRADE = (
     b"GET / HTTP/1.1\r\nHost: presence\r\nUpgrade: websocket\r\nConnection: Upgrade\r\n"
     b"Sec-WebSocket-Key: dGhlIHNhbXBsZSBub25jZQ==\r\nSec-WebSocket-Version: 13\r\n\r\n")
