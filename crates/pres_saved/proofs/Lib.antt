@@ -1,5 +1,7 @@
+pub mod Basing
 pub mod Committing
 pub mod Counted
+pub mod Opening
 pub mod Outlasting
 pub mod Reading
 pub mod Refused

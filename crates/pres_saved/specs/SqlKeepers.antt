@@ -10,8 +10,8 @@ use Rattle.pres_log.specs.Logs.{Log}
 use Rattle.serde_json.specs.Written.{compact_text}
 use Rattle.pres_batch_json.specs.Entries.{entries_json}
 use Rattle.pres_batch_rows.specs.TableStates.{TableState, Serves, AddsRow, Outlasts}
-use Rattle.pres_batch_rows.specs.TableOpening.{greatest_in}
-use Rattle.pres_batch_rows.specs.RowContents.{RowContent, shown_row, shown_rows}
+use Rattle.pres_batch_rows.specs.TableOpening.{last_in}
+use Rattle.pres_batch_rows.specs.RowContents.{RowContent, shown_row, shown_rows, shown_base}
 use Rattle.pres_keeper.specs.Keepers.{Readable, BeginsWith}
 use Rattle.pres_saved.specs.SavedLogs.{saved_log, readable_rows}
 
@@ -28,15 +28,15 @@ pub record WasShut {S : Type 0} (g : Ghosts S) (old new : TableState S) : Type 0
 -- no transaction is open, and the next row comes after the last
 pub record IsReady {S : Type 0} (g : Ghosts S) (t : TableState S) : Type 0 where
   pub serves : Serves g t
-  pub last : Works g t → t.last ≡ greatest_in (shown_rows (state g t.connection))
+  pub last : Works g t → t.last ≡ last_in (shown_base (state g t.connection)) (shown_rows (state g t.connection))
 
--- its rows are the batches of the log
+-- it has no checkpoint, and its rows are the batches of the log
 abbrev pub KeepsLog : {S : Type 0} → Ghosts S → TableState S → Log → Type 0
-KeepsLog g t log = saved_log (shown_rows (state g t.connection)) ≡ Ok log
+KeepsLog g t log = saved_log (shown_base (state g t.connection)) (shown_rows (state g t.connection)) ≡ Ok log
 
 -- what can be read of its rows
 abbrev pub readable_in : {S : Type 0} → Ghosts S → TableState S → Readable
-readable_in g t = readable_rows (shown_rows (state g t.connection))
+readable_in g t = readable_rows (shown_base (state g t.connection)) (shown_rows (state g t.connection))
 
 -- a batch is saved as its moment and the JSON text of its entries
 abbrev pub saved_batch : Batch → RowContent
@@ -50,20 +50,21 @@ SavesBatch g old batch new = AddsRow (state g old.connection) (state g new.conne
 abbrev pub LeavesLog : {S : Type 0} → Ghosts S → TableState S → Log → Batch → TableState S → Type 0
 LeavesLog g old log batch new =
     Survives (state g old.connection) (state g new.connection)
-    (λ db. Works g old → saved_log (map shown_row (db 2)) ≡ Ok (log ++ batch ∷ []))
+    (λ db. Works g old → saved_log (map shown_row (db 3)) (map shown_row (db 2)) ≡ Ok (log ++ batch ∷ []))
 
 -- what can be read of a database that a crash at this moment may leave, where the disk gave back what was written
 pub record MayFind {S : Type 0} (g : Ghosts S) (t : TableState S) (held : Readable) : Type 0 where
   pub clean : HasCleanDisk (state g t.connection)
   pub left : Trees
   pub may : (state g t.connection).may_leave left
-  pub read : held ≡ readable_rows (map shown_row (left 2))
+  pub read : held ≡ readable_rows (map shown_row (left 3)) (map shown_row (left 2))
 
--- whatever a crash leaves begins with these rows, and what can be read of them and of any after them begins with the log
+-- whatever a crash leaves has this checkpoint and begins with these rows, and what can be read of them and of any after them begins with the log
 pub record ComeFirst (s : State) (log : Log) : Type 0 where
+  pub base : List Row
   pub rows : List Row
-  pub first : Outlasts rows s
-  pub read : (more : List Row) → BeginsWith log (readable_rows (map shown_row (rows ++ more)))
+  pub first : Outlasts base rows s
+  pub read : (more : List Row) → BeginsWith log (readable_rows (map shown_row base) (map shown_row (rows ++ more)))
 
 -- so it does where the disk gave back what was written
 abbrev pub OutlastsLog : {S : Type 0} → Ghosts S → TableState S → Log → Type 0

@@ -88,10 +88,8 @@ impl<S: Alter + Drop, W: Watch> Watched<S, W> {
 }
 
 impl<S: Alter + Drop, W: Watch> Keeper for Watched<S, W> {
-    ghost use Rattle.std.proofs.Common.{ap};
-    ghost use Rattle.pres_saved.specs.SavedLogs.{readable_by};
     ghost use Rattle.pres_saved.specs.SqlKeepers.{IsReady, Works, WasShut, KeepsLog, LeavesLog, MayFind, OutlastsLog, SavesBatch, readable_in};
-    ghost use Rattle.pres_saved.specs.Laws.{found_first};
+    ghost use Rattle.pres_saved.specs.Laws.{kept_whole, found_first};
 
     ghost ready = { λ kept. IsReady S.Store kept };
 
@@ -111,7 +109,7 @@ impl<S: Alter + Drop, W: Watch> Keeper for Watched<S, W> {
 
     ghost outlasts = { λ kept log. OutlastsLog S.Store kept log };
 
-    ghost kept_is_read = { λ kept log keeps. ap (readable_by _) keeps };
+    ghost kept_is_read = { λ kept log keeps. kept_whole _ _ log keeps };
 
     ghost outlasting_is_found = { λ kept log held lasts finds.
         found_first _ kept log held lasts finds };

@@ -35,6 +35,23 @@ fn row<S: Alter + Drop>(
     (connection, text)
 }
 
+// The connection, and the format, as another program reads it.
+fn meta<S: Alter + Drop>(
+    rt: &impl Abort,
+    alloc: Global,
+    mut connection: Connection<S>,
+) -> (Connection<S>, String) {
+    let statement = "SELECT value FROM meta WHERE name = 'format'";
+    let text = match connection.query_row(statement, &[]) {
+        Ok(row) => {
+            let format: i64 = row.get(0).expect(rt, "a number");
+            format!(in alloc; "{format}").expect(rt, "memory")
+        }
+        Err(_) => said(rt, alloc, "no format"),
+    };
+    (connection, text)
+}
+
 // The connection after the tables were made, and what that answered.
 fn created<S: Alter + Drop>(
     rt: &impl Abort,
@@ -71,8 +88,8 @@ fn stepped<S: Alter + Drop>(
 }
 
 // The connection after a step: `create`, `sql` and a statement of another program, which has the
-// database for itself, `row` and its number, a call on the table (`open`, `append`, `load`, `each`), or a
-// step of the keeper over it.
+// database for itself, `row` and its number, `meta`, a call on the table (`open`, `append`,
+// `append_twice`, `append_none`, `load`, `each`, `checkpoint`, `base`), or a step of the keeper over it.
 fn after<S: Alter + Drop>(
     rt: &impl Abort,
     alloc: Global,
@@ -84,7 +101,9 @@ fn after<S: Alter + Drop>(
         "create" => created(rt, alloc, connection),
         "sql" => run_sql(rt, alloc, connection, rest),
         "row" => row(rt, alloc, connection, rest),
-        "open" | "append" | "load" | "each" => called(rt, alloc, connection, call),
+        "meta" => meta(rt, alloc, connection),
+        "open" | "append" | "append_twice" | "append_none" | "load" | "each" | "checkpoint"
+        | "base" => called(rt, alloc, connection, call),
         _ => stepped(rt, alloc, connection, call),
     }
 }
@@ -133,7 +152,7 @@ server => 2 entries, {"a":1}
 create => NotOurs
 sql UPDATE meta SET value = 9 WHERE name = 'format' => run
 server => Version
-sql UPDATE meta SET value = 1 WHERE name = 'format' => run
+sql UPDATE meta SET value = 2 WHERE name = 'format' => run
 sql INSERT INTO batch(k, moment, body) VALUES(3, 1000, '[') => run
 batches => BadRow 3
 server => BadRow 3
