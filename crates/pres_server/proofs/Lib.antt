@@ -21,3 +21,5 @@ pub mod SumServers
 pub mod BaseSums
 pub mod Resumed
 pub mod Based
+pub mod Overlaid
+pub mod Grouped

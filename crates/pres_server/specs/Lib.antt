@@ -19,3 +19,5 @@ pub mod Replays
 pub mod Faults
 pub mod BaseSums
 pub mod InternalBases
+pub mod Groups
+pub mod InternalGroups

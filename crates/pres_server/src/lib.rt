@@ -2,9 +2,11 @@
 //! of entries. The batch is committed by the caller before the turn is done and anything answered.
 #![tactic(auto)]
 
+mod ahead;
 mod base;
 mod client_sessions;
 mod follow;
+mod group;
 mod grow;
 mod index;
 mod input;
@@ -16,6 +18,7 @@ mod resume;
 mod server;
 mod turn;
 
+pub use group::{Group, MOST_IN_GROUP};
 pub use input::Input;
 pub use pres_base::{Base, BaseParts, ClientPart, SessionPart};
 pub use pres_log::{Batch, Entry, Fault, Log, LogAbove};

@@ -1,6 +1,6 @@
 //! The server.
 
-ghost use Rattle.std.specs.Prelude.{◌≡◌, ◌↔◌, ◌<◌, ◌^◌, All, List, IsTrue, IfOk, IfErr, IfSome, IfNone, OnOk, OnErr, MatchOption, true, false, is_some, option_copied, []};
+ghost use Rattle.std.specs.Prelude.{◌≡◌, ◌↔◌, ◌<◌, ◌≤◌, ◌^◌, ◌∷◌, ℕ, vec_capacity, All, List, IsTrue, IfOk, IfErr, IfSome, IfNone, OnOk, OnErr, MatchOption, true, false, is_some, option_copied, []};
 ghost use Rattle.pres_tree.specs.Rows.{is_null, value_at};
 ghost use Rattle.pres_log.specs.declared.fault.Fault.TheVariants.{Busy as OutOfMemory};
 ghost use Rattle.pres_ids.specs.declared.id.Stamp.{Stamp};
@@ -8,16 +8,21 @@ ghost use Rattle.pres_ids.specs.Ids.{ClientId};
 ghost use Rattle.pres_plan.specs.Plans.{IsPlan};
 ghost use Rattle.pres_retry.specs.Tables.{rows_of};
 ghost use Rattle.pres_server.specs.ServerStates.{heard_last, heard_again, first_client};
-ghost use Rattle.pres_server.specs.Turns.{IsRefusal};
+ghost use Rattle.pres_wire.specs.declared.up.Up.TheVariants as up;
+ghost use Rattle.pres_server.specs.declared.input.Input.TheVariants as input;
+ghost use Rattle.pres_server.specs.Turns.{IsRefusal, makes};
 ghost use Rattle.pres_server.specs.Sums.{is_open_in, accepted_in, has_open_in, open_stamp_in, sum_with};
 ghost use Rattle.pres_server.specs.SumStates.{blank};
 ghost use Rattle.pres_server.specs.SumAnswers.{answers_by};
-ghost use Rattle.pres_server.specs.SumTurns.{FollowsSum, turn_by, batch_by, after_commit, IsTurn};
+ghost use Rattle.pres_server.specs.SumTurns.{FollowsSum, moment_by, turn_by, batch_by, after_commit, IsTurn};
+ghost use Rattle.pres_server.specs.Groups.{state_from, MakesBatch};
+ghost use Rattle.pres_server.specs.InternalGroups.{IsGroup, IsOneOp, entry_by};
 ghost use Rattle.pres_server.specs.Histories.{IsSum};
 ghost use Rattle.pres_server.specs.Replays.{resumed};
 ghost use Rattle.pres_server.specs.BaseSums.{sum_for};
 ghost use Rattle.pres_server.specs.InternalBases.{AreLasts, parts_of};
 
+use crate::ahead::OpEffect;
 use crate::index::{Index, LogPosition, take_all};
 use crate::input::Input;
 use crate::reopen::Reopen;
@@ -26,8 +31,8 @@ use pres_base::{Base, BaseParts};
 use pres_log::{Batch, Entry, Fault, Log, LogAbove};
 use pres_retry::Row;
 use pres_tree::{Path, Tree};
-use pres_wire::{ClientId, Count, Down, Number, SessionId, Stamp};
-use pres_write::{Items, Moment};
+use pres_wire::{ClientId, Count, Down, Number, SessionId, Stamp, Up};
+use pres_write::{Items, Moment, Op};
 use std::alloc::{AllocError, Global};
 use std::marker::Model;
 
@@ -139,6 +144,18 @@ impl Server {
         ensures sum { IsSum self.now.sum }
     {
         self.batches
+    }
+
+    /// The greatest moment so far.
+    pub(crate) fn moment(&self) -> Moment
+        ensures { result ≡ self.now.sum.moment }
+    {
+        self.moment
+    }
+
+    /// What it takes memory from.
+    pub(crate) fn alloc(&self) -> Global {
+        self.alloc
     }
 
     /// The log, which stands above its number: it counts entries and batches, and lends none of them.
@@ -314,6 +331,109 @@ impl Server {
             }
             Ok(TurnEffect::Quiet(None)) => Ok(Turn::Quiet(self, none)),
             Err(fault) => Err((fault, self)),
+        }
+    }
+
+    // What the operation makes after the batches that wait, at the moment.
+    fn effect_after(
+        &self,
+        batches: &[Batch],
+        session: &SessionId,
+        q: Number,
+        n: Number,
+        op: &Op,
+        moment: Moment,
+    ) -> Option<OpEffect>
+        requires { (last : ℕ) × IsGroup self.now.sum batches.now last }
+        ensures { (now : ℕ) → moment ≡ moment_by (state_from self.now batches.now).sum now
+            → IfSome result (λ effect. turn_by (state_from self.now batches.now)
+            (input.Up (up.Op session.now q n op.now)) now
+            ≡ makes (entry_by effect session.now q n op.now ∷ [])) }
+    {
+        let number = self.number + batches.len() as u64;
+        self.index.effect_after(
+            self.alloc,
+            batches,
+            session,
+            q,
+            n,
+            op,
+            TurnTime { number, moment },
+        )
+    }
+
+    // The batch of the entry, after the batches that wait.
+    fn batch_after(
+        &self,
+        batches: &[Batch],
+        moment: Moment,
+        entry: Entry,
+        mut room: Vec<Entry>,
+    ) -> Batch
+        requires group { (last : ℕ) × IsGroup self.now.sum batches.now last }
+        requires room { (room.items ≡ []) × (1 ≤ vec_capacity room) }
+        ensures { result ≡ batch_by (state_from self.now batches.now).sum moment (entry ∷ []) }
+    {
+        let Ok(()) = room.push(entry) else {
+            unreachable!()
+        };
+        let Some(first) = Number::new(self.number + batches.len() as u64 + 1) else {
+            unreachable!()
+        };
+        Batch::new(first, moment, Items::of(room))
+    }
+
+    // The batch of an operation, or its input, which is handed back.
+    fn op_after(
+        &self,
+        batches: &[Batch],
+        session: SessionId,
+        q: Number,
+        n: Number,
+        op: Op,
+        moment: Moment,
+    ) -> Result<Batch, Input>
+        requires { (last : ℕ) × IsGroup self.now.sum batches.now last }
+        ensures batch { (now : ℕ) → moment ≡ moment_by (state_from self.now batches.now).sum now
+            → IfOk result (MakesBatch (state_from self.now batches.now)
+            (input.Up (up.Op session q n op)) now) }
+        ensures op { IfOk result (λ batch. IsOneOp batch.entries) }
+        ensures same { IfErr result (λ back. back ≡ input.Up (up.Op session q n op)) }
+    {
+        let Some(effect) = self.effect_after(batches, &session, q, n, &op, moment) else {
+            return Err(Input::Up(Up::Op { session, q, n, op }));
+        };
+        let Ok(room) = Vec::with_capacity(self.alloc, 1) else {
+            drop(effect);
+            return Err(Input::Up(Up::Op { session, q, n, op }));
+        };
+        let entry = effect.entry(session, q, n, op);
+        Ok(self.batch_after(batches, moment, entry, room))
+    }
+
+    /// The batch that the input makes after the batches that wait, of which `last` is the greatest
+    /// moment. The input is handed back where it may not wait with them: where it is no operation,
+    /// or none that makes a batch there, or where memory is refused.
+    pub(crate) fn prepare_after(
+        &self,
+        batches: &[Batch],
+        last: Moment,
+        input: Input,
+        now: Moment,
+    ) -> Result<Batch, Input>
+        requires { IsGroup self.now.sum batches.now last }
+        ensures batch { IfOk result
+            (MakesBatch (state_from self.now batches.now) input now) }
+        ensures op { IfOk result (λ batch. IsOneOp batch.entries) }
+        ensures same { IfErr result (λ back. back ≡ input) }
+    {
+        // it ensures that the moment is in range
+        let _ = now.millis();
+        match input {
+            Input::Up(Up::Op { session, q, n, op }) => {
+                self.op_after(batches, session, q, n, op, last.max(now))
+            }
+            other => Err(other),
         }
     }
 

@@ -44,7 +44,7 @@ pub(crate) struct TurnTime {
 }
 
 // Spent where no number would be left for the ends, then Full.
-fn limits(number: u64, open_count: u64) -> Result<(), Fault>
+pub(crate) fn limits(number: u64, open_count: u64) -> Result<(), Fault>
     requires number { number < 2 ^ 54 }
     requires open_count { open_count < 2 ^ 54 }
     ensures { (decision : Decision) → within number open_count decision ≡ checked result decision }
