@@ -1,5 +1,5 @@
 -- A log with one batch more.
-use Rattle.std.proofs.Common.{◌≡◌, ◌∙◌, ◌+◌, ℕ, List, [], ◌∷◌, ◌++◌, sym, ap, subst, refl}
+use Rattle.std.proofs.Common.{◌≡◌, ◌∙◌, ◌+◌, ℕ, List, [], ◌∷◌, ◌++◌, append_assoc, append-nil, sym, ap, subst, refl}
 use Rattle.pres_log.specs.declared.entry.Batch.{Batch}
 use Rattle.pres_log.specs.declared.entry.Entry.{Entry}
 use Rattle.pres_log.specs.Logs.{Log, number}
@@ -7,7 +7,7 @@ use Rattle.pres_server.specs.Sums.{Sum, nothing, sum_with, sum_from}
 use Rattle.pres_server.specs.SumTurns.{FollowsSum, FollowAll, batch_by}
 use Rattle.pres_server.proofs.Replayed.{sum_push, follow_more}
 use Rattle.pres_server.proofs.SumServers.{nothing_holds}
-use Rattle.pres_keeper.specs.Keepers.{MakesSum, HasOneNull}
+use Rattle.pres_keeper.specs.Keepers.{MakesSum, HasOneNull, FollowOn}
 use Rattle.pres_keeper.proofs.Nulls.{number_made, follower_has}
 
 -- batches that may follow one another lead to their sum
@@ -30,3 +30,20 @@ makes_turn log sum moment es b made follows is = makes_more log sum (batch_by su
 -- it may be committed
 pub may_commit : (log : Log) (sum : Sum) (b : Batch) → MakesSum log sum → FollowsSum sum b → (b.first ≡ number log + 1) × HasOneNull b.entries
 may_commit log sum b made follows = (follows.first ∙ ap (λ n. n + 1) (number_made log sum made), follower_has sum b follows)
+
+-- ---- several batches
+
+-- they lead on, one after another
+pub makes_group : (log : Log) (sum : Sum) (bs : Log) → MakesSum log sum → FollowAll sum bs → MakesSum (log ++ bs) (sum_from sum bs)
+makes_group log sum [] made follow = subst (λ l. MakesSum l sum) (sym (append-nil log)) made
+makes_group log sum (b ∷ bs) made follow =
+    let next = sum_with sum b in
+    subst (λ l. MakesSum l (sum_from next bs)) (append_assoc log (b ∷ []) bs)
+    (makes_group (log ++ b ∷ []) next bs (makes_more log sum b made follow.0) follow.1)
+
+-- and may be committed together
+pub may_commit_all : (log : Log) (sum : Sum) (bs : Log) → MakesSum log sum → FollowAll sum bs → FollowOn log bs
+may_commit_all log sum [] made follow = tt
+may_commit_all log sum (b ∷ bs) made follow =
+    let may = may_commit log sum b made follow.0 in
+    (may.0, may.1, may_commit_all (log ++ b ∷ []) (sum_with sum b) bs (makes_more log sum b made follow.0) follow.1)

@@ -85,7 +85,7 @@ number_after [] sum = let none : sum.number ≡ sum.number + 0 = omega arith in 
 number_after (e ∷ es) sum = let rest = number_after es (sum_after e sum) in omega arith
 
 -- the number of entries of a log that leads to the sum
-number_from : (log : Log) (sum : Sum) → (sum_from sum log).number ≡ sum.number + length (entries log)
+pub number_from : (log : Log) (sum : Sum) → (sum_from sum log).number ≡ sum.number + length (entries log)
 number_from [] sum = let none : sum.number ≡ sum.number + 0 = omega arith in none
 number_from (b ∷ log) sum =
     let first = number_after b.entries sum in

@@ -1,7 +1,7 @@
 -- What is kept of a server, and why no server is made of it.
-use Rattle.std.specs.Prelude.{◌≡◌, ◌⊎◌, ℕ, ◌+◌, Bool, true, false, List, ◌++◌, length, map}
+use Rattle.std.specs.Prelude.{◌≡◌, ◌⊎◌, ℕ, ◌+◌, Bool, true, false, List, [], ◌∷◌, ◌++◌, length, map}
 use Rattle.pres_log.specs.declared.entry.Entry.{Entry}
-use Rattle.pres_log.specs.Logs.{Log}
+use Rattle.pres_log.specs.Logs.{Log, number}
 use Rattle.pres_batch_json.specs.Reads.{with_one_null}
 use Rattle.pres_faults.specs.declared.saved_fault.SavedFault.{SavedFault}
 use Rattle.pres_faults.specs.declared.saved_fault.SavedFault.TheVariants.{Memory, Database, BadRow}
@@ -16,6 +16,11 @@ use Rattle.pres_server.specs.Replays.{IsFirstIllegal}
 -- no value is held as null and not as none; so it is with what a turn makes
 abbrev pub HasOneNull : List Entry → Type 0
 HasOneNull es = map with_one_null es ≡ es
+
+-- batches that may be kept after the log, one after another: each is numbered from where the one before it ends
+abbrev pub FollowOn : Log → Log → Type 0
+FollowOn log [] = Unit {0}
+FollowOn log (batch ∷ later) = (batch.first ≡ number log + 1) × HasOneNull batch.entries × FollowOn (log ++ batch ∷ []) later
 
 -- a batch that may not follow is a bad row
 abbrev pub bad_batch : ReplayFault → SavedFault

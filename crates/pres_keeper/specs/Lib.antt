@@ -2,3 +2,4 @@ pub mod Keepers
 pub mod Settlements
 pub mod Engines
 pub mod EngineTurns
+pub mod EngineGroups

@@ -20,3 +20,13 @@ log_with log busy = log ++ batch_by busy.state.sum busy.moment busy.made ∷ []
 abbrev pub KeepsUnsettled : (Log → Type 0) → Log → PendingTurn → Unsettled → Type 0
 KeepsUnsettled keeps log busy (Refused e server) = keeps log
 KeepsUnsettled keeps log busy Reopen = keeps (log_with log busy)
+
+-- the same of batches that are committed together
+abbrev pub KeepsUnsettledAll : (Log → Type 0) → Log → Log → Unsettled → Type 0
+KeepsUnsettledAll keeps log batches (Refused e server) = keeps log
+KeepsUnsettledAll keeps log batches Reopen = keeps (log ++ batches)
+
+-- what was committed outlasts the next crash, though the server went down
+abbrev pub LastsUnsettled : (Log → Type 0) → Log → Unsettled → Type 0
+LastsUnsettled outlasts log (Refused e server) = Unit {0}
+LastsUnsettled outlasts log Reopen = outlasts log

@@ -1,6 +1,11 @@
 //! A server with its keeper.
 
-ghost use Rattle.std.specs.Prelude.{◌≡◌, ◌≤◌, Some, true, IfOk, IfErr, OnOk, OnErr, MatchResult, is_some, option_copied};
+ghost use Rattle.std.specs.Prelude.{◌≡◌, ◌≤◌, ◌<◌, ◌+◌, ◌++◌, ◌∷◌, [], ℕ, List, length, Some, true, IfOk, IfErr, OnOk, OnErr, MatchResult, is_some, option_copied, vec_len, vec_capacity};
+ghost use Rattle.std.specs.VecDeque.{deque_len};
+ghost use Rattle.pres_server.specs.declared.input.Input.{Input};
+ghost use Rattle.pres_server.specs.Groups.{MakeBatches};
+ghost use Rattle.pres_keeper.specs.EngineGroups.{KeepsOn, TurnsLead, TurnsFirst, Fills, answered, refusals};
+ghost use Rattle.pres_faults.specs.declared.engine_fault.EngineFault.TheVariants as why;
 ghost use Rattle.pres_log.specs.Logs.{Log};
 ghost use Rattle.pres_server.specs.Replays.{resumed};
 ghost use Rattle.pres_server.specs.SumAnswers.{answers_by};
@@ -13,10 +18,76 @@ ghost use Rattle.pres_keeper.specs.EngineTurns.{IsTurnDone, IsTurnRefused, Makes
 ghost use Rattle.pres_faults.specs.declared.engine_fault.EngineFault.TheVariants.{Keeper as Unkept};
 
 use crate::keeper::Keeper;
-use crate::settlement::{Unsettled, settle};
-use pres_faults::EngineFault;
-use pres_server::{Busy, Down, Fault, Input, Items, Moment, Server, Turn};
+use crate::settlement::{Unsettled, settle, settle_all};
+use pres_faults::{EngineFault, SavedFault};
+use pres_server::{Busy, Down, Fault, Group, Input, Items, Moment, Server, Turn};
+use std::alloc::Global;
+use std::collections::VecDeque;
 use std::marker::Model;
+
+/// The answers of a turn among several, or why there are none.
+pub type TurnResult = Result<Items<Down>, EngineFault>;
+
+// Adds the inputs that join the group, one after another, as far as they do.
+fn fill(group: &mut Group, queue: &mut VecDeque<Input>, now: Moment)
+    ensures fills { Fills group.old queue.old.items now group.new queue.new.items }
+    ensures counted { deque_len queue.new + length group.new.batches
+        ≡ deque_len queue.old + length group.old.batches }
+{
+    'inputs: while let Some(input) = queue.pop_front() {
+        if let Err(input) = group.add(input, now) {
+            queue.push_front_reserved(input);
+            return;
+        }
+    }
+}
+
+// Adds these answers, each as a result. There is room for them.
+fn answer_all(results: &mut Vec<TurnResult>, answers: Items<Items<Down>>)
+    requires { vec_len results.old + length answers ≤ vec_capacity results.old }
+    ensures items { results.new.items ≡ results.old.items ++ answered answers }
+    ensures told { vec_len results.new ≡ vec_len results.old + length answers }
+    ensures room { vec_capacity results.old ≤ vec_capacity results.new }
+{
+    let mut rest = answers.into_vec().into_iter();
+    'answers: while let Some(outs) = rest.next() {
+        let Ok(()) = results.push(Ok(outs)) else {
+            unreachable!()
+        };
+    }
+}
+
+// Adds as many refusals of the keeper. There is room for them.
+fn refuse_all(results: &mut Vec<TurnResult>, count: usize, fault: &SavedFault)
+    requires { vec_len results.old + count ≤ vec_capacity results.old }
+    ensures items { results.new.items ≡ results.old.items ++ refusals count (why.Keeper fault.now) }
+    ensures told { vec_len results.new ≡ vec_len results.old + count }
+    ensures room { vec_capacity results.old ≤ vec_capacity results.new }
+{
+    for i in 0..count {
+        // nothing of it is read
+        let _ = i;
+        let Ok(()) = results.push(Err(EngineFault::Keeper(*fault))) else {
+            unreachable!()
+        };
+    }
+}
+
+// Adds as many refusals of an engine that went down. There is room for them.
+fn down_all(results: &mut Vec<TurnResult>, count: usize)
+    requires { vec_len results.old + count ≤ vec_capacity results.old }
+    ensures items { results.new.items ≡ results.old.items ++ refusals count why.Down }
+    ensures told { vec_len results.new ≡ vec_len results.old + count }
+    ensures room { vec_capacity results.old ≤ vec_capacity results.new }
+{
+    for i in 0..count {
+        // nothing of it is read
+        let _ = i;
+        let Ok(()) = results.push(Err(EngineFault::Down)) else {
+            unreachable!()
+        };
+    }
+}
 
 /// A server, and what keeps its batches. Contracts see the keeper, the server while there is one,
 /// and the number of the last entry that was answered.
@@ -104,6 +175,10 @@ impl<K: Keeper + Drop> Engine<K> {
         ensures durable { (log : Log) → MakesSum log busy.state.sum
             → (K.works self.old.keeper → K.keeps self.old.keeper log)
             → OnOk result (K.outlasts self.new.keeper (log_with log busy)) }
+        ensures lasts { (log : Log) → MakesSum log busy.state.sum
+            → (K.works self.old.keeper → K.keeps self.old.keeper log)
+            → IfErr result (λ e. e ≡ why.Down
+            → K.outlasts self.new.keeper (log_with log busy)) }
         ensures outlasts { (log : Log) → K.outlasts self.old.keeper log
             → K.outlasts self.new.keeper log }
     {
@@ -150,6 +225,10 @@ impl<K: Keeper + Drop> Engine<K> {
             → (K.works self.old.keeper → K.keeps self.old.keeper log)
             → MakesBatch self.old.server input now → OnOk result
             (K.outlasts self.new.keeper (log_turned log self.old.server input now)) }
+        ensures lasts { (log : Log) → IsLogOf log self.old.server
+            → (K.works self.old.keeper → K.keeps self.old.keeper log)
+            → MakesBatch self.old.server input now → IfErr result (λ e. e ≡ why.Down
+            → K.outlasts self.new.keeper (log_turned log self.old.server input now)) }
         ensures outlasts { (log : Log) → K.outlasts self.old.keeper log
             → K.outlasts self.new.keeper log }
     {
@@ -172,6 +251,127 @@ impl<K: Keeper + Drop> Engine<K> {
                 Err(EngineFault::Refused(fault))
             }
         }
+    }
+
+    // The turns of the group, committed together and then done, with the result of each. The inputs
+    // are those that made its batches.
+    fn carry_out_all(&mut self, group: Group, results: &mut Vec<TurnResult>)
+        requires kept { SomeLog (λ log. K.works self.old.keeper → K.keeps self.old.keeper log)
+            group.state.sum }
+        requires counted { self.old.number ≡ group.state.sum.number }
+        requires summed { IsSum group.state.sum }
+        requires room { vec_len results.old + length group.batches ≤ vec_capacity results.old }
+        ensures turned { (log : Log) (inputs : List Input) (now : ℕ) → MakesSum log group.state.sum
+            → MakeBatches group.state inputs now group.batches
+            → TurnsFirst (KeepsOn K.works K.keeps K.outlasts self.old.keeper self.new.keeper
+            self.new.server log) (Some group.state) log inputs results.old.items now
+            self.new.server [] results.new.items }
+        ensures told { vec_len results.new ≡ vec_len results.old + length group.batches }
+        ensures room { vec_capacity results.old ≤ vec_capacity results.new }
+        ensures rises { self.old.number ≤ self.new.number }
+        ensures worked { K.works self.new.keeper → K.works self.old.keeper }
+        ensures outlasts { (log : Log) → K.outlasts self.old.keeper log
+            → K.outlasts self.new.keeper log }
+    {
+        let count = group.batches().len();
+        match settle_all(&mut self.keeper, group) {
+            Ok((next, answers)) => {
+                self.number = next.number();
+                drop(self.server.replace(next));
+                answer_all(results, answers);
+            }
+            Err(Unsettled::Refused(fault, server)) => {
+                drop(self.server.replace(server));
+                refuse_all(results, count, &fault);
+            }
+            Err(Unsettled::Reopen) => {
+                let gone = self.server.take();
+                drop(gone);
+                down_all(results, count);
+            }
+        }
+    }
+
+    // The turn of the input alone.
+    fn turn_alone(&mut self, input: Input, now: Moment, results: &mut Vec<TurnResult>)
+        requires room { vec_len results.old < vec_capacity results.old }
+        ensures turned { (log : Log) → IsLogOf log self.old.server
+            → TurnsFirst (KeepsOn K.works K.keeps K.outlasts self.old.keeper self.new.keeper
+            self.new.server log) self.old.server log (input ∷ []) results.old.items now
+            self.new.server [] results.new.items }
+        ensures told { vec_len results.new ≡ vec_len results.old + 1 }
+        ensures room { vec_capacity results.old ≤ vec_capacity results.new }
+        ensures rises { self.old.number ≤ self.new.number }
+        ensures worked { K.works self.new.keeper → K.works self.old.keeper }
+        ensures outlasts { (log : Log) → K.outlasts self.old.keeper log
+            → K.outlasts self.new.keeper log }
+    {
+        let result = self.turn(input, now);
+        let Ok(()) = results.push(result) else {
+            unreachable!()
+        };
+    }
+
+    // The turns of the first input and of those after it that share its commit, with their results.
+    fn turn_some(&mut self, queue: &mut VecDeque<Input>, now: Moment, results: &mut Vec<TurnResult>)
+        requires some { 0 < deque_len queue.old }
+        requires room { vec_len results.old + deque_len queue.old ≤ vec_capacity results.old }
+        ensures turned { (log : Log) → IsLogOf log self.old.server
+            → TurnsFirst (KeepsOn K.works K.keeps K.outlasts self.old.keeper self.new.keeper
+            self.new.server log) self.old.server log queue.old.items results.old.items now
+            self.new.server queue.new.items results.new.items }
+        ensures fewer { deque_len queue.new < deque_len queue.old }
+        ensures room { vec_len results.new + deque_len queue.new ≤ vec_capacity results.new }
+        ensures rises { self.old.number ≤ self.new.number }
+        ensures worked { K.works self.new.keeper → K.works self.old.keeper }
+        ensures outlasts { (log : Log) → K.outlasts self.old.keeper log
+            → K.outlasts self.new.keeper log }
+    {
+        let Some(input) = queue.pop_front() else {
+            unreachable!()
+        };
+        let Some(server) = self.server.take() else {
+            return self.turn_alone(input, now, results);
+        };
+        let mut group = Group::new(server);
+        if let Err(input) = group.add(input, now) {
+            drop(self.server.replace(group.abandon()));
+            return self.turn_alone(input, now, results);
+        }
+        fill(&mut group, queue, now);
+        self.carry_out_all(group, results);
+    }
+
+    /// Does what the inputs ask for, one after another, at the later of the given moment and the
+    /// greatest one so far: the result of each is that of `turn`, between the server before it and
+    /// the one after it. Operations that follow one another share a commit, up to `MOST_IN_GROUP` of
+    /// them, and none is answered before it. Where such a commit is refused, nothing is changed, and
+    /// each of its turns is refused with the keeper's fault. The inputs are handed back, with nothing
+    /// done, where memory for the results is refused.
+    pub fn turn_all(
+        &mut self,
+        alloc: Global,
+        inputs: Vec<Input>,
+        now: Moment,
+    ) -> Result<Items<TurnResult>, Vec<Input>>
+        ensures turned { (log : Log) → IsLogOf log self.old.server → IfOk result
+            (TurnsLead (KeepsOn K.works K.keeps K.outlasts self.old.keeper self.new.keeper
+            self.new.server log) self.old.server log inputs.items now self.new.server) }
+        ensures back { IfErr result (λ back. back.items ≡ inputs.items) }
+        ensures unchanged { OnErr result (self.new ≡ self.old) }
+        ensures rises { self.old.number ≤ self.new.number }
+        ensures worked { K.works self.new.keeper → K.works self.old.keeper }
+        ensures outlasts { (log : Log) → K.outlasts self.old.keeper log
+            → K.outlasts self.new.keeper log }
+    {
+        let Ok(mut results) = Vec::with_capacity(alloc, inputs.len()) else {
+            return Err(inputs);
+        };
+        let mut queue = VecDeque::from_vec(inputs);
+        'turns: while !queue.is_empty() {
+            self.turn_some(&mut queue, now, &mut results);
+        }
+        Ok(Items::of(results))
     }
 
     /// The number of the last entry that was answered. When the engine is down, it is the one from

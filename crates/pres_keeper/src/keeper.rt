@@ -1,10 +1,9 @@
 //! What keeps the batches of a server.
 
 ghost use Rattle.std.specs.Prelude.{◌≡◌, ◌⊎◌, ◌+◌, ◌++◌, ◌∷◌, [], false, is_ok, OnOk, OnErr, IfOk, IfErr};
-ghost use Rattle.pres_log.specs.declared.entry.Batch.{Batch as Logged};
 ghost use Rattle.pres_log.specs.Logs.{Log, number};
 ghost use Rattle.pres_server.specs.Replays.{resumed};
-ghost use Rattle.pres_keeper.specs.Keepers.{Readable, BeginsWith, whole, HasOneNull, IsOfStore, IsUnread, IsNoServer, MakesSum, SomeLog, bad_batch};
+ghost use Rattle.pres_keeper.specs.Keepers.{Readable, BeginsWith, whole, HasOneNull, IsOfStore, IsUnread, IsNoServer, MakesSum, SomeLog, FollowOn, bad_batch};
 
 use pres_faults::SavedFault;
 use pres_ids::Count;
@@ -36,14 +35,14 @@ pub trait Keeper {
     // It holds exactly the batches of this log.
     ghost keeps: { Self → Log → Type 0 };
 
-    // The batch was added to its store, in the form in which the store saves it.
-    ghost stores: { Self → Logged → Self → Type 0 };
+    // These batches were added to its store, in the form in which the store saves them.
+    ghost stores: { Self → Log → Self → Type 0 };
 
     // Its store was shut when a call began, and gave back what was written until the call ended.
     ghost shut: { Self → Self → Type 0 };
 
-    // What a crash may leave in the middle of the commit of a batch after this log.
-    ghost leaves: { Self → Log → Logged → Self → Type 0 };
+    // What a crash may leave in the middle of the commit of these batches after this log.
+    ghost leaves: { Self → Log → Log → Self → Type 0 };
 
     // What can be read of what an opening may find after a crash at this moment, where the store gave
     // back what was written.
@@ -65,13 +64,13 @@ pub trait Keeper {
             → batch.now.first ≡ number log + 1 → HasOneNull batch.now.entries
             → OnOk result (keeps self.new (log ++ batch.now ∷ [])) }
         ensures stored { ready self.old → works self.new
-            → OnOk result (stores self.old batch.now self.new) }
+            → OnOk result (stores self.old (batch.now ∷ []) self.new) }
         ensures err { (log : Log) → ready self.old → works self.new → keeps self.old log
             → OnErr result (keeps self.new log) }
         ensures fault { IfErr result IsOfStore }
         ensures crash { (log : Log) → ready self.old → keeps self.old log
             → batch.now.first ≡ number log + 1 → HasOneNull batch.now.entries
-            → leaves self.old log batch.now self.new }
+            → leaves self.old log (batch.now ∷ []) self.new }
         ensures found { (log : Log) → ready self.old → (works self.old → keeps self.old log)
             → batch.now.first ≡ number log + 1 → HasOneNull batch.now.entries
             → (held : Readable) → may_find self.new held
@@ -79,6 +78,31 @@ pub trait Keeper {
         ensures durable { (log : Log) → ready self.old → (works self.old → keeps self.old log)
             → batch.now.first ≡ number log + 1 → HasOneNull batch.now.entries
             → OnOk result (outlasts self.new (log ++ batch.now ∷ [])) }
+        ensures outlasts { (log : Log) → ready self.old → outlasts self.old log
+            → outlasts self.new log };
+
+    /// Adds the batches in their order, for good, all of them or none: once the call returns,
+    /// whatever a crash leaves has them, also a crash in a later call. Memory or Database: a refusal
+    /// leaves the batches as they were, as long as the store works; after a crash they are found
+    /// without these or with all of them. A store that was shut refuses everything.
+    fn commit_all(&mut self, batches: &[Batch]) -> Result<(), SavedFault>
+        ensures ready { ready self.old → ready self.new }
+        ensures worked { ready self.old → works self.new → works self.old }
+        ensures shut { ready self.old → shut self.old self.new → is_ok result ≡ false }
+        ensures ok { (log : Log) → ready self.old → works self.new → keeps self.old log
+            → FollowOn log batches.now → OnOk result (keeps self.new (log ++ batches.now)) }
+        ensures stored { ready self.old → works self.new
+            → OnOk result (stores self.old batches.now self.new) }
+        ensures err { (log : Log) → ready self.old → works self.new → keeps self.old log
+            → OnErr result (keeps self.new log) }
+        ensures fault { IfErr result IsOfStore }
+        ensures crash { (log : Log) → ready self.old → keeps self.old log
+            → FollowOn log batches.now → leaves self.old log batches.now self.new }
+        ensures found { (log : Log) → ready self.old → (works self.old → keeps self.old log)
+            → FollowOn log batches.now → (held : Readable) → may_find self.new held
+            → may_find self.old held ⊎ (held ≡ whole (log ++ batches.now)) }
+        ensures durable { (log : Log) → ready self.old → (works self.old → keeps self.old log)
+            → FollowOn log batches.now → OnOk result (outlasts self.new (log ++ batches.now)) }
         ensures outlasts { (log : Log) → ready self.old → outlasts self.old log
             → outlasts self.new log };
 

@@ -8,10 +8,10 @@ mod memory;
 mod settlement;
 mod supposed;
 
-pub use engine::Engine;
+pub use engine::{Engine, TurnResult};
 pub use keeper::{Keeper, bad_batch};
 pub use memory::MemKeeper;
 pub use pres_faults::{EngineFault, SavedFault};
 pub use pres_server::{Fault, Input};
-pub use settlement::{Unsettled, settle};
+pub use settlement::{Unsettled, settle, settle_all};
 pub use supposed::{Premise, Supposed};

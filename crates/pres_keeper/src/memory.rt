@@ -1,12 +1,12 @@
 //! A keeper in memory.
 
-ghost use Rattle.std.specs.Prelude.{◌≡◌, []};
+ghost use Rattle.std.specs.Prelude.{◌≡◌, [], IfOk};
 
 use crate::keeper::{Keeper, bad_batch};
 use pres_faults::SavedFault;
 use pres_log::Batch;
 use pres_server::Server;
-use std::alloc::Global;
+use std::alloc::{AllocError, Global};
 use std::marker::Model;
 
 /// Batches in memory. They last as long as the process: a crash ends both, and leaves nothing to
@@ -25,6 +25,17 @@ impl Model for MemKeeper {
     ghost view = { λ k. k.batches.items };
 }
 
+// Equal batches.
+fn copy_all(alloc: Global, batches: &[Batch]) -> Result<Vec<Batch>, AllocError>
+    ensures { IfOk result (λ copies. copies.items ≡ batches.now) }
+{
+    let mut copies = Vec::new(alloc);
+    for batch in batches {
+        copies.push(batch.copy(alloc)?)?;
+    }
+    Ok(copies)
+}
+
 impl MemKeeper {
     /// No batches. It takes no memory.
     pub fn new(alloc: Global) -> MemKeeper
@@ -38,7 +49,7 @@ impl MemKeeper {
 }
 
 impl Keeper for MemKeeper {
-    ghost use Rattle.std.specs.Prelude.{◌≡◌, ◌++◌, ◌∷◌, [], ⊤};
+    ghost use Rattle.std.specs.Prelude.{◌≡◌, ◌++◌, ⊤};
     ghost use Rattle.std.proofs.Common.{ap};
     ghost use Rattle.pres_log.specs.Logs.{Log};
     ghost use Rattle.pres_keeper.specs.Keepers.{whole};
@@ -47,7 +58,7 @@ impl Keeper for MemKeeper {
 
     ghost keeps = { λ kept log. kept ≡ log };
 
-    ghost stores = { λ old batch new. new ≡ old ++ batch ∷ [] };
+    ghost stores = { λ old batches new. new ≡ old ++ batches };
 
     ghost ready = { λ _. ⊤ };
 
@@ -72,12 +83,18 @@ impl Keeper for MemKeeper {
         Ok(())
     }
 
+    fn commit_all(&mut self, batches: &[Batch]) -> Result<(), SavedFault> {
+        // they are copied first, so that all of them are added or none
+        let mut copies = copy_all(self.alloc, batches)?;
+        let Ok(()) = self.batches.append(&mut copies) else {
+            drop(copies);
+            return Err(SavedFault::Memory);
+        };
+        Ok(())
+    }
+
     fn batches(&mut self) -> Result<Vec<Batch>, SavedFault> {
-        let mut copies = Vec::new(self.alloc);
-        for batch in &self.batches {
-            copies.push(batch.copy(self.alloc)?)?;
-        }
-        Ok(copies)
+        Ok(copy_all(self.alloc, &self.batches)?)
     }
 
     fn server(&mut self) -> Result<Server, SavedFault> {

@@ -1,15 +1,16 @@
 //! A turn that is kept before it is done.
 
-ghost use Rattle.std.specs.Prelude.{◌≡◌, IfOk, IfErr, OnOk};
+ghost use Rattle.std.specs.Prelude.{◌≡◌, ◌∷◌, ◌++◌, [], IfOk, IfErr, OnOk};
 ghost use Rattle.pres_log.specs.Logs.{Log};
 ghost use Rattle.pres_server.specs.SumAnswers.{answers_by};
 ghost use Rattle.pres_server.specs.SumTurns.{after_commit, batch_by};
 ghost use Rattle.pres_keeper.specs.Keepers.{MakesSum};
-ghost use Rattle.pres_keeper.specs.Settlements.{IsUnsettled, KeepsUnsettled, log_with};
+ghost use Rattle.pres_server.specs.Groups.{server_after, answers_each};
+ghost use Rattle.pres_keeper.specs.Settlements.{IsUnsettled, KeepsUnsettled, KeepsUnsettledAll, LastsUnsettled, log_with};
 
 use crate::keeper::Keeper;
 use pres_faults::SavedFault;
-use pres_server::{Busy, Down, Items, Server};
+use pres_server::{Busy, Down, Group, Items, Server};
 
 /// Why a turn isn't done.
 #[derive(Drop)]
@@ -43,10 +44,13 @@ pub fn settle<K: Keeper>(keeper: &mut K, busy: Busy) -> Result<(Server, Items<Do
     ensures worked { K.ready keeper.old → K.works keeper.new → K.works keeper.old }
     ensures crash { (log : Log) → MakesSum log busy.state.sum → K.ready keeper.old
         → K.keeps keeper.old log → K.leaves keeper.old log
-        (batch_by busy.state.sum busy.moment busy.made) keeper.new }
+        (batch_by busy.state.sum busy.moment busy.made ∷ []) keeper.new }
     ensures durable { (log : Log) → MakesSum log busy.state.sum → K.ready keeper.old
         → (K.works keeper.old → K.keeps keeper.old log)
         → OnOk result (K.outlasts keeper.new (log_with log busy)) }
+    ensures lasts { (log : Log) → MakesSum log busy.state.sum → K.ready keeper.old
+        → (K.works keeper.old → K.keeps keeper.old log)
+        → IfErr result (LastsUnsettled (K.outlasts keeper.new) (log_with log busy)) }
     ensures outlasts { (log : Log) → K.ready keeper.old → K.outlasts keeper.old log
         → K.outlasts keeper.new log }
 {
@@ -56,5 +60,48 @@ pub fn settle<K: Keeper>(keeper: &mut K, busy: Busy) -> Result<(Server, Items<Do
             Err(_) => Err(Unsettled::Reopen),
         },
         Err(fault) => Err(Unsettled::Refused(fault, busy.abandon())),
+    }
+}
+
+/// Gives the batches of the group to the keeper, all or none, and then does its turns: the result is
+/// the server after them, and the answers of each, of which none goes out before all batches are
+/// kept. So a log that leads to the server's sum and that the keeper holds does both with the
+/// batches appended, and whatever a crash leaves from then on begins with it. Where the keeper
+/// refuses, nothing is changed.
+pub fn settle_all<K: Keeper>(
+    keeper: &mut K,
+    group: Group,
+) -> Result<(Server, Items<Items<Down>>), Unsettled>
+    ensures server { IfOk result (λ done. done.0 ≡ server_after group) }
+    ensures answers { IfOk result
+        (λ done. done.1 ≡ answers_each group.state.sum group.batches) }
+    ensures leads { (log : Log) → MakesSum log group.state.sum
+        → IfOk result (λ done. MakesSum (log ++ group.batches) done.0.sum) }
+    ensures kept { (log : Log) → MakesSum log group.state.sum → K.ready keeper.old
+        → K.works keeper.new → K.keeps keeper.old log
+        → OnOk result (K.keeps keeper.new (log ++ group.batches)) }
+    ensures undone { IfErr result (IsUnsettled group.state) }
+    ensures refused { (log : Log) → MakesSum log group.state.sum → K.ready keeper.old
+        → K.works keeper.new → K.keeps keeper.old log
+        → IfErr result (KeepsUnsettledAll (K.keeps keeper.new) log group.batches) }
+    ensures ready { K.ready keeper.old → K.ready keeper.new }
+    ensures worked { K.ready keeper.old → K.works keeper.new → K.works keeper.old }
+    ensures crash { (log : Log) → MakesSum log group.state.sum → K.ready keeper.old
+        → K.keeps keeper.old log → K.leaves keeper.old log group.batches keeper.new }
+    ensures durable { (log : Log) → MakesSum log group.state.sum → K.ready keeper.old
+        → (K.works keeper.old → K.keeps keeper.old log)
+        → OnOk result (K.outlasts keeper.new (log ++ group.batches)) }
+    ensures lasts { (log : Log) → MakesSum log group.state.sum → K.ready keeper.old
+        → (K.works keeper.old → K.keeps keeper.old log)
+        → IfErr result (LastsUnsettled (K.outlasts keeper.new) (log ++ group.batches)) }
+    ensures outlasts { (log : Log) → K.ready keeper.old → K.outlasts keeper.old log
+        → K.outlasts keeper.new log }
+{
+    match keeper.commit_all(group.batches()) {
+        Ok(()) => match group.done() {
+            Ok(done) => Ok(done),
+            Err(_) => Err(Unsettled::Reopen),
+        },
+        Err(fault) => Err(Unsettled::Refused(fault, group.abandon())),
     }
 }

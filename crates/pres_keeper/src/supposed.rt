@@ -77,11 +77,11 @@ impl<K: Keeper, P: Premise> Keeper for Supposed<K, P> {
 
     ghost keeps = { λ kept log. K.keeps kept log };
 
-    ghost stores = { λ old batch new. K.stores old batch new };
+    ghost stores = { λ old batches new. K.stores old batches new };
 
     ghost shut = { λ old new. P.holds × K.shut old new };
 
-    ghost leaves = { λ old log batch new. P.holds → K.leaves old log batch new };
+    ghost leaves = { λ old log batches new. P.holds → K.leaves old log batches new };
 
     ghost may_find = { λ kept held. P.holds × K.may_find kept held };
 
@@ -94,6 +94,10 @@ impl<K: Keeper, P: Premise> Keeper for Supposed<K, P> {
 
     fn commit(&mut self, batch: &Batch) -> Result<(), SavedFault> {
         self.keeper.commit(batch)
+    }
+
+    fn commit_all(&mut self, batches: &[Batch]) -> Result<(), SavedFault> {
+        self.keeper.commit_all(batches)
     }
 
     fn batches(&mut self) -> Result<Vec<Batch>, SavedFault> {

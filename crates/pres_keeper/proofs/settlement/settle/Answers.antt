@@ -8,7 +8,7 @@ use Rattle.pres_keeper.proofs.settlement.settle.Goals as goal
 pub returns-in-Err-clause-crash : goal.returns-in-Err-clause-crash
 returns-in-Err-clause-crash g c = λ log makes ready keeps.
     let may = may_commit log c.args.busy.state.sum c.batch.result.now makes c.batch.ensures.follows in
-    subst (λ b. g.K.Keeper.leaves c.args.keeper.now log b c.commit.new.self) c.batch.ensures.made (c.commit.ensures.crash log ready keeps may.0 may.1)
+    subst (λ b. g.K.Keeper.leaves c.args.keeper.now log (b ∷ []) c.commit.new.self) c.batch.ensures.made (c.commit.ensures.crash log ready keeps may.0 may.1)
 
 pub returns-in-Ok-done-clause-leads : goal.returns-in-Ok-done-clause-leads
 returns-in-Ok-done-clause-leads g c = λ log makes.
@@ -23,7 +23,7 @@ returns-in-Ok-done-clause-kept g c = λ log makes ready works keeps.
 pub returns-in-Ok-done-clause-crash : goal.returns-in-Ok-done-clause-crash
 returns-in-Ok-done-clause-crash g c = λ log makes ready keeps.
     let may = may_commit log c.args.busy.state.sum c.batch.result.now makes c.batch.ensures.follows in
-    subst (λ b. g.K.Keeper.leaves c.args.keeper.now log b c.commit.new.self) c.batch.ensures.made (c.commit.ensures.crash log ready keeps may.0 may.1)
+    subst (λ b. g.K.Keeper.leaves c.args.keeper.now log (b ∷ []) c.commit.new.self) c.batch.ensures.made (c.commit.ensures.crash log ready keeps may.0 may.1)
 
 pub returns-in-Ok-done-clause-durable : goal.returns-in-Ok-done-clause-durable
 returns-in-Ok-done-clause-durable g c = λ log makes ready keeps.
@@ -38,4 +38,9 @@ returns-in-Err-done-clause-refused g c = λ log makes ready works keeps.
 pub returns-in-Err-done-clause-crash : goal.returns-in-Err-done-clause-crash
 returns-in-Err-done-clause-crash g c = λ log makes ready keeps.
     let may = may_commit log c.args.busy.state.sum c.batch.result.now makes c.batch.ensures.follows in
-    subst (λ b. g.K.Keeper.leaves c.args.keeper.now log b c.commit.new.self) c.batch.ensures.made (c.commit.ensures.crash log ready keeps may.0 may.1)
+    subst (λ b. g.K.Keeper.leaves c.args.keeper.now log (b ∷ []) c.commit.new.self) c.batch.ensures.made (c.commit.ensures.crash log ready keeps may.0 may.1)
+
+pub returns-in-Err-done-clause-lasts : goal.returns-in-Err-done-clause-lasts
+returns-in-Err-done-clause-lasts g c = λ log makes ready keeps.
+    let may = may_commit log c.args.busy.state.sum c.batch.result.now makes c.batch.ensures.follows in
+    subst (λ b. g.K.Keeper.outlasts c.commit.new.self (log ++ b ∷ [])) c.batch.ensures.made (c.in-Ok.ensures.durable log ready keeps may.0 may.1)
