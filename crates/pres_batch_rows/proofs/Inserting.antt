@@ -34,10 +34,11 @@ use Rattle.sqlite.specs.State.{State, HasCleanDisk, mode_of, Executes, ExecutesI
 use Rattle.sqlite_resolve.specs.declared.compiled.Compiled.{Compiled}
 use Rattle.std.proofs.lemmas.Bool.{cases_Bool}
 use Rattle.sqlite.proofs.Callers.{IsPlain, command_of, statement_of, runs_as, one_step}
-use Rattle.pres_batch_rows.specs.Schemas.{batch, saved_schema}
-use Rattle.pres_batch_rows.specs.RowContents.{RowContent, stored, rows_in, AreBelow}
-use Rattle.pres_batch_rows.specs.TableStates.{HasOurTables, CanTake, IsIdle, Awaits, AddsRow, IsLeft, Lasts, Outlasts}
+use Rattle.pres_batch_rows.specs.Schemas.{batch, checkpoint_schema}
+use Rattle.pres_batch_rows.specs.RowContents.{RowContent, stored, rows_in, checkpoints_in, AreBelow}
+use Rattle.pres_batch_rows.specs.TableStates.{HasThreeTables, CanTake, IsIdle, Awaits, AddsRow, Holds, IsLeft, Lasts, Outlasts}
 use Rattle.pres_batch_rows.proofs.Statements.{insert_text, terms, insert_is, insert_plain}
+use Rattle.pres_batch_rows.proofs.Formats.{first_two, idle_saved, numbered_push, awaits_left}
 use Rattle.sqlite_value.proofs.OrderLemmas.{value_cmp_total}
 use Rattle.sqlite_schema.specs.declared.command.Command.TheVariants.{Select, InsertOr, Update, Delete, CreateTable, CreateIndex, DropTable, DropIndex, Begin, Commit, Rollback, Savepoint, Release, RollbackTo, Nothing, CreateView, DropView, Rows}
 use Rattle.sqlite_schema.specs.declared.command.Returning.{Returning}
@@ -95,12 +96,14 @@ nothing_works schema keys depth tree news =
     none_flat (λ child. filter_map (work_for schema keys depth tree [] news child) child.references) schema.tables (λ child.
     none_filtered (work_for schema keys depth tree [] news child) child.references (λ ref. no_work depth tree child ref _ _))
 
-pub does_insert : (limit : Option ℕ) (mode : Mode) (k : ℕ) (b : RowContent) (db after : Database) (text : List ℕ) (tally : Tally) → HasOurTables db.schema
-    → Does limit mode (params_for k b) db text None (Insert 1 (Values terms 4)) (Ok (tally, after)) → (after.schema ≡ db.schema) × (after.trees 2 ≡ put_row (stored k b) (db.trees 2))
+-- the row is put, and the rows of the other two tables are kept
+pub does_insert : (limit : Option ℕ) (mode : Mode) (k : ℕ) (b : RowContent) (db after : Database) (text : List ℕ) (tally : Tally) → HasThreeTables db.schema
+    → Does limit mode (params_for k b) db text None (Insert 1 (Values terms 4)) (Ok (tally, after))
+    → (after.schema ≡ db.schema) × (after.trees 2 ≡ put_row (stored k b) (db.trees 2)) × (after.trees 3 ≡ db.trees 3) × (after.trees 0 ≡ db.trees 0)
 does_insert limit mode k b db after text tally has does =
     let params = params_for k b in
     let trees = db.trees in
-    let schema : Schema = record db.schema { tables = saved_schema.tables ++ has.others } in
+    let schema : Schema = record db.schema { tables = checkpoint_schema.tables ++ has.others } in
     let table : Table = record batch { tree = 2 } in
     let done = went (subst (λ tables. Does limit mode params (record db { schema = record db.schema { tables = tables } }) text None (Insert 1 (Values terms 4)) (Ok (tally, after))) has.tables does) in
     let now = ap (λ (p : Tally × Database). p.1) (same_value (went (went done.2).2).2) in
@@ -108,11 +111,17 @@ does_insert limit mode k b db after text tally has does =
     let written = went (went given.2).2 in
     let counted = went written.2 in
     let ends : done.0.trees ≡ written.0 = ap (λ (it : Written). it.trees) (same_value counted.2) ∙ same_value counted.1 in
-    let rows = (one_step schema _ trees written.0 (edit_of trees table [] Chosen 0 given.0) (nothing_works schema mode.keys 0 2 (edit_of trees table [] Chosen 0 given.0).news) written.1).rows in
-    let edit : edited trees (edit_of trees table [] Chosen 0 given.0) ≡ put_row (stored k b) (trees 2) = ap (λ all. edited trees (edit_of trees table [] Chosen 0 all)) given.1.1 ∙ rw (cast_null, cast_int (pos k), cast_int (pos b.moment)) in
-    (ap (λ (d : Database). d.schema) now ∙ ap (λ tables. let s : Schema = record db.schema { tables = tables } in s) (sym has.tables), ap (λ (d : Database). d.trees 2) now ∙ ap (λ (t : Trees). t 2) ends ∙ rows ∙ edit)
+    let applied = one_step schema _ trees written.0 (edit_of trees table [] Chosen 0 given.0) (nothing_works schema mode.keys 0 2 (edit_of trees table [] Chosen 0 given.0).news) written.1 in
+    let kept = applied.tables in
+    let is : after.trees ≡ written.0 = ap (λ (d : Database). d.trees) now ∙ ends in
+    let edit : edited trees (edit_of trees table [] Chosen 0 given.0) ≡ put_row (stored k b) (trees 2) = ap (λ all. edited trees (edit_of trees table [] Chosen 0 all)) given.1.1 ∙ rw (cast_null, cast_int (pos k), cast_int (pos b.moment)) in (
+      ap (λ (d : Database). d.schema) now ∙ ap (λ tables. let s : Schema = record db.schema { tables = tables } in s) (sym has.tables),
+      ap (λ (t : Trees). t 2) is ∙ applied.rows ∙ edit,
+      ap (λ (t : Trees). t 3) is ∙ kept.1.1.0 (λ e. omega (arith, e)),
+      ap (λ (t : Trees). t 0) is ∙ kept.0 (λ e. omega (arith, e)),
+    )
 
-put_above : (k : ℕ) (b : RowContent) (rows : List Row) → AreBelow k rows → put_row (stored k b) rows ≡ rows ++ stored k b ∷ []
+pub put_above : (k : ℕ) (b : RowContent) (rows : List Row) → AreBelow k rows → put_row (stored k b) rows ≡ rows ++ stored k b ∷ []
 put_above k b [] h = refl
 put_above k b (r ∷ rows) h = rw (h.0) (ap (λ l. r ∷ l) (put_above k b rows h.1))
 
@@ -152,12 +161,15 @@ pub commits : (old new : State) (k : ℕ) (b : RowContent) (count : ℕ) → IsI
 commits old new k b count idle h =
     let was_open = open_if_executed old new insert_text (params_for k b) count idle.alone h in
     let can = idle.ready was_open in
-    let has = can.ours.schema in
+    let three = can.ours.tables in
+    let has = first_two old.now.schema three in
     let schema = old.now.schema in
     let w = runs_as insert_text (params_for k b) old new schema refl _ (insert_is schema has) (insert_plain schema has) count h in
-    let made = does_insert old.step_limit (mode_of old) k b old.now new.now (statement_of insert_text (understood schema insert_text)) w.tally has w.changed in
+    let made = does_insert old.step_limit (mode_of old) k b old.now new.now (statement_of insert_text (understood schema insert_text)) w.tally three w.changed in
     record {
       rows = made.1 ∙ put_above k b (rows_in old) can.below;
+      base = made.2;
+      format = made.3;
       schema = made.0;
       committed = rw idle.alone at w.shown.committed_is;
       mode = w.shown.mode ∙ idle.alone;
@@ -210,21 +222,29 @@ left_later old held new settled alone first after =
 
 -- ---- a crash
 
+-- these rows, beside the same checkpoint in the same format
+abbrev Beside : State → List Row → Trees → Type 0
+Beside s rows db = (db 2 ≡ rows) × (db 3 ≡ checkpoints_in s) × (db 0 ≡ s.now.trees 0)
+
 may_leave : (s : State) (k : ℕ) (b : RowContent) (db : Trees) (text : List ℕ) → CanTake s k → MayCommit s None (Insert 1 (Values terms 4)) text (params_for k b) db
-    → db 2 ≡ rows_in s ++ stored k b ∷ []
+    → Beside s (rows_in s ++ stored k b ∷ []) db
 may_leave s k b db text can (inl (inl is, e)) = absurd (let x = is in cc)
 may_leave s k b db text can (inl (inr named, e)) = absurd (let x = named.2 in cc)
 may_leave s k b db text can (inr may) =
-    let made = does_insert s.step_limit (mode_of s) k b s.now may.2 text may.1 can.ours.schema may.3 in
-    ap (λ (t : Trees). t 2) may.5 ∙ made.1 ∙ put_above k b (rows_in s) can.below
+    let made = does_insert s.step_limit (mode_of s) k b s.now may.2 text may.1 can.ours.tables may.3 in (
+      ap (λ (t : Trees). t 2) may.5 ∙ made.1 ∙ put_above k b (rows_in s) can.below,
+      ap (λ (t : Trees). t 3) may.5 ∙ made.2,
+      ap (λ (t : Trees). t 0) may.5 ∙ made.3,
+    )
 
 -- what a crash may leave other than the rows before
-leaves : (s : State) (k : ℕ) (b : RowContent) (db : Trees) → CanTake s k → CommitsBy insert_text (params_for k b) s db → db 2 ≡ rows_in s ++ stored k b ∷ []
+leaves : (s : State) (k : ℕ) (b : RowContent) (db : Trees) → CanTake s k → CommitsBy insert_text (params_for k b) s db → Beside s (rows_in s ++ stored k b ∷ []) db
 unfolding CommitsBy
 leaves s k b db can h =
+    let has = first_two s.now.schema can.ours.tables in
     let known = sym h.1.is in
-    let bare = subst IsPlain (sym known) (insert_plain s.now.schema can.ours.schema) in
-    let command : h.0.command ≡ Insert 1 (Values terms 4) = ap command_of known ∙ insert_is s.now.schema can.ours.schema in
+    let bare = subst IsPlain (sym known) (insert_plain s.now.schema has) in
+    let command : h.0.command ≡ Insert 1 (Values terms 4) = ap command_of known ∙ insert_is s.now.schema has in
     may_leave s k b db (text_of insert_text h.0) can (rw (bare.0, bare.1, append-nil (params_for k b), command) at h.2)
 
 -- ---- what is kept from call to call
@@ -233,7 +253,7 @@ below_more : (k : ℕ) (rows : List Row) → AreBelow k rows → AreBelow (k + 1
 below_more k [] h = tt
 below_more k (r ∷ rows) h = (value_cmp_total.trans (rowid r) (Int (pos k)) (Int (pos (k + 1))) h.0 (below k (k + 1) (omega arith)), below_more k rows h.1)
 
-below_push : (k : ℕ) (b : RowContent) (rows : List Row) → AreBelow k rows → AreBelow (k + 1) (rows ++ stored k b ∷ [])
+pub below_push : (k : ℕ) (b : RowContent) (rows : List Row) → AreBelow k rows → AreBelow (k + 1) (rows ++ stored k b ∷ [])
 below_push k b [] h = (below k (k + 1) (omega arith), tt)
 below_push k b (r ∷ rows) h = (value_cmp_total.trans (rowid r) (Int (pos k)) (Int (pos (k + 1))) h.0 (below k (k + 1) (omega arith)), below_push k b rows h.1)
 
@@ -242,38 +262,22 @@ all_push : (v : Value) (k : ℕ) (b : RowContent) (rows : List Row) → value_cm
 all_push v k b [] less h = (less, tt)
 all_push v k b (r ∷ rows) less h = (h.0, all_push v k b rows less h.1)
 
-rising_push : (k : ℕ) (b : RowContent) (rows : List Row) → AreBelow k rows → IsTable rows → IsTable (rows ++ stored k b ∷ [])
+pub rising_push : (k : ℕ) (b : RowContent) (rows : List Row) → AreBelow k rows → IsTable rows → IsTable (rows ++ stored k b ∷ [])
 rising_push k b [] h rising = (tt, tt)
 rising_push k b (r ∷ rows) h rising = (all_push (rowid r) k b rows h.0 rising.0, rising_push k b rows h.1 rising.1)
 
 pub awaits_more : (old new : State) (k : ℕ) (b : RowContent) → IsIdle old k → AddsRow old new k b → IsIdle new (k + 1)
 awaits_more old new k b idle adds =
     let can = idle.ready adds.was_open in
-    record {
-      alone = adds.mode;
-      ready = λ _. record {
-        ours = record { schema = subst HasOurTables (sym adds.schema) can.ours.schema; rising = rw adds.rows (rising_push k b (rows_in old) can.below can.ours.rising) };
-        below = rw adds.rows (below_push k b (rows_in old) can.below);
-      };
-    }
-
-pub awaits_left : (old new : State) (k : ℕ) → IsIdle old k → IsLeft old new → IsIdle new k
-awaits_left old new k idle left = record {
-  alone = left.mode;
-  ready = λ live.
-      let same = left.same live in
-      let can = idle.ready same.was_open in
-      record {
-        ours = record { schema = subst (λ (d : Database). HasOurTables d.schema) (sym same.now) can.ours.schema; rising = subst (λ (d : Database). IsTable (d.trees 2)) (sym same.now) can.ours.rising };
-        below = subst (λ (d : Database). AreBelow k (d.trees 2)) (sym same.now) can.below;
-      };
-}
+    let two = can.ours in
+    idle_saved old new (checkpoints_in old) (rows_in old ++ stored k b ∷ []) (k + 1) two adds (rising_push k b (rows_in old) can.below two.rising) (numbered_push k b (rows_in old) two.numbered) two.base_numbered
+    (below_push k b (rows_in old) can.below)
 
 -- ---- the row is added where the statement was understood
 
 -- what a crash may leave in addition to what it left before: the rows with one more, and only where the store was open
 abbrev pub WithRow : State → ℕ → RowContent → Trees → Type 0
-WithRow s k b db = IsTrue s.is_open × (db 2 ≡ rows_in s ++ stored k b ∷ [])
+WithRow s k b = Holds s (checkpoints_in s) (rows_in s ++ stored k b ∷ [])
 
 module _ (old mid new : State) (k : ℕ) (b : RowContent) (awaits : Awaits old k) (first : Survives old mid (λ _. ⊥)) (same : HasCleanDisk mid → IsUnchanged old mid) (settled : old.in_transaction ≡ false → IsTrue old.is_open → old.now ≡ old.committed) where
   idle_then : HasCleanDisk mid → IsIdle mid k
@@ -288,6 +292,8 @@ module _ (old mid new : State) (k : ℕ) (b : RowContent) (awaits : Awaits old k
       let now = (same clean).0.now_is in
       record {
         rows = adds.rows ∙ ap (λ (d : Database). d.trees 2 ++ stored k b ∷ []) now;
+        base = adds.base ∙ ap (λ (d : Database). d.trees 3) now;
+        format = adds.format ∙ ap (λ (d : Database). d.trees 0) now;
         schema = adds.schema ∙ ap (λ (d : Database). d.schema) now;
         committed = adds.committed;
         mode = adds.mode;
@@ -305,7 +311,12 @@ module _ (old mid new : State) (k : ℕ) (b : RowContent) (awaits : Awaits old k
       survives_then old mid new _ _ (WithRow old k b) (λ _ db none. absurd none) (λ clean db may.
       let early : HasCleanDisk mid = omega (arith, two.clean, clean) in
       let stays = (same early).0 in
-      (stays.was_open, leaves mid k b db ((idle_then early).ready stays.is_open) may ∙ ap (λ (d : Database). d.trees 2 ++ stored k b ∷ []) stays.now_is)) first two
+      let left = leaves mid k b db ((idle_then early).ready stays.is_open) may in (
+        stays.was_open,
+        left.0 ∙ ap (λ (d : Database). d.trees 2 ++ stored k b ∷ []) stays.now_is,
+        left.1 ∙ ap (λ (d : Database). d.trees 3) stays.now_is,
+        left.2 ∙ ap (λ (d : Database). d.trees 0) stays.now_is,
+      )) first two
 
 -- ---- what a crash leaves after it
 
@@ -313,11 +324,12 @@ pub lasts : (old new : State) (k : ℕ) (b : RowContent) → ((db : Trees) → I
 lasts old new k b settled adds db may = settled db adds.is_open may ∙ ap (λ (d : Database). d.trees) adds.committed
 
 pub outlasts : (old new : State) (k : ℕ) (b : RowContent) → (IsTrue old.is_open → old.may_leave old.committed.trees) → (IsTrue old.is_open → old.now ≡ old.committed) → Survives old new (WithRow old k b) → HasCleanDisk new
-    → (rows : List Row) → Outlasts rows old → Outlasts rows new
-outlasts old new k b stays settled kept clean rows last db may = elim (kept.crash clean db may) [
+    → (base rows : List Row) → Outlasts base rows old → Outlasts base rows new
+outlasts old new k b stays settled kept clean base rows last db may = elim (kept.crash clean db may) [
   | inl before ↦ last db before
   | inr more ↦
       let it = last old.committed.trees (stays more.0) in
       let now : rows_in old ≡ rows ++ it.0 = ap (λ (d : Database). d.trees 2) (settled more.0) ∙ it.1 in
-      (it.0 ++ stored k b ∷ [], more.1 ∙ ap (λ all. all ++ stored k b ∷ []) now ∙ append_assoc rows it.0 (stored k b ∷ []))
+      let kept_base : checkpoints_in old ≡ base = ap (λ (d : Database). d.trees 3) (settled more.0) ∙ it.2 in
+      (it.0 ++ stored k b ∷ [], more.1 ∙ ap (λ all. all ++ stored k b ∷ []) now ∙ append_assoc rows it.0 (stored k b ∷ []), more.2 ∙ kept_base)
 ]

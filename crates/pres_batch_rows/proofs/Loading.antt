@@ -13,7 +13,7 @@ use Rattle.sqlite_keyed.proofs.SortLemmas.{sorted_unique}
 use Rattle.sqlite_keyed.proofs.ListLemmas.{map-map, ascending-map, ascending_weaker}
 use Rattle.sqlite.specs.State.{State, Shown, Begins}
 use Rattle.sqlite.proofs.Callers.{reads_as, begins_as}
-use Rattle.pres_batch_rows.specs.TableStates.{IsOurs}
+use Rattle.pres_batch_rows.specs.TableStates.{HoldsBatches}
 use Rattle.pres_batch_rows.specs.RowContents.{RowContent, shown_rows, saved_row, saved_from, rows_then, front_from, front_then}
 use Rattle.pres_batch_rows.proofs.Statements.{select_text, query, select_is, select_plain}
 
@@ -40,13 +40,13 @@ answer_is s rows sorted a =
     a.shown ∙ ap (λ xs. page query [] (map (λ (o : Output). o.1) xs)) ordered ∙ map-map (λ (o : Output). o.1) out all
 
 -- all rows
-pub loads : (old new : State) (rows : List Row) → IsOurs old → Shown select_text [] old new rows → rows ≡ shown_rows old
+pub loads : (old new : State) (rows : List Row) → HoldsBatches old → Shown select_text [] old new rows → rows ≡ shown_rows old
 loads old new rows ours h =
     let got = reads_as select_text [] old new old.now.schema refl _ (select_is old.now.schema ours.schema).0 (select_plain old.now.schema ours.schema) (select_is old.now.schema ours.schema).1 rows h in
     answer_is old rows ours.rising (got.answer Null)
 
 -- the rows that were given so far are the first
-pub begins : (s : State) (rows : List Row) → IsOurs s → Begins select_text [] s rows → (tail : List Row) × (rows ++ tail ≡ shown_rows s)
+pub begins : (s : State) (rows : List Row) → HoldsBatches s → Begins select_text [] s rows → (tail : List Row) × (rows ++ tail ≡ shown_rows s)
 begins s rows ours h =
     let got = begins_as select_text [] s s s.now.schema refl _ (select_is s.now.schema ours.schema).0 (select_plain s.now.schema ours.schema) (select_is s.now.schema ours.schema).1 rows h in
     (got.1.0, answer_is s (rows ++ got.1.0) ours.rising (got.1.1 Null))

@@ -23,6 +23,7 @@ use Rattle.sqlite.proofs.Callers.{IsPlain}
 use Rattle.sqlite.proofs.StateLemmas.{survives_weaker}
 use Rattle.pres_batch_rows.specs.TableOpening.{format_text}
 use Rattle.pres_batch_rows.proofs.Statements.{select_text}
+use Rattle.pres_batch_rows.proofs.CheckpointStatements.{base_text}
 
 -- the text is a SELECT that doesn't read the time
 abbrev pub IsSelect : Checked Parsed → Type 0
@@ -32,6 +33,10 @@ IsSelect (Err e) = ⊥
 pub rows_are_read : IsSelect (first select_text)
 unfolding everything
 rows_are_read = (_, refl, refl)
+
+pub base_is_read : IsSelect (first base_text)
+unfolding everything
+base_is_read = (_, refl, refl)
 
 pub format_is_read : IsSelect (first format_text)
 unfolding everything
@@ -94,7 +99,7 @@ module _ (text : List ℕ) (is : IsSelect (first text)) where
   show_same old new c params rows None none h = h.3
   show_same old new c params rows (Some what) none h = absurd (cc)
 
-  shown_same : (old new : State) (rows : List Row) → Shown text [] old new rows → IsUnchanged old new
+  pub shown_same : (old new : State) (rows : List Row) → Shown text [] old new rows → IsUnchanged old new
   unfolding Shown
   shown_same old new rows h = show_same old new h.0 _ rows h.0.returning (subst IsPlainIfAny h.1.is (plain_any old.now.schema text is)).0 h.2
 

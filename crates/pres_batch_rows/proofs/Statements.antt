@@ -14,9 +14,9 @@ use Rattle.sqlite.specs.Collation.TheVariants.{Binary}
 use Rattle.sqlite_tied.specs.Compute.{everything}
 use Rattle.sqlite.specs.Listing.{understood, reads_listing}
 use Rattle.sqlite.proofs.Callers.{IsPlain, command_of, statement_of}
-use Rattle.pres_batch_rows.specs.TableCreation.{meta_text, batch_text, set_format_text}
+use Rattle.pres_batch_rows.specs.TableCreation.{meta_text, batch_text, checkpoint_text, set_format_text}
 use Rattle.pres_batch_rows.specs.TableStates.{HasOurTables}
-use Rattle.pres_batch_rows.specs.Schemas.{meta, batch, no_schema, meta_schema, saved_schema}
+use Rattle.pres_batch_rows.specs.Schemas.{meta, batch, no_schema, meta_schema, saved_schema, checkpoint_schema}
 
 abbrev pub insert_text : List ℕ
 insert_text = codes "INSERT INTO batch(k, moment, body) VALUES(?1, ?2, ?3)"
@@ -97,7 +97,11 @@ pub create_batch_is : (command_of (understood meta_schema batch_text) ≡ Create
 unfolding understood everything
 create_batch_is = (refl, refl)
 
-pub set_format_is : command_of (understood saved_schema set_format_text) ≡ Insert 0 (Values set_format_terms 3)
+pub create_checkpoint_is : (command_of (understood saved_schema checkpoint_text) ≡ CreateTable) × (statement_of checkpoint_text (understood saved_schema checkpoint_text) ≡ checkpoint_text)
+unfolding understood everything
+create_checkpoint_is = (refl, refl)
+
+pub set_format_is : command_of (understood checkpoint_schema set_format_text) ≡ Insert 0 (Values set_format_terms 3)
 unfolding understood everything
 set_format_is = refl
 
@@ -109,6 +113,10 @@ pub batch_plain : IsPlain (understood meta_schema batch_text)
 unfolding understood everything
 batch_plain = (refl, refl)
 
-pub set_format_plain : IsPlain (understood saved_schema set_format_text)
+pub checkpoint_plain : IsPlain (understood saved_schema checkpoint_text)
+unfolding understood everything
+checkpoint_plain = (refl, refl)
+
+pub set_format_plain : IsPlain (understood checkpoint_schema set_format_text)
 unfolding understood everything
 set_format_plain = (refl, refl)

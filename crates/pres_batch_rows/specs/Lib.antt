@@ -3,4 +3,6 @@ pub mod RowContents
 pub mod TableStates
 pub mod RowIteration
 pub mod TableCreation
+pub mod Migrations
 pub mod TableOpening
+pub mod SavedCheckpoints

@@ -1,5 +1,5 @@
--- What the rows of the table batch save.
-use Rattle.std.specs.Prelude.{◌≡◌, ◌+◌, ◌==◌, ◌&&◌, nat_le, if◌then◌else◌, List, [], ◌∷◌, map, Option, Some, None, Result, Ok, Err, ℕ, pos, string_bytes}
+-- What the rows of the tables batch and checkpoint save.
+use Rattle.std.specs.Prelude.{◌≡◌, ◌≤◌, ◌+◌, ◌==◌, ◌&&◌, nat_le, if◌then◌else◌, List, [], ◌∷◌, map, Option, Some, None, Result, Ok, Err, ℕ, pos, codes, string_bytes}
 use Rattle.std.specs.Str.{is_utf8}
 use Rattle.std.specs.List.{AllByRecursion}
 use Rattle.std.specs.declared.cmp.Ordering.TheVariants.{Less}
@@ -19,13 +19,30 @@ pub record RowContent : Type 0 where
 abbrev pub saved_of : SavedRow → RowContent
 saved_of row = record { moment = row.moment; body = string_bytes row.body }
 
+-- its moment is one of those that there are
+abbrev pub HasMoment : RowContent → Type 0
+HasMoment s = s.moment ≤ last_moment
+
 -- the row with a number as it is stored: the number, the place of the column k, the moment and the text
 abbrev pub stored : ℕ → RowContent → Row
 stored k s = Int (pos k) ∷ Null ∷ Int (pos s.moment) ∷ Text s.body ∷ []
 
+-- the rows of these, numbered from this number on
+abbrev pub stored_from : ℕ → List RowContent → List Row
+stored_from k [] = []
+stored_from k (s ∷ more) = stored k s ∷ stored_from (k + 1) more
+
 -- the rows of the table batch
 abbrev pub rows_in : State → List Row
 rows_in s = s.now.trees 2
+
+-- the rows of the table checkpoint
+abbrev pub checkpoints_in : State → List Row
+checkpoints_in s = s.now.trees 3
+
+-- the row of the table meta, in its first place, with a format
+abbrev pub row_of_format : ℕ → Row
+row_of_format n = Int (pos 1) ∷ Text (codes "format") ∷ Int (pos n) ∷ []
 
 -- a row as the statement that reads all rows shows it: k, moment, body
 abbrev pub shown_row : Row → Row
@@ -33,6 +50,9 @@ shown_row row = column row 0 ∷ column row 2 ∷ column row 3 ∷ []
 
 abbrev pub shown_rows : State → List Row
 shown_rows s = map shown_row (rows_in s)
+
+abbrev pub shown_base : State → List Row
+shown_base s = map shown_row (checkpoints_in s)
 
 -- each row has a number below this one
 abbrev pub AreBelow : ℕ → List Row → Type 0
@@ -69,8 +89,9 @@ abbrev pub saved_from : ℕ → List Row → Result (List RowContent) ℕ
 saved_from due [] = Ok []
 saved_from due (row ∷ more) = rows_then due (saved_row due row) (saved_from (due + 1) more)
 
-abbrev pub saved_rows : List Row → Result (List RowContent) ℕ
-saved_rows = saved_from 1
+-- the same of the rows behind this many batches
+abbrev pub saved_rows : ℕ → List Row → Result (List RowContent) ℕ
+saved_rows behind = saved_from (behind + 1)
 
 abbrev pub front_then : Option RowContent → List RowContent → List RowContent
 front_then None more = []
@@ -81,5 +102,5 @@ abbrev pub front_from : ℕ → List Row → List RowContent
 front_from due [] = []
 front_from due (row ∷ more) = front_then (saved_row due row) (front_from (due + 1) more)
 
-abbrev pub saved_front : List Row → List RowContent
-saved_front = front_from 1
+abbrev pub saved_front : ℕ → List Row → List RowContent
+saved_front behind = front_from (behind + 1)

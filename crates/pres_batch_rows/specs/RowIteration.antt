@@ -36,13 +36,14 @@ module _ {T : Type 0} (takes : T → RowContent → T → Type 0) (refuses : T �
     pub refused : refuses mid row e new
 
   -- all rows before the first bad one were taken, and the fault names its number
-  pub record MeetsBadRow (shown : List Row) (old new : T) (e : SavedFault) : Type 0 where
+  pub record MeetsBadRow (behind : ℕ) (shown : List Row) (old new : T) (e : SavedFault) : Type 0 where
     pub k : ℕ
-    pub bad : saved_rows shown ≡ Err k
+    pub bad : saved_rows behind shown ≡ Err k
     pub why : e ≡ BadRow k
-    pub taken : TakesAll takes (saved_front shown) old new
+    pub taken : TakesAll takes (saved_front behind shown) old new
 
-  abbrev pub GoesOver : List Row → T → T → Result (Unit {0}) SavedFault → Type 0
-  GoesOver shown old new (Ok _) = (saved_rows shown ≡ Ok (saved_front shown)) × TakesAll takes (saved_front shown) old new
-  GoesOver shown old new (Err e) =
-      MeetsBadRow shown old new e ⊎ (IsRefused (saved_front shown) old new e ⊎ StopsEarly (saved_front shown) old new e)
+  -- the rows behind this many batches were given in turn
+  abbrev pub GoesOver : ℕ → List Row → T → T → Result (Unit {0}) SavedFault → Type 0
+  GoesOver behind shown old new (Ok _) = (saved_rows behind shown ≡ Ok (saved_front behind shown)) × TakesAll takes (saved_front behind shown) old new
+  GoesOver behind shown old new (Err e) =
+      MeetsBadRow behind shown old new e ⊎ (IsRefused (saved_front behind shown) old new e ⊎ StopsEarly (saved_front behind shown) old new e)

@@ -1,21 +1,19 @@
 -- What making the tables leaves, and how it is refused.
-use Rattle.std.specs.Prelude.{◌≡◌, ◌⊎◌, ℕ, List, [], ◌∷◌, true, false, Result, Ok, Err, pos, codes, IsTrue}
+use Rattle.std.specs.Prelude.{◌≡◌, ◌⊎◌, ℕ, List, [], ◌∷◌, true, false, Result, Ok, Err, codes, IsTrue}
 use Rattle.sqlite.specs.Store.{Ghosts}
 use Rattle.sqlite.specs.Tree.{Trees}
 use Rattle.sqlite.specs.declared.error.Error.{Error}
 use Rattle.sqlite.specs.declared.error.Error.TheVariants.{SqliteFailure, SqlInputError}
 use Rattle.sqlite_resolve.specs.declared.error.CompileError.TheVariants.{Exists}
 use Rattle.sqlite.specs.declared.error.ErrorCode.TheVariants.{NameTaken}
-use Rattle.sqlite.specs.declared.types.Value.TheVariants.{Int, Text}
-use Rattle.sqlite.specs.Order.{Row}
 use Rattle.sqlite.specs.State.{State, ExecutesInside}
 use Rattle.sqlite.specs.Steps.{FailsToCommit}
 use Rattle.sqlite.specs.Held.{Held, state}
 use Rattle.pres_faults.specs.declared.saved_fault.SavedFault.{SavedFault}
 use Rattle.pres_faults.specs.declared.saved_fault.SavedFault.TheVariants.{NotOurs}
 use Rattle.pres_faults.specs.SavedFaults.{fault_of}
-use Rattle.pres_batch_rows.specs.Schemas.{saved_schema}
-use Rattle.pres_batch_rows.specs.RowContents.{rows_in}
+use Rattle.pres_batch_rows.specs.Schemas.{checkpoint_schema}
+use Rattle.pres_batch_rows.specs.RowContents.{rows_in, checkpoints_in, row_of_format}
 
 abbrev pub meta_text : List ℕ
 meta_text = codes "CREATE TABLE meta(name TEXT PRIMARY KEY, value INTEGER NOT NULL)"
@@ -23,25 +21,28 @@ meta_text = codes "CREATE TABLE meta(name TEXT PRIMARY KEY, value INTEGER NOT NU
 abbrev pub batch_text : List ℕ
 batch_text = codes "CREATE TABLE batch(k INTEGER PRIMARY KEY, moment INTEGER NOT NULL, body TEXT NOT NULL)"
 
+abbrev pub checkpoint_text : List ℕ
+checkpoint_text = codes "CREATE TABLE checkpoint(k INTEGER PRIMARY KEY, moment INTEGER NOT NULL, body TEXT NOT NULL)"
+
 abbrev pub set_format_text : List ℕ
 set_format_text = codes "INSERT INTO meta(name, value) VALUES('format', 1)"
 
--- the row of the table meta, in its first place
-abbrev pub format_row : Row
-format_row = Int (pos 1) ∷ Text (codes "format") ∷ Int (pos 1) ∷ []
+abbrev pub raise_text : List ℕ
+raise_text = codes "UPDATE meta SET value = 2 WHERE name = 'format'"
 
--- both tables, committed: no saved row, and the format 1
+-- the three tables, committed: no saved row, no checkpoint, and the format 2
 pub record IsMade (s : State) : Type 0 where
-  pub schema : s.now.schema ≡ saved_schema
+  pub schema : s.now.schema ≡ checkpoint_schema
   pub rows : rows_in s ≡ []
-  pub format : s.now.trees 0 ≡ format_row ∷ []
+  pub base : checkpoints_in s ≡ []
+  pub format : s.now.trees 0 ≡ row_of_format 2 ∷ []
   pub committed : s.committed ≡ s.now
   pub is_open : IsTrue s.is_open
   pub mode : s.in_transaction ≡ false
 
 -- the same of what a crash leaves
 abbrev pub HoldsFormat : Trees → Type 0
-HoldsFormat db = (db 2 ≡ []) × (db 0 ≡ format_row ∷ [])
+HoldsFormat db = (db 2 ≡ []) × (db 3 ≡ []) × (db 0 ≡ row_of_format 2 ∷ [])
 
 -- a name that is taken is another's table
 abbrev pub making_fault : Error → SavedFault
@@ -63,17 +64,23 @@ module _ {S : Type 0} (g : Ghosts S) where
   abbrev pub begun : Held S → Held S
   begun old = record old { in_transaction = true }
 
-  -- in one transaction, what the three statements leave is committed
+  -- the tables are made, one after the other
+  abbrev pub CarriesTables : Held S → (Held S → Type 0) → Type 0
+  CarriesTables from Next = Carries meta_text from (λ one. Carries batch_text one (λ two. Carries checkpoint_text two Next))
+
+  -- in one transaction, what the five statements leave is committed
   abbrev pub Makes : Held S → State → Type 0
   Makes old new =
-      Carries meta_text (begun old) (λ one. Carries batch_text one (λ two. Carries set_format_text two (λ three.
-      (new.now ≡ (state g three).now) × (new.committed ≡ (state g three).now))))
+      CarriesTables (begun old) (λ three. Carries set_format_text three (λ four. Carries raise_text four (λ five.
+      (new.now ≡ (state g five).now) × (new.committed ≡ (state g five).now))))
 
   -- one of the statements is refused after those before it were carried out, or the commit is
   abbrev pub FailsToMake : Held S → Error → Type 0
   FailsToMake old e =
       Refuses meta_text e (begun old)
       ⊎ (Carries meta_text (begun old) (Refuses batch_text e)
-      ⊎ (Carries meta_text (begun old) (λ one. Carries batch_text one (Refuses set_format_text e))
-      ⊎ Carries meta_text (begun old) (λ one. Carries batch_text one (λ two. Carries set_format_text two (λ three.
-      (to : Held S) × FailsToCommit (state g three) (state g to) e)))))
+      ⊎ (Carries meta_text (begun old) (λ one. Carries batch_text one (Refuses checkpoint_text e))
+      ⊎ (CarriesTables (begun old) (Refuses set_format_text e)
+      ⊎ (CarriesTables (begun old) (λ three. Carries set_format_text three (Refuses raise_text e))
+      ⊎ CarriesTables (begun old) (λ three. Carries set_format_text three (λ four. Carries raise_text four (λ five.
+      (to : Held S) × FailsToCommit (state g five) (state g to) e)))))))

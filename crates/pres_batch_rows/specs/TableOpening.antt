@@ -1,14 +1,19 @@
 -- How the tables are found.
-use Rattle.std.specs.Prelude.{◌≡◌, ◌≢◌, ◌⊎◌, ℕ, ◌+◌, false, max, List, [], ◌∷◌, Some, unwrap_or, Ok, Err, codes}
+use Rattle.std.specs.Prelude.{◌≡◌, ◌≢◌, ◌⊎◌, ℕ, ◌+◌, false, max, List, [], ◌∷◌, Option, Some, None, unwrap_or, Ok, Err, codes}
 use Rattle.sqlite.specs.declared.error.Error.{Error}
 use Rattle.sqlite.specs.declared.error.Error.TheVariants.{SqlInputError, QueryReturnedNoRows}
 use Rattle.sqlite.specs.Order.{Row, column}
-use Rattle.sqlite.specs.State.{State, QueriesRow}
+use Rattle.sqlite.specs.Store.{Ghosts}
+use Rattle.sqlite.specs.Held.{Held, state}
+use Rattle.sqlite.specs.Tree.{Trees}
+use Rattle.sqlite.specs.State.{State, QueriesRow, IsUnchanged}
 use Rattle.pres_faults.specs.declared.saved_fault.SavedFault.{SavedFault}
-use Rattle.pres_faults.specs.declared.saved_fault.SavedFault.TheVariants.{NotOurs, Version}
+use Rattle.pres_faults.specs.declared.saved_fault.SavedFault.TheVariants.{Memory, Database, NotOurs, Version}
 use Rattle.pres_faults.specs.SavedFaults.{fault_of}
-use Rattle.pres_batch_rows.specs.RowContents.{rows_in, shown_rows, whole_of, AreBelow}
-use Rattle.pres_batch_rows.specs.TableStates.{IsSame}
+use Rattle.pres_batch_rows.specs.RowContents.{rows_in, shown_rows, shown_base, whole_of, AreBelow}
+use Rattle.pres_batch_rows.specs.TableStates.{IsSame, IsOfFormatOne, IsOfFormatTwo}
+use Rattle.pres_batch_rows.specs.TableCreation.{making_fault}
+use Rattle.pres_batch_rows.specs.Migrations.{IsMigrated, HoldsFormatTwo, Migrates, FailsToMigrate}
 
 abbrev pub format_text : List ℕ
 format_text = codes "SELECT value FROM meta WHERE name = 'format'"
@@ -19,24 +24,60 @@ format_fault (SqlInputError e) = NotOurs
 format_fault QueryReturnedNoRows = NotOurs
 format_fault e = fault_of e
 
--- the database answers with the format 1
-abbrev pub HasFormat : State → State → Type 0
-HasFormat old new = (row : Row) × QueriesRow format_text [] old new (Ok row) × (whole_of (column row 0) ≡ Some 1)
+-- the database answers with this format
+abbrev pub HasFormat : ℕ → State → State → Type 0
+HasFormat n old new = (row : Row) × QueriesRow format_text [] old new (Ok row) × (whole_of (column row 0) ≡ Some n)
 
--- it answers with another format, or it doesn't answer
+-- it answers with a format other than 1 and 2, or it doesn't answer
 abbrev pub LacksFormat : State → State → SavedFault → Type 0
 LacksFormat old new e =
-    ((e ≡ Version) × (row : Row) × QueriesRow format_text [] old new (Ok row) × (whole_of (column row 0) ≢ Some 1))
+    ((e ≡ Version) × (row : Row) × QueriesRow format_text [] old new (Ok row) × (whole_of (column row 0) ≢ Some 1) × (whole_of (column row 0) ≢ Some 2))
     ⊎ ((why : Error) × QueriesRow format_text [] old new (Err why) × (e ≡ format_fault why))
+
+-- ---- the number of the last row
 
 -- the greatest number of the shown rows, where one below 0 counts as 0; 0 without rows
 abbrev pub greatest_in : List Row → ℕ
 greatest_in [] = 0
 greatest_in (row ∷ more) = max (unwrap_or (whole_of (column row 0)) 0) (greatest_in more)
 
--- the rows as they are, and the number of the last one
+-- the same, none without rows
+abbrev pub last_of : List Row → Option ℕ
+last_of [] = None
+last_of (row ∷ more) = Some (greatest_in (row ∷ more))
+
+-- that of the rows, or without rows that of the checkpoint
+abbrev pub last_in : List Row → List Row → ℕ
+last_in base rows = unwrap_or (last_of rows) (greatest_in base)
+
+-- ---- the opening
+
+-- the database of format 2 is as it was, or that of format 1 is brought to format 2
+abbrev pub IsKept : State → State → Type 0
+IsKept old new = (IsOfFormatTwo old.now × IsSame old new) ⊎ (IsOfFormatOne old.now × IsMigrated old new)
+
+-- the tables of format 2, and the number of the last row
 pub record IsFound (old new : State) (n : ℕ) : Type 0 where
-  pub same : IsSame old new
+  pub kept : IsKept old new
   pub mode : new.in_transaction ≡ false
-  pub last : n ≡ greatest_in (shown_rows old)
-  pub below : AreBelow (n + 1) (rows_in old)
+  pub last : n ≡ last_in (shown_base new) (shown_rows new)
+  pub below : AreBelow (n + 1) (rows_in new)
+
+-- In whatever database: where it answers with the format 2 it stays as it was, and where with 1 it is what the statements
+-- of the migration leave.
+module _ {S : Type 0} (g : Ghosts S) where
+  abbrev pub OpensAs : Held S → State → Type 0
+  OpensAs old new =
+      ((mid : Held S) × HasFormat 2 (state g old) (state g mid) × IsSame (state g old) new)
+      ⊎ ((mid : Held S) × HasFormat 1 (state g old) (state g mid) × (later : Held S) × IsUnchanged (state g old) (state g later) × Migrates g later new)
+
+  -- it lacks the format, or the migration is refused, or memory or the database is
+  abbrev pub FailsToOpen : Held S → SavedFault → Type 0
+  FailsToOpen old e =
+      ((mid : Held S) × LacksFormat (state g old) (state g mid) e)
+      ⊎ (((mid : Held S) × HasFormat 1 (state g old) (state g mid) × (later : Held S) × IsUnchanged (state g old) (state g later) × (why : Error) × FailsToMigrate g later why × (e ≡ making_fault why))
+      ⊎ ((e ≡ Memory) ⊎ (e ≡ Database)))
+
+  -- what a crash in the middle leaves besides what it left before: where the format is 1, tables of ours in format 2
+  abbrev pub OpeningLeaves : Held S → Trees → Type 0
+  OpeningLeaves old db = (mid : Held S) × HasFormat 1 (state g old) (state g mid) × (IsOfFormatOne (state g old).now → HoldsFormatTwo (state g old) db)

@@ -1,15 +1,19 @@
 -- What a table keeps, and what its calls leave.
-use Rattle.std.specs.Prelude.{◌≡◌, ℕ, ◌+◌, false, List, [], ◌∷◌, ◌++◌, IsTrue, refl}
+use Rattle.std.specs.Prelude.{◌≡◌, ◌≢◌, ◌⊎◌, ℕ, ◌+◌, false, List, [], ◌∷◌, ◌++◌, IfSome, IsTrue, refl}
+use Rattle.std.specs.List.{AllByRecursion}
 use Rattle.std.specs.Coded.{Coded, code_by, coded×, coded_ℕ}
 use Rattle.sqlite.specs.Store.{Ghosts}
 use Rattle.sqlite.specs.Order.{Row}
-use Rattle.sqlite.specs.Tree.{IsTable, Trees}
+use Rattle.sqlite.specs.Tree.{IsTable, Trees, rowid}
 use Rattle.sqlite.specs.Schema.{Schema}
 use Rattle.sqlite.specs.Table.{Table}
+use Rattle.sqlite.specs.Effect.{Database}
 use Rattle.sqlite.specs.State.{State, HasCleanDisk}
 use Rattle.sqlite.specs.Held.{Held, held_code, state}
-use Rattle.pres_batch_rows.specs.Schemas.{saved_schema}
-use Rattle.pres_batch_rows.specs.RowContents.{RowContent, stored, rows_in, AreBelow}
+use Rattle.sqlite_trees.specs.View.{is_int}
+use Rattle.sqlite_schema.specs.Rules.{parent_key}
+use Rattle.pres_batch_rows.specs.Schemas.{saved_schema, checkpoint_schema}
+use Rattle.pres_batch_rows.specs.RowContents.{RowContent, stored, stored_from, row_of_format, rows_in, checkpoints_in, AreBelow}
 
 -- the connection, and the number of the last row
 pub record TableState (S : Type 0) : Type 0 where
@@ -20,20 +24,58 @@ abbrev pub kept_code : {S : Type 0} → Coded S → Coded (TableState S)
 kept_code {S} store =
     code_by (Held S × ℕ) (coded× (held_code store) coded_ℕ) (λ t. (t.connection, t.last)) (λ p. record { connection = p.0; last = p.1 }) (λ _. refl)
 
--- The tables with our names are those of the statements. They come first, since the statements create them where they
+-- ---- the tables
+
+-- The tables meta and batch are those of the statements. They come first, since the statements create them where they
 -- don't exist; any other tables, indexes and views may follow.
 pub record HasOurTables (schema : Schema) : Type 0 where
   pub others : List Table
   pub tables : schema.tables ≡ saved_schema.tables ++ others
 
--- the tables are ours, and the rows rise by their numbers as in each table
-pub record IsOurs (s : State) : Type 0 where
+-- the table of the batches is ours, and its rows rise by their numbers as in each table
+pub record HoldsBatches (s : State) : Type 0 where
   pub schema : HasOurTables s.now.schema
   pub rising : IsTable (rows_in s)
 
--- the tables are ours, and this number comes after those of all rows
+-- each row has a whole number for its number, as in each table of SQLite
+abbrev pub AreNumbered : List Row → Type 0
+AreNumbered = AllByRecursion (λ r. IsTrue (is_int (rowid r)))
+
+-- no table refers to this one by a foreign key
+abbrev pub IsUnreferred : List Table → ℕ → Type 0
+IsUnreferred all tree = AllByRecursion (λ t. AllByRecursion (λ ref. IfSome (parent_key all ref) (λ key. key.0 ≢ tree)) t.references) all
+
+-- The three tables of format 2 come first, whatever follows, and no table refers to the two whose rows are deleted.
+pub record HasThreeTables (schema : Schema) : Type 0 where
+  pub others : List Table
+  pub tables : schema.tables ≡ checkpoint_schema.tables ++ others
+  pub unreferred : IsUnreferred schema.tables 2
+  pub base_unreferred : IsUnreferred schema.tables 3
+
+-- The tables are the two of format 1, and no others. The rows of the batches rise by their numbers.
+pub record IsOfFormatOne (db : Database) : Type 0 where
+  pub schema : db.schema ≡ saved_schema
+  pub format : db.trees 0 ≡ row_of_format 1 ∷ []
+  pub rising : IsTable (db.trees 2)
+  pub numbered : AreNumbered (db.trees 2)
+
+-- The tables are those of format 2. The rows of the batches rise by their numbers.
+pub record IsOfFormatTwo (db : Database) : Type 0 where
+  pub tables : HasThreeTables db.schema
+  pub format : db.trees 0 ≡ row_of_format 2 ∷ []
+  pub rising : IsTable (db.trees 2)
+  pub numbered : AreNumbered (db.trees 2)
+  pub base_numbered : AreNumbered (db.trees 3)
+
+-- the tables are ours, of format 1 or 2
+abbrev pub IsOurs : Database → Type 0
+IsOurs db = IsOfFormatOne db ⊎ IsOfFormatTwo db
+
+-- ---- between the calls
+
+-- the tables are those of format 2, and this number comes after those of all rows
 pub record CanTake (s : State) (k : ℕ) : Type 0 where
-  pub ours : IsOurs s
+  pub ours : IsOfFormatTwo s.now
   pub below : AreBelow k (rows_in s)
 
 -- no transaction is open, and while the store is, the row with this number may come
@@ -48,14 +90,30 @@ Awaits s k = HasCleanDisk s → IsIdle s k
 abbrev pub Serves : {S : Type 0} → Ghosts S → TableState S → Type 0
 Serves g t = Awaits (state g t.connection) (t.last + 1)
 
--- one row more, which is committed
-pub record AddsRow (old new : State) (k : ℕ) (saved : RowContent) : Type 0 where
-  pub rows : rows_in new ≡ rows_in old ++ stored k saved ∷ []
+-- ---- what the calls leave
+
+-- this checkpoint and these rows, in the same format, and all of it committed
+pub record IsSaved (old new : State) (kept all : List Row) : Type 0 where
+  pub rows : rows_in new ≡ all
+  pub base : checkpoints_in new ≡ kept
+  pub format : new.now.trees 0 ≡ old.now.trees 0
   pub schema : new.now.schema ≡ old.now.schema
   pub committed : new.committed ≡ new.now
   pub mode : new.in_transaction ≡ false
   pub was_open : IsTrue old.is_open
   pub is_open : IsTrue new.is_open
+
+-- these rows more, in their order, beside the same checkpoint
+abbrev pub AddsRows : State → State → ℕ → List RowContent → Type 0
+AddsRows old new k all = IsSaved old new (checkpoints_in old) (rows_in old ++ stored_from k all)
+
+-- one row more
+abbrev pub AddsRow : State → State → ℕ → RowContent → Type 0
+AddsRow old new k saved = AddsRows old new k (saved ∷ [])
+
+-- the checkpoint alone, and no row
+abbrev pub IsCheckpointed : State → State → ℕ → RowContent → Type 0
+IsCheckpointed old new k saved = IsSaved old new (stored k saved ∷ []) []
 
 -- the database is as it was
 pub record IsSame (old new : State) : Type 0 where
@@ -70,10 +128,18 @@ pub record IsLeft (old new : State) : Type 0 where
 
 -- ---- what a crash leaves
 
+-- this checkpoint and these rows, in the same format, and only where the store was open
+abbrev pub Holds : State → List Row → List Row → Trees → Type 0
+Holds s base rows db = IsTrue s.is_open × (db 2 ≡ rows) × (db 3 ≡ base) × (db 0 ≡ s.now.trees 0)
+
 -- what a crash leaves is the database as it is shown
 abbrev pub Lasts : State → Type 0
 Lasts s = (db : Trees) → s.may_leave db → db ≡ s.now.trees
 
--- whatever a crash leaves begins with these rows
-abbrev pub Outlasts : List Row → State → Type 0
-Outlasts rows s = (db : Trees) → s.may_leave db → (more : List Row) × (db 2 ≡ rows ++ more)
+-- whatever a crash leaves has this checkpoint, and begins with these rows
+abbrev pub Outlasts : List Row → List Row → State → Type 0
+Outlasts base rows s = (db : Trees) → s.may_leave db → (more : List Row) × (db 2 ≡ rows ++ more) × (db 3 ≡ base)
+
+-- what is shown is one of what a crash may leave
+abbrev pub MayStay : State → Type 0
+MayStay s = IsTrue s.is_open → s.may_leave s.now.trees

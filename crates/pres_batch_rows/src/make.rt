@@ -10,7 +10,8 @@ use pres_faults::SavedFault;
 use sqlite::{Alter, Connection, Error, ErrorCode};
 use sqlite_resolve::CompileError;
 
-// Makes both tables and the row of the format, in one transaction.
+// Makes the three tables and the row of the format, in one transaction. The format is set to 1 and
+// then to 2, as where tables of format 1 are found.
 pub(crate) fn make<S: Alter>(connection: &mut Connection<S>) -> Result<(), Error>
     requires { connection.old.in_transaction ≡ false }
     ensures ok { HasCleanDisk (state S.Store connection.new)
@@ -41,7 +42,12 @@ pub(crate) fn make<S: Alter>(connection: &mut Connection<S>) -> Result<(), Error
         "CREATE TABLE batch(k INTEGER PRIMARY KEY, moment INTEGER NOT NULL, body TEXT NOT NULL)",
         &[],
     )?;
+    tx.execute(
+        "CREATE TABLE checkpoint(k INTEGER PRIMARY KEY, moment INTEGER NOT NULL, body TEXT NOT NULL)",
+        &[],
+    )?;
     tx.execute("INSERT INTO meta(name, value) VALUES('format', 1)", &[])?;
+    tx.execute("UPDATE meta SET value = 2 WHERE name = 'format'", &[])?;
     tx.commit()
 }
 

@@ -49,7 +49,7 @@ fn text(bytes: &[u8]) -> Option<&str>
 }
 
 // The text in a column, none where it holds another value or bytes that are no UTF-8.
-fn text_at(row: &Row, at: usize) -> Option<&str>
+pub(crate) fn text_at(row: &Row, at: usize) -> Option<&str>
     ensures { option_copied result ≡ text_of (column row.now at) }
 {
     match row.get_ref(at) {

@@ -1,31 +1,36 @@
 //! The table of saved rows.
 
-ghost use Rattle.std.specs.Prelude.{◌≡◌, ◌⊎◌, ◌+◌, ◌<◌, ◌≤◌, ◌++◌, ◌∷◌, [], false, length, Ok, Err, if◌then◌else◌, is_ok, map, IsTrue, IfOk, IfErr, MatchResult, OnOk, OnErr};
+ghost use Rattle.std.specs.Prelude.{◌≡◌, ◌⊎◌, ◌+◌, ◌<◌, ◌≤◌, ◌++◌, ◌∷◌, [], false, length, Ok, Err, Some, None, if◌then◌else◌, is_ok, map, option_map, IsTrue, IfOk, IfErr, MatchResult, OnOk, OnErr};
 ghost use Rattle.sqlite.specs.Held.{state};
 ghost use Rattle.sqlite.specs.State.{HasCleanDisk, IsUnchanged, Survives};
 ghost use Rattle.sqlite.specs.View.{doubt};
 ghost use Rattle.pres_ids.specs.Numbers.{greatest_number};
-ghost use Rattle.pres_batch_rows.specs.TableStates.{IsOurs, Serves, AddsRow, IsSame, IsLeft, Lasts, Outlasts};
-ghost use Rattle.pres_batch_rows.specs.TableOpening.{HasFormat, LacksFormat, IsFound};
+ghost use Rattle.pres_batch_rows.specs.TableStates.{IsOurs, Serves, AddsRow, AddsRows, IsCheckpointed, IsLeft, Holds, Lasts, Outlasts, MayStay};
+ghost use Rattle.pres_batch_rows.specs.TableOpening.{IsFound, OpensAs, FailsToOpen, OpeningLeaves};
 ghost use Rattle.pres_batch_rows.specs.TableCreation.{IsMade, HoldsFormat, Makes, FailsToMake, making_fault};
 ghost use Rattle.pres_batch_rows.specs.Schemas.{no_schema};
-ghost use Rattle.pres_batch_rows.specs.RowContents.{saved_of, saved_rows, shown_rows, stored, rows_in};
+ghost use Rattle.pres_batch_rows.specs.RowContents.{saved_of, saved_rows, shown_rows, shown_base, stored, stored_from, rows_in, checkpoints_in};
 ghost use Rattle.pres_batch_rows.specs.RowIteration.{GoesOver, TakesRows};
+ghost use Rattle.pres_batch_rows.specs.SavedCheckpoints.{base_of, saved_base};
 
+use crate::base::{SavedCheckpoint, read_checkpoint};
+use crate::checkpoint::put_checkpoint;
 use crate::format::find;
-use crate::insert::insert;
+use crate::insert::{insert, insert_all};
 use crate::make::{make, making_fault};
 use crate::row::SavedRow;
 use crate::take::{Collector, Take, go_over};
 use pres_faults::SavedFault;
+use pres_ids::Count;
 use pres_limits::MAX_SAFE_INTEGER;
 use pres_write::Moment;
 use sqlite::{Alter, Connection};
 use std::alloc::Global;
 use std::marker::Model;
 
-/// Rows saved in a database, numbered 1, 2, .., each committed as it comes. Contracts see the
-/// connection and the number of the last row, and speak of the rows by what the connection shows.
+/// Rows saved in a database, numbered 1, 2, .., each committed as it comes, and a checkpoint in the
+/// place of the first of them. Contracts see the connection and the number of the last row, and speak
+/// of the checkpoint and the rows by what the connection shows.
 ///
 /// After a write whose end the disk didn't confirm, the store may be shut for good: then every call
 /// answers Database, and the next open finds the rows with or without that one.
@@ -88,30 +93,34 @@ impl<S: Alter + Drop> BatchTable<S> {
         }
     }
 
-    /// Finds the tables that `create` made. NotOurs if the statement that reads the format fails to
-    /// parse or has no answer, Version if the format is not 1. The database stays as it was,
-    /// whatever it holds, another program's tables too.
+    /// Finds the tables that `create` made, in format 2, or those of format 1, which are brought to
+    /// format 2 in one transaction with the same rows. NotOurs if the statement that reads the format
+    /// fails to parse or has no answer, or if a table of the name of the new one is there; Version if
+    /// the format is another. A refusal leaves the database as it was, whatever it holds, another
+    /// program's tables too.
     pub fn open(connection: Connection<S>) -> Result<BatchTable<S>, (SavedFault, Connection<S>)>
         requires { connection.in_transaction ≡ false }
-        ensures format { IfOk result (λ t. HasCleanDisk (state S.Store t.connection)
-            → (mid : _) × HasFormat (state S.Store connection) (state S.Store mid)) }
         ensures found { IfOk result (λ t. HasCleanDisk (state S.Store t.connection)
-            → IsOurs (state S.Store connection)
+            → IsOurs (state S.Store connection).now
             → IsFound (state S.Store connection) (state S.Store t.connection) t.last) }
-        ensures serves { IfOk result (λ t. IsOurs (state S.Store connection)
+        ensures serves { IfOk result (λ t. IsOurs (state S.Store connection).now
             → Serves S.Store t) }
         ensures clean { IfOk result (λ t. doubt (state S.Store connection).is_clean
             ≤ doubt (state S.Store t.connection).is_clean) }
+
+        // By the meaning of the statements, in whatever database.
+        ensures opens { IfOk result (λ t. HasCleanDisk (state S.Store t.connection)
+            → OpensAs S.Store connection (state S.Store t.connection)) }
         ensures err { IfErr result (λ e. HasCleanDisk (state S.Store e.1)
-            → ((mid : _) × LacksFormat (state S.Store connection) (state S.Store mid) e.0)
-            ⊎ ((e.0 ≡ SavedFault.Memory) ⊎ (e.0 ≡ SavedFault.Database))) }
-        ensures same { IfOk result (λ t. HasCleanDisk (state S.Store t.connection)
-            → IsSame (state S.Store connection) (state S.Store t.connection)) }
+            → FailsToOpen S.Store connection e.0) }
+
         ensures left { IfErr result (λ e. HasCleanDisk (state S.Store e.1)
             → IsLeft (state S.Store connection) (state S.Store e.1)) }
         ensures crash { MatchResult result
-            (λ t. Survives (state S.Store connection) (state S.Store t.connection) (λ _. ⊥))
-            (λ e. Survives (state S.Store connection) (state S.Store e.1) (λ _. ⊥)) }
+            (λ t. Survives (state S.Store connection) (state S.Store t.connection)
+            (OpeningLeaves S.Store connection))
+            (λ e. Survives (state S.Store connection) (state S.Store e.1)
+            (OpeningLeaves S.Store connection)) }
     {
         let mut connection = connection;
         match find(&mut connection) {
@@ -129,10 +138,10 @@ impl<S: Alter + Drop> BatchTable<S> {
             (state S.Store self.new.connection) (self.old.last + 1)
             (record { moment = moment; body = body.now })) }
         ensures saved { HasCleanDisk (state S.Store self.new.connection) → Serves S.Store self.old
-            → OnOk result ((before : _)
-            → saved_rows (shown_rows (state S.Store self.old.connection)) ≡ Ok before
-            → self.old.last ≡ length before
-            → saved_rows (shown_rows (state S.Store self.new.connection))
+            → OnOk result ((behind before : _)
+            → saved_rows behind (shown_rows (state S.Store self.old.connection)) ≡ Ok before
+            → self.old.last ≡ behind + length before
+            → saved_rows behind (shown_rows (state S.Store self.new.connection))
             ≡ Ok (before ++ record { moment = moment; body = body.now } ∷ [])) }
         ensures last { self.new.last
             ≡ (if is_ok result then self.old.last + 1 else self.old.last) }
@@ -146,8 +155,9 @@ impl<S: Alter + Drop> BatchTable<S> {
         ensures spent { greatest_number ≤ self.old.last → result ≡ Err SavedFault.Database }
         ensures crash { Serves S.Store self.old
             → Survives (state S.Store self.old.connection) (state S.Store self.new.connection)
-            (λ db. IsTrue (state S.Store self.old.connection).is_open
-            × (db 2 ≡ rows_in (state S.Store self.old.connection)
+            (Holds (state S.Store self.old.connection)
+            (checkpoints_in (state S.Store self.old.connection))
+            (rows_in (state S.Store self.old.connection)
             ++ stored (self.old.last + 1)
             (record { moment = moment; body = body.now }) ∷ [])) }
         ensures durable { HasCleanDisk (state S.Store self.new.connection)
@@ -155,10 +165,14 @@ impl<S: Alter + Drop> BatchTable<S> {
             → OnOk result (Lasts (state S.Store self.new.connection)) }
         ensures outlasts { HasCleanDisk (state S.Store self.new.connection)
             → Serves S.Store self.old
-            → (rows : _) → Outlasts rows (state S.Store self.old.connection)
-            → Outlasts rows (state S.Store self.new.connection) }
+            → (base rows : _) → Outlasts base rows (state S.Store self.old.connection)
+            → Outlasts base rows (state S.Store self.new.connection) }
+        ensures stays { HasCleanDisk (state S.Store self.new.connection) → Serves S.Store self.old
+            → MayStay (state S.Store self.old.connection) }
         ensures serves { Serves S.Store self.old → Serves S.Store self.new }
     {
+        // it ensures that what is shown was committed, where no transaction is open
+        let _alone = self.connection.is_autocommit();
         if self.last >= MAX_SAFE_INTEGER {
             return Err(SavedFault::Database);
         }
@@ -169,16 +183,147 @@ impl<S: Alter + Drop> BatchTable<S> {
         Ok(())
     }
 
-    /// Gives each row to the taker, in the order of their numbers, one at a time. It ends at the
-    /// first bad row (`BadRow` with the number that was due), or at the first that is refused.
-    /// Whatever the store returned, some rows were taken in turn.
-    pub fn each<T: Take>(&mut self, alloc: Global, taker: &mut T) -> Result<(), SavedFault>
+    /// Adds the rows in their order, numbered on from the last, and commits them all at once, by
+    /// one sync: all or none. Once that is answered, whatever a crash leaves has them, also a crash
+    /// in a later call. A list of one is saved as by `append`. Database where the number of the last
+    /// of them would be above 2^53 - 1.
+    pub fn append_all(&mut self, rows: &[SavedRow]) -> Result<(), SavedFault>
+        ensures ok { HasCleanDisk (state S.Store self.new.connection) → Serves S.Store self.old
+            → OnOk result (AddsRows (state S.Store self.old.connection)
+            (state S.Store self.new.connection) (self.old.last + 1) (map saved_of rows.now)) }
+        ensures saved { HasCleanDisk (state S.Store self.new.connection) → Serves S.Store self.old
+            → OnOk result ((behind before : _)
+            → saved_rows behind (shown_rows (state S.Store self.old.connection)) ≡ Ok before
+            → self.old.last ≡ behind + length before
+            → saved_rows behind (shown_rows (state S.Store self.new.connection))
+            ≡ Ok (before ++ map saved_of rows.now)) }
+        ensures last { self.new.last
+            ≡ (if is_ok result then self.old.last + length rows.now else self.old.last) }
+        ensures err { HasCleanDisk (state S.Store self.new.connection) → Serves S.Store self.old
+            → OnErr result (IsLeft (state S.Store self.old.connection)
+            (state S.Store self.new.connection)) }
+        ensures named { IfErr result (λ e. (e ≡ SavedFault.Memory) ⊎ (e ≡ SavedFault.Database)) }
+        ensures shut { HasCleanDisk (state S.Store self.new.connection) → Serves S.Store self.old
+            → (IsTrue (state S.Store self.old.connection).is_open → ⊥)
+            → is_ok result ≡ false }
+        ensures spent { greatest_number < self.old.last + length rows.now
+            → result ≡ Err SavedFault.Database }
+        ensures crash { Serves S.Store self.old
+            → Survives (state S.Store self.old.connection) (state S.Store self.new.connection)
+            (Holds (state S.Store self.old.connection)
+            (checkpoints_in (state S.Store self.old.connection))
+            (rows_in (state S.Store self.old.connection)
+            ++ stored_from (self.old.last + 1) (map saved_of rows.now))) }
+        ensures durable { HasCleanDisk (state S.Store self.new.connection)
+            → Serves S.Store self.old
+            → OnOk result (Lasts (state S.Store self.new.connection)) }
+        ensures outlasts { HasCleanDisk (state S.Store self.new.connection)
+            → Serves S.Store self.old
+            → (base rows : _) → Outlasts base rows (state S.Store self.old.connection)
+            → Outlasts base rows (state S.Store self.new.connection) }
+        ensures stays { HasCleanDisk (state S.Store self.new.connection) → Serves S.Store self.old
+            → MayStay (state S.Store self.old.connection) }
+        ensures serves { Serves S.Store self.old → Serves S.Store self.new }
+    {
+        // it ensures that what is shown was committed, where no transaction is open
+        let _alone = self.connection.is_autocommit();
+        let count = rows.len() as u64;
+        match MAX_SAFE_INTEGER.checked_sub(self.last) {
+            Some(room) if count <= room => {}
+            _ => return Err(SavedFault::Database),
+        }
+        insert_all(&mut self.connection, self.last + 1, rows)?;
+        self.last += count;
+        Ok(())
+    }
+
+    /// Puts this checkpoint in the place of the one before it and of all rows, in one transaction: it
+    /// stands for as many batches as the number of the last row, and the next row is numbered on from
+    /// there. A refusal leaves all as it was; a crash leaves the rows before or the checkpoint alone.
+    /// Database where the number of the last row is above 2^53 - 1.
+    pub fn checkpoint(&mut self, moment: Moment, body: &str) -> Result<(), SavedFault>
+        ensures ok { HasCleanDisk (state S.Store self.new.connection) → Serves S.Store self.old
+            → OnOk result (IsCheckpointed (state S.Store self.old.connection)
+            (state S.Store self.new.connection) self.old.last
+            (record { moment = moment; body = body.now })) }
+        ensures saved { HasCleanDisk (state S.Store self.new.connection) → Serves S.Store self.old
+            → OnOk result ((saved_base (shown_base (state S.Store self.new.connection))
+            ≡ Some (Some (self.old.last, record { moment = moment; body = body.now })))
+            × (shown_rows (state S.Store self.new.connection) ≡ [])) }
+        ensures last { self.new.last ≡ self.old.last }
+        ensures err { HasCleanDisk (state S.Store self.new.connection) → Serves S.Store self.old
+            → OnErr result (IsLeft (state S.Store self.old.connection)
+            (state S.Store self.new.connection)) }
+        ensures named { IfErr result (λ e. (e ≡ SavedFault.Memory) ⊎ (e ≡ SavedFault.Database)) }
+        ensures shut { HasCleanDisk (state S.Store self.new.connection) → Serves S.Store self.old
+            → (IsTrue (state S.Store self.old.connection).is_open → ⊥)
+            → is_ok result ≡ false }
+        ensures spent { greatest_number < self.old.last → result ≡ Err SavedFault.Database }
+        ensures crash { Serves S.Store self.old
+            → Survives (state S.Store self.old.connection) (state S.Store self.new.connection)
+            (Holds (state S.Store self.old.connection)
+            (stored self.old.last (record { moment = moment; body = body.now }) ∷ []) []) }
+        ensures durable { HasCleanDisk (state S.Store self.new.connection)
+            → Serves S.Store self.old
+            → OnOk result (Lasts (state S.Store self.new.connection)) }
+        ensures stays { HasCleanDisk (state S.Store self.new.connection) → Serves S.Store self.old
+            → MayStay (state S.Store self.old.connection) }
+        ensures serves { Serves S.Store self.old → Serves S.Store self.new }
+    {
+        if !self.connection.is_autocommit() {
+            return Err(SavedFault::Database);
+        }
+        if self.last > MAX_SAFE_INTEGER {
+            return Err(SavedFault::Database);
+        }
+        // it ensures that the moment is in range
+        let _ = moment.millis();
+        put_checkpoint(&mut self.connection, self.last, moment, body)?;
+        Ok(())
+    }
+
+    /// The checkpoint, if there is one. `BadRow(0)` where there is more than one, or where it has a
+    /// number or a moment above 2^53 - 1 or below 0, or no text.
+    pub fn base(&mut self, alloc: Global) -> Result<Option<SavedCheckpoint>, SavedFault>
+        ensures ok { HasCleanDisk (state S.Store self.new.connection) → Serves S.Store self.old
+            → IfOk result (λ found. saved_base (shown_base (state S.Store self.old.connection))
+            ≡ Some (option_map base_of found)) }
+        ensures bad { HasCleanDisk (state S.Store self.new.connection) → Serves S.Store self.old
+            → IfErr result (λ e. ((e ≡ SavedFault.BadRow 0)
+            × (saved_base (shown_base (state S.Store self.old.connection)) ≡ None))
+            ⊎ ((e ≡ SavedFault.Memory) ⊎ (e ≡ SavedFault.Database))) }
+        ensures left { HasCleanDisk (state S.Store self.new.connection) → Serves S.Store self.old
+            → IsLeft (state S.Store self.old.connection) (state S.Store self.new.connection) }
+        ensures same { HasCleanDisk (state S.Store self.new.connection) → Serves S.Store self.old
+            → OnOk result (IsUnchanged (state S.Store self.old.connection)
+            (state S.Store self.new.connection)) }
+        ensures shut { HasCleanDisk (state S.Store self.new.connection) → Serves S.Store self.old
+            → (IsTrue (state S.Store self.old.connection).is_open → ⊥)
+            → is_ok result ≡ false }
+        ensures last { self.new.last ≡ self.old.last }
+        ensures crash { Survives (state S.Store self.old.connection)
+            (state S.Store self.new.connection) (λ _. ⊥) }
+        ensures serves { Serves S.Store self.old → Serves S.Store self.new }
+    {
+        read_checkpoint(alloc, &mut self.connection)
+    }
+
+    /// Gives each row to the taker, in the order of their numbers, one at a time, where they come
+    /// behind this many batches. It ends at the first bad row (`BadRow` with the number that was
+    /// due), or at the first that is refused. Whatever the store returned, some rows were taken in
+    /// turn.
+    pub fn each<T: Take>(
+        &mut self,
+        alloc: Global,
+        behind: Count,
+        taker: &mut T,
+    ) -> Result<(), SavedFault>
         ensures goes { HasCleanDisk (state S.Store self.new.connection) → Serves S.Store self.old
-            → GoesOver T.takes T.refuses (shown_rows (state S.Store self.old.connection))
+            → GoesOver T.takes T.refuses behind (shown_rows (state S.Store self.old.connection))
             taker.old taker.new result }
         ensures taken { OnOk result (TakesRows T.takes
             (λ rows. HasCleanDisk (state S.Store self.new.connection) → Serves S.Store self.old
-            → saved_rows (shown_rows (state S.Store self.old.connection)) ≡ Ok rows)
+            → saved_rows behind (shown_rows (state S.Store self.old.connection)) ≡ Ok rows)
             taker.old taker.new) }
         ensures left { HasCleanDisk (state S.Store self.new.connection) → Serves S.Store self.old
             → IsLeft (state S.Store self.old.connection) (state S.Store self.new.connection) }
@@ -193,18 +338,18 @@ impl<S: Alter + Drop> BatchTable<S> {
             (state S.Store self.new.connection) (λ _. ⊥) }
         ensures serves { Serves S.Store self.old → Serves S.Store self.new }
     {
-        go_over(alloc, &mut self.connection, taker)
+        go_over(alloc, &mut self.connection, behind, taker)
     }
 
-    /// All rows in the order of their numbers, or `BadRow` with the number that was due at the
-    /// first bad row.
-    pub fn load(&mut self, alloc: Global) -> Result<Vec<SavedRow>, SavedFault>
+    /// All rows in the order of their numbers, where they come behind this many batches, or `BadRow`
+    /// with the number that was due at the first bad row.
+    pub fn load(&mut self, alloc: Global, behind: Count) -> Result<Vec<SavedRow>, SavedFault>
         ensures ok { HasCleanDisk (state S.Store self.new.connection) → Serves S.Store self.old
-            → IfOk result (λ rows. saved_rows (shown_rows (state S.Store self.old.connection))
+            → IfOk result (λ rows. saved_rows behind (shown_rows (state S.Store self.old.connection))
             ≡ Ok (map saved_of rows.items)) }
         ensures bad { HasCleanDisk (state S.Store self.new.connection) → Serves S.Store self.old
             → IfErr result (λ e. ((k : _) × (e ≡ SavedFault.BadRow k)
-            × (saved_rows (shown_rows (state S.Store self.old.connection)) ≡ Err k))
+            × (saved_rows behind (shown_rows (state S.Store self.old.connection)) ≡ Err k))
             ⊎ ((e ≡ SavedFault.Memory) ⊎ (e ≡ SavedFault.Database))) }
         ensures left { HasCleanDisk (state S.Store self.new.connection) → Serves S.Store self.old
             → IsLeft (state S.Store self.old.connection) (state S.Store self.new.connection) }
@@ -222,7 +367,7 @@ impl<S: Alter + Drop> BatchTable<S> {
         let mut all = Collector {
             rows: Vec::new(alloc),
         };
-        self.each(alloc, &mut all)?;
+        self.each(alloc, behind, &mut all)?;
         Ok(all.rows)
     }
 

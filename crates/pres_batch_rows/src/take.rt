@@ -10,7 +10,7 @@ ghost use Rattle.pres_faults.specs.declared.saved_fault.SavedFault.{SavedFault a
 
 use crate::row::{SavedRow, read_row};
 use pres_faults::SavedFault;
-use pres_ids::Number;
+use pres_ids::{Count, Number};
 use sqlite::{Alter, Connection};
 use std::alloc::Global;
 
@@ -27,20 +27,21 @@ pub trait Take {
         ensures refused { IfErr result (λ e. refuses self.old (saved_of row) e self.new) };
 }
 
-// Gives each row to the taker, up to the first that is bad or refused.
+// Gives each row behind this many batches to the taker, up to the first that is bad or refused.
 pub(crate) fn go_over<S: Alter, T: Take>(
     alloc: Global,
     connection: &mut Connection<S>,
+    behind: Count,
     taker: &mut T,
 ) -> Result<(), SavedFault>
     ensures goes { HasCleanDisk (state S.Store connection.new)
         → (k : _) → Awaits (state S.Store connection.old) k
-        → GoesOver T.takes T.refuses (shown_rows (state S.Store connection.old))
+        → GoesOver T.takes T.refuses behind (shown_rows (state S.Store connection.old))
         taker.old taker.new result }
     ensures taken { OnOk result (TakesRows T.takes
         (λ rows. HasCleanDisk (state S.Store connection.new)
         → (k : _) → Awaits (state S.Store connection.old) k
-        → saved_rows (shown_rows (state S.Store connection.old)) ≡ Ok rows)
+        → saved_rows behind (shown_rows (state S.Store connection.old)) ≡ Ok rows)
         taker.old taker.new) }
     ensures left { HasCleanDisk (state S.Store connection.new)
         → (k : _) → Awaits (state S.Store connection.old) k
@@ -55,7 +56,7 @@ pub(crate) fn go_over<S: Alter, T: Take>(
     // it ensures that what is shown was committed, where no transaction is open
     let _alone = connection.is_autocommit();
     let mut rows = connection.query("SELECT k, moment, body FROM batch ORDER BY k", &[])?;
-    'rows: for before in 0..u64::MAX {
+    'rows: for before in behind.get()..u64::MAX {
         let Some(row) = rows.next()? else {
             return Ok(());
         };

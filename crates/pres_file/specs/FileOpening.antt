@@ -13,9 +13,9 @@ use Rattle.sqlite.specs.Held.{Held, AreDatabases, state}
 use Rattle.sqlite.specs.Files.{HoldsDatabase, IsEmpty, over_files, file_state}
 use Rattle.pres_log.specs.Logs.{Log}
 use Rattle.pres_batch_rows.specs.TableStates.{TableState, IsOurs}
-use Rattle.pres_batch_rows.specs.RowContents.{shown_rows}
+use Rattle.pres_batch_rows.specs.RowContents.{shown_rows, shown_base}
 use Rattle.pres_batch_rows.specs.Schemas.{no_schema}
-use Rattle.pres_saved.specs.SavedLogs.{saved_log, readable_rows}
+use Rattle.pres_saved.specs.SavedLogs.{saved_log, readable_rows, base_found}
 use Rattle.pres_saved.specs.SqlKeepers.{IsReady, KeepsLog, MayFind, readable_in}
 
 -- how many bytes a page of a new file has
@@ -32,31 +32,33 @@ pub record Finds (image : Image) (s : State) : Type 0 where
 
 -- the database holds no table, index or view, or what it holds was made by our statements
 abbrev pub HoldsOurs : {S : Type 0} → Ghosts S → Held S → Type 0
-HoldsOurs g connection = (connection.schema ≡ no_schema) ⊎ IsOurs (state g connection)
+HoldsOurs g connection = (connection.schema ≡ no_schema) ⊎ IsOurs (state g connection).now
 
 -- The keeper over a connection is new exactly where its database has no table, index or view. It is ready where it is new or the tables
--- are ours. As long as its disk gives back what was written, a new one keeps no batch, another one is read as the rows that were found,
--- and one over tables of ours keeps the log that their rows save; and a disk that was in doubt stays so.
+-- are ours. As long as its disk gives back what was written, a new one keeps no batch, and one over tables of ours is read as the
+-- checkpoint and the rows that were found, and keeps the log that they save; and a disk that was in doubt stays so.
 pub record KeepsWhatIsThere {S : Type 0} (g : Ghosts S) (connection : Held S) (is_new : Bool) (keeper : TableState S) : Type 0 where
   pub clean : doubt (state g connection).is_clean ≤ doubt (state g keeper.connection).is_clean
   pub new : IsTrue is_new ↔ (connection.schema ≡ no_schema)
-  pub ready : IsTrue is_new ⊎ IsOurs (state g connection) → IsReady g keeper
+  pub ready : IsTrue is_new ⊎ IsOurs (state g connection).now → IsReady g keeper
   pub empty : IsTrue is_new → HasCleanDisk (state g keeper.connection) → KeepsLog g keeper []
-  pub read : is_new ≡ false → HasCleanDisk (state g keeper.connection) → readable_in g keeper ≡ readable_rows (shown_rows (state g connection))
-  pub found : (log : Log) → is_new ≡ false → HasCleanDisk (state g keeper.connection) → IsOurs (state g connection)
-      → saved_log (shown_rows (state g connection)) ≡ Ok log → KeepsLog g keeper log
+  pub read : is_new ≡ false → HasCleanDisk (state g keeper.connection) → (ours : IsOurs (state g connection).now)
+      → readable_in g keeper ≡ readable_rows (base_found (state g connection).now ours) (shown_rows (state g connection))
+  pub found : (log : Log) → is_new ≡ false → HasCleanDisk (state g keeper.connection) → (ours : IsOurs (state g connection).now)
+      → saved_log (base_found (state g connection).now ours) (shown_rows (state g connection)) ≡ Ok log → KeepsLog g keeper log
 
 -- A connection found what the files held, and the keeper over it is new exactly where that has no table, index or view: then it
--- keeps no batch. Else it is read as the rows that were found. Where their tables are ours, it keeps the log that they save.
+-- keeps no batch. Where their tables are ours, it is read as the checkpoint and the rows that were found, and keeps the log that they save.
 pub record KeepsWhatWasFound {S : Type 0} (g : Ghosts S) (image : Image) (is_new : Bool) (keeper : TableState S) : Type 0 where
   pub connection : Held S
   pub finds : Finds image (state g connection)
   pub new : IsTrue is_new ↔ (connection.schema ≡ no_schema)
-  pub ready : IsTrue is_new ⊎ IsOurs (state g connection) → IsReady g keeper
+  pub ready : IsTrue is_new ⊎ IsOurs (state g connection).now → IsReady g keeper
   pub empty : IsTrue is_new → KeepsLog g keeper []
-  pub read : is_new ≡ false → readable_in g keeper ≡ readable_rows (shown_rows (state g connection))
-  pub found : (log : Log) → is_new ≡ false → IsOurs (state g connection)
-      → saved_log (shown_rows (state g connection)) ≡ Ok log → KeepsLog g keeper log
+  pub read : is_new ≡ false → (ours : IsOurs (state g connection).now)
+      → readable_in g keeper ≡ readable_rows (base_found (state g connection).now ours) (shown_rows (state g connection))
+  pub found : (log : Log) → is_new ≡ false → (ours : IsOurs (state g connection).now)
+      → saved_log (base_found (state g connection).now ours) (shown_rows (state g connection)) ≡ Ok log → KeepsLog g keeper log
 
 -- ---- after a crash
 
@@ -70,4 +72,4 @@ pub record HasSoundOutcomes {D : Type 0} (g : disk.Ghosts D) (it : FileStore D g
 abbrev pub FindsWhatWasLeft : {D E : Type 0} (g : disk.Ghosts D) (h : disk.Ghosts E) → TableState (FileStore D g) → Image → Held (FileStore E h) → Type 0
 FindsWhatWasLeft g h kept left opened =
     HasSoundOutcomes g kept.connection.store → HasCleanDisk (file_state kept.connection) → (store.state kept.connection.store).may_leave left
-    → Finds left (file_state opened) → ∥ MayFind over_files kept (readable_rows (shown_rows (file_state opened))) ∥₁
+    → Finds left (file_state opened) → ∥ MayFind over_files kept (readable_rows (shown_base (file_state opened)) (shown_rows (file_state opened))) ∥₁

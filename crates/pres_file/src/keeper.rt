@@ -1,6 +1,6 @@
 //! The keeper over a file.
 
-ghost use Rattle.std.specs.Prelude.{◌≡◌, ◌≢◌, ◌≤◌, ◌⊎◌, ◌↔◌, [], Ok, true, false, IsTrue, IfOk, IfErr};
+ghost use Rattle.std.specs.Prelude.{◌≡◌, ◌≢◌, ◌≤◌, ◌↔◌, [], Ok, true, false, IsTrue, IfOk, IfErr};
 ghost use Rattle.sqlite.specs.Held.{state};
 ghost use Rattle.sqlite.specs.State.{HasCleanDisk};
 ghost use Rattle.sqlite.specs.View.{doubt};
@@ -8,10 +8,10 @@ ghost use Rattle.sqlite.specs.Files.{over_files};
 ghost use Rattle.sqlite_wal.specs.Files.{image_at};
 ghost use Rattle.pres_batch_rows.specs.TableStates.{IsOurs, IsLeft};
 ghost use Rattle.pres_batch_rows.specs.TableCreation.{FailsToMake, making_fault};
-ghost use Rattle.pres_batch_rows.specs.TableOpening.{HasFormat, LacksFormat};
+ghost use Rattle.pres_batch_rows.specs.TableOpening.{OpensAs, FailsToOpen};
 ghost use Rattle.pres_batch_rows.specs.Schemas.{no_schema};
 ghost use Rattle.pres_batch_rows.specs.RowContents.{shown_rows};
-ghost use Rattle.pres_saved.specs.SavedLogs.{saved_log, readable_rows};
+ghost use Rattle.pres_saved.specs.SavedLogs.{saved_log, readable_rows, base_found};
 ghost use Rattle.pres_saved.specs.SqlKeepers.{IsReady, KeepsLog, readable_in};
 ghost use Rattle.pres_file.specs.FileOpening.{HoldsOurs, KeepsWhatIsThere, KeepsWhatWasFound};
 
@@ -29,9 +29,9 @@ pub struct OpenedFile<S: Alter> {
     pub is_new: bool,
 }
 
-/// The keeper over the tables of a database, which are made if it holds nothing at all. Refused as
-/// `SqlKeeper` refuses the database, which comes back as it was, whoever made it: NotOurs if it
-/// holds other tables; Version if its format is another.
+/// The keeper over the tables of a database, which are made if it holds nothing at all, and brought
+/// to format 2 if they are of format 1. Refused as `SqlKeeper` refuses the database, which comes back
+/// as it was, whoever made it: NotOurs if it holds other tables; Version if its format is another.
 pub fn keeper_over<S: Alter + Drop>(
     alloc: Global,
     connection: Connection<S>,
@@ -41,29 +41,29 @@ pub fn keeper_over<S: Alter + Drop>(
     ensures made { IfOk result (λ it. IsTrue it.is_new → IsReady S.Store it.keeper) }
     ensures empty { IfOk result (λ it. IsTrue it.is_new
         → HasCleanDisk (state S.Store it.keeper.connection) → KeepsLog S.Store it.keeper []) }
-    ensures ready { IfOk result (λ it. IsOurs (state S.Store connection)
+    ensures ready { IfOk result (λ it. IsOurs (state S.Store connection).now
         → IsReady S.Store it.keeper) }
     ensures clean { IfOk result (λ it. doubt (state S.Store connection).is_clean
         ≤ doubt (state S.Store it.keeper.connection).is_clean) }
-    ensures format { IfOk result (λ it. it.is_new ≡ false
+    ensures opens { IfOk result (λ it. it.is_new ≡ false
         → HasCleanDisk (state S.Store it.keeper.connection)
-        → (mid : _) × HasFormat (state S.Store connection) (state S.Store mid)) }
+        → OpensAs S.Store connection (state S.Store it.keeper.connection)) }
     ensures read { IfOk result (λ it. it.is_new ≡ false
         → HasCleanDisk (state S.Store it.keeper.connection)
-        → readable_in S.Store it.keeper
-        ≡ readable_rows (shown_rows (state S.Store connection))) }
+        → (ours : IsOurs (state S.Store connection).now) → readable_in S.Store it.keeper
+        ≡ readable_rows (base_found (state S.Store connection).now ours)
+        (shown_rows (state S.Store connection))) }
     ensures found { IfOk result (λ it. (log : _) → it.is_new ≡ false
         → HasCleanDisk (state S.Store it.keeper.connection)
-        → IsOurs (state S.Store connection)
-        → saved_log (shown_rows (state S.Store connection)) ≡ Ok log
+        → (ours : IsOurs (state S.Store connection).now)
+        → saved_log (base_found (state S.Store connection).now ours)
+        (shown_rows (state S.Store connection)) ≡ Ok log
         → KeepsLog S.Store it.keeper log) }
     ensures unmade { IfErr result (λ e. connection.schema ≡ no_schema
         → HasCleanDisk (state S.Store e.1)
         → (why : _) × FailsToMake S.Store connection why × (e.0 ≡ making_fault why)) }
     ensures unfound { IfErr result (λ e. connection.schema ≢ no_schema
-        → HasCleanDisk (state S.Store e.1)
-        → ((mid : _) × LacksFormat (state S.Store connection) (state S.Store mid) e.0)
-        ⊎ ((e.0 ≡ SavedFault.Memory) ⊎ (e.0 ≡ SavedFault.Database))) }
+        → HasCleanDisk (state S.Store e.1) → FailsToOpen S.Store connection e.0) }
     ensures stays { IfErr result (λ e. HasCleanDisk (state S.Store e.1)
         → IsTrue (state S.Store e.1).is_open
         → ((state S.Store e.1).now ≡ (state S.Store connection).now)
@@ -123,23 +123,24 @@ fn found<S: Alter + Drop>(
 ) -> Result<OpenedFile<S>, (SavedFault, Connection<S>)>
     requires mode { connection.in_transaction ≡ false }
     ensures new { IfOk result (λ it. it.is_new ≡ false) }
-    ensures ready { IfOk result (λ it. IsOurs (state S.Store connection)
+    ensures ready { IfOk result (λ it. IsOurs (state S.Store connection).now
         → IsReady S.Store it.keeper) }
     ensures clean { IfOk result (λ it. doubt (state S.Store connection).is_clean
         ≤ doubt (state S.Store it.keeper.connection).is_clean) }
-    ensures format { IfOk result (λ it. HasCleanDisk (state S.Store it.keeper.connection)
-        → (mid : _) × HasFormat (state S.Store connection) (state S.Store mid)) }
+    ensures opens { IfOk result (λ it. HasCleanDisk (state S.Store it.keeper.connection)
+        → OpensAs S.Store connection (state S.Store it.keeper.connection)) }
     ensures read { IfOk result (λ it. HasCleanDisk (state S.Store it.keeper.connection)
-        → readable_in S.Store it.keeper
-        ≡ readable_rows (shown_rows (state S.Store connection))) }
+        → (ours : IsOurs (state S.Store connection).now) → readable_in S.Store it.keeper
+        ≡ readable_rows (base_found (state S.Store connection).now ours)
+        (shown_rows (state S.Store connection))) }
     ensures found { IfOk result (λ it. (log : _)
         → HasCleanDisk (state S.Store it.keeper.connection)
-        → IsOurs (state S.Store connection)
-        → saved_log (shown_rows (state S.Store connection)) ≡ Ok log
+        → (ours : IsOurs (state S.Store connection).now)
+        → saved_log (base_found (state S.Store connection).now ours)
+        (shown_rows (state S.Store connection)) ≡ Ok log
         → KeepsLog S.Store it.keeper log) }
     ensures unfound { IfErr result (λ e. HasCleanDisk (state S.Store e.1)
-        → ((mid : _) × LacksFormat (state S.Store connection) (state S.Store mid) e.0)
-        ⊎ ((e.0 ≡ SavedFault.Memory) ⊎ (e.0 ≡ SavedFault.Database))) }
+        → FailsToOpen S.Store connection e.0) }
     ensures left { IfErr result (λ e. HasCleanDisk (state S.Store e.1)
         → IsLeft (state S.Store connection) (state S.Store e.1)) }
 {

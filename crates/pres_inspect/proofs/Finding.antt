@@ -8,6 +8,7 @@ use Rattle.sqlite_wal.proofs.CreateLemmas.{page_if_held}
 use Rattle.sqlite_pool.specs.Pool.{files}
 use Rattle.sqlite_trees.proofs.Doubt.{no_doubt}
 use Rattle.sqlite_store.specs.declared.store.FileStore.{FileStore}
+use Rattle.sqlite.specs.Schema.{Schema}
 use Rattle.sqlite.specs.Effect.{Database}
 use Rattle.sqlite.specs.Files.{file_state}
 use Rattle.sqlite.specs.Held.{Held, state}
@@ -21,9 +22,10 @@ use Rattle.pres_log.specs.Logs.{Log}
 use Rattle.pres_server.specs.Sums.{Sum}
 use Rattle.pres_server.specs.SumStates.{SumState, blank}
 use Rattle.pres_saved.specs.SqlKeepers.{readable_in}
-use Rattle.pres_saved.specs.SavedLogs.{readable_by, readable_rows}
-use Rattle.pres_batch_rows.specs.TableStates.{HasOurTables, IsOurs, TableState, Serves}
-use Rattle.pres_batch_rows.specs.RowContents.{shown_rows}
+use Rattle.pres_saved.specs.SavedLogs.{readable_rows, base_found}
+use Rattle.pres_saved.specs.Laws.{kept_whole}
+use Rattle.pres_batch_rows.specs.TableStates.{IsOurs, TableState, Serves}
+use Rattle.pres_batch_rows.specs.RowContents.{shown_rows, shown_base}
 use Rattle.pres_batch_rows.specs.Schemas.{no_schema}
 use Rattle.pres_inspect.specs.Copies.{Holds, HoldsRows, IsFoundIn, IsFoundKeeper}
 
@@ -55,34 +57,37 @@ no_log s is = record { log = []; makes = subst (λ (t : SumState). MakesSum [] t
 pub some_sum : {P : Log → Type 0} (sum : Sum) → SomeLog P sum → SomeLog (λ log. ⊤) sum
 some_sum sum it = record { log = it.log; makes = it.makes; held = tt }
 
-no_table : HasOurTables no_schema → ⊥
-no_table ours = let e = ours.tables in cc
+-- a database without tables is no server's
+no_table : (db : Database) → db.schema ≡ no_schema → IsOurs db → ⊥
+no_table db none (inl one) = let e = ap (λ (schema : Schema). schema.tables) (sym one.schema ∙ none) in cc
+no_table db none (inr two) = let e = ap (λ (schema : Schema). schema.tables) (sym none) ∙ two.tables.tables in cc
 
 module _ {S : Type 0} (g : Ghosts S) where
   -- what is so of the rows that a connection shows
   held : (image : Image) (c : Held S) → IsFoundIn image (state g c) → (P : Readable → Type 0)
-      → (c.schema ≡ no_schema → P (whole [])) → (IsOurs (state g c) → P (readable_rows (shown_rows (state g c)))) → Holds image P
+      → (c.schema ≡ no_schema → P (whole [])) → ((ours : IsOurs (state g c).now) → P (readable_rows (base_found (state g c).now ours) (shown_rows (state g c)))) → Holds image P
   held image c found P blank ours =
       let rows : HoldsRows image P = record {
         db = (state g c).now;
         sound = (found.sound found.opens.is_open).0;
         holds = λ trees holds. ap (λ (d : Database). d.trees) found.opens.clean ∙ found.holds trees holds;
         blank = blank;
-        ours = λ tables rising. ours (record { schema = tables; rising = rising });
+        ours = ours;
       } in inr rows
 
   old_rows : (c : Held S) (is_new : Bool) (keeper : TableState S) → KeepsWhatIsThere g c is_new keeper
-      → HasCleanDisk (state g keeper.connection) → IsOurs (state g c) → readable_in g keeper ≡ readable_rows (shown_rows (state g c))
-  old_rows c true keeper keeps clean ours = absurd (no_table (subst HasOurTables (keeps.new.0 refl) ours.schema))
-  old_rows c false keeper keeps clean ours = keeps.read refl clean
+      → HasCleanDisk (state g keeper.connection) → (ours : IsOurs (state g c).now) → readable_in g keeper ≡ readable_rows (base_found (state g c).now ours) (shown_rows (state g c))
+  old_rows c true keeper keeps clean ours = absurd (no_table (state g c).now (keeps.new.0 refl) ours)
+  old_rows c false keeper keeps clean ours = keeps.read refl clean ours
 
   -- what is so of what a keeper over it reads
   pub found : (image : Image) (c : Held S) (is_new : Bool) (keeper : TableState S) → IsFoundIn image (state g c)
       → KeepsWhatIsThere g c is_new keeper → HasCleanDisk (state g keeper.connection)
       → (P : Readable → Type 0) → (Serves g keeper → P (readable_in g keeper)) → Holds image P
   found image c is_new keeper finds keeps clean P so =
+      let now = state g keeper.connection in
       held image c finds P
-      (λ none. let new = keeps.new.1 none in subst P (ap (readable_by _) (keeps.empty new clean)) (so (keeps.ready (inl new)).serves))
+      (λ none. let new = keeps.new.1 none in subst P (kept_whole (shown_base now) (shown_rows now) [] (keeps.empty new clean)) (so (keeps.ready (inl new)).serves))
       (λ ours. subst P (old_rows c is_new keeper keeps clean ours) (so (keeps.ready (inr ours)).serves))
 
   -- the same of a keeper that was found

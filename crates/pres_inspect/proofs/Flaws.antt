@@ -1,5 +1,5 @@
 -- What is wrong with the first bad row.
-use Rattle.std.proofs.Common.{◌≡◌, ◌≢◌, ◌≤◌, ℕ, List, ◌∷◌, length, length-append, inl, inr, ◌⊎◌, map, IsTrue, refl, sym, ap, subst, ◌∙◌, arith, true≢false}
+use Rattle.std.proofs.Common.{◌≡◌, ◌≢◌, ◌≤◌, ℕ, List, ◌∷◌, length, length-append, inl, inr, ◌⊎◌, map, IsTrue, sym, ap, subst, ◌∙◌, arith, true≢false}
 use Rattle.pres_keeper.specs.Keepers.{Readable, IsFirstBad, IsFirstUnread, whole}
 use Rattle.pres_log.specs.Logs.{Log}
 use Rattle.pres_log.specs.declared.entry.Batch.{Batch}
@@ -14,11 +14,11 @@ use Rattle.sqlite.specs.Effect.{Database}
 use Rattle.sqlite.specs.Held.{Held, state}
 use Rattle.sqlite.specs.State.{State, HasCleanDisk}
 use Rattle.sqlite.specs.Store.{Ghosts}
-use Rattle.sqlite_trees.specs.Tree.{IsTable}
 use Rattle.sqlite_wal.specs.Recovery.{Image}
-use Rattle.pres_saved.specs.SavedLogs.{readable_rows}
+use Rattle.pres_saved.specs.SavedLogs.{readable_rows, base_found}
 use Rattle.pres_saved.specs.SqlKeepers.{readable_in}
-use Rattle.pres_batch_rows.specs.TableStates.{HasOurTables, IsOurs, IsLeft, IsSame, TableState, Serves}
+use Rattle.pres_batch_rows.specs.TableStates.{IsOfFormatTwo, IsOurs, IsLeft, TableState, Serves}
+use Rattle.pres_batch_rows.specs.TableOpening.{OpensAs}
 use Rattle.pres_batch_rows.specs.RowContents.{shown_row, shown_rows}
 
 -- a batch that may not follow is one of those that are read
@@ -67,27 +67,25 @@ refusal image (fault.Store e) h = tt
 refusal image (fault.Unreadable k) h = h
 refusal image (fault.NotLegal k) h = h
 
--- what one state shows another shows, where it has the same database
-pub shows : (s now : State) (held : Readable) → (IsTrue now.is_open → now.now ≡ s.now) → (IsTrue now.is_open → IsOurs s × (readable_rows (shown_rows s) ≡ held)) → ShowsWhileOpen now held
-shows s now held same shown is_open =
-    let e = same is_open in
-    let it = shown is_open in
-    let ours : IsOurs now = record {
-      schema = subst (λ (d : Database). HasOurTables d.schema) (sym e) it.0.schema;
-      rising = subst (λ (d : Database). IsTable (d.trees 2)) (sym e) it.0.rising;
-    } in
-    (ours, ap (λ (d : Database). readable_rows (map shown_row (d.trees 2))) e ∙ it.1)
-
 -- what a keeper shows after a call that leaves the database as it was
 pub shows_left : {S : Type 0} (g : Ghosts S) (old new : TableState S) → HasCleanDisk (state g old.connection) → Serves g old → IsLeft (state g old.connection) (state g new.connection)
     → ShowsWhileOpen (state g new.connection) (readable_in g old)
-shows_left g old new clean serves left =
-    shows (state g old.connection) (state g new.connection) (readable_in g old) (λ is_open. (left.same is_open).now)
-    (λ is_open. (((serves clean).ready (left.same is_open).was_open).ours, refl))
+shows_left g old new clean serves left is_open =
+    let same = left.same is_open in
+    let two = ((serves clean).ready same.was_open).ours in (
+      inr (subst IsOfFormatTwo (sym same.now) two),
+      ap (λ (d : Database). readable_rows (map shown_row (d.trees 3)) (map shown_row (d.trees 2))) same.now,
+    )
+
+-- a database that is opened was open
+pub was_opened : {S : Type 0} (g : Ghosts S) (c : Held S) (s : State) → OpensAs g c s → IsTrue (state g c).is_open
+was_opened g c s (inl two) = two.2.was_open
+was_opened g c s (inr one) = one.3.0.was_open
 
 -- what a keeper reads is what the connection showed that it was opened over
-pub read_same : {S : Type 0} (g : Ghosts S) (c : Held S) (keeper : TableState S) (held : Readable) → IsSame (state g c) (state g keeper.connection) → ShowsWhileOpen (state g c) held → readable_in g keeper ≡ held
-read_same g c keeper held same shown = ap (λ (d : Database). readable_rows (map shown_row (d.trees 2))) same.now ∙ (shown same.was_open).1
+pub read_same : {S : Type 0} (g : Ghosts S) (c : Held S) (keeper : TableState S) (held : Readable) (shown : (ours : IsOurs (state g c).now) × (readable_rows (base_found (state g c).now ours) (shown_rows (state g c)) ≡ held))
+    → ((ours : IsOurs (state g c).now) → readable_in g keeper ≡ readable_rows (base_found (state g c).now ours) (shown_rows (state g c))) → readable_in g keeper ≡ held
+read_same g c keeper held shown read = read shown.0 ∙ shown.1
 
 -- no row is said to be bad where memory or the output is refused
 pub no_row : (image : Image) (e : InspectFault) → (e ≡ fault.Memory) ⊎ (e ≡ fault.Output) → IsRefusal image e

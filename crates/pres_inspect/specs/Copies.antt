@@ -6,15 +6,15 @@ use Rattle.sqlite.specs.Held.{Held, state}
 use Rattle.sqlite.specs.State.{State, HasCleanDisk, IsLive, Opens}
 use Rattle.sqlite.specs.Store.{Ghosts}
 use Rattle.sqlite_pool.specs.Opening.{IsBlankFile}
-use Rattle.sqlite_trees.specs.Tree.{Trees, IsTable}
+use Rattle.sqlite_trees.specs.Tree.{Trees}
 use Rattle.sqlite_wal.specs.Recovery.{Image}
 use Rattle.pres_file.specs.FileOpening.{KeepsWhatIsThere, new_page_size}
 use Rattle.pres_keeper.specs.Keepers.{Readable, IsFirstUnread, whole}
-use Rattle.pres_saved.specs.SavedLogs.{readable_rows}
+use Rattle.pres_saved.specs.SavedLogs.{readable_rows, base_found}
 use Rattle.pres_server.specs.Replays.{IsFirstIllegal}
 use Rattle.pres_server.specs.Sums.{nothing}
 use Rattle.pres_server.specs.SumTurns.{FollowAll}
-use Rattle.pres_batch_rows.specs.TableStates.{HasOurTables, IsOurs, TableState}
+use Rattle.pres_batch_rows.specs.TableStates.{IsOurs, TableState}
 use Rattle.pres_batch_rows.specs.RowContents.{shown_row, shown_rows}
 use Rattle.pres_batch_rows.specs.Schemas.{no_schema}
 use Rattle.pres_inspect.specs.declared.copied.Copied.{Copied}
@@ -26,13 +26,13 @@ abbrev pub image_of : Copied → Image
 image_of copied = record { log = copied.log.items; db = copied.database.items }
 
 -- The files hold a database that obeys its own schema. What can be read of its rows has this property, where its tables are
--- those of a server; where it has no table at all, it has the property of no rows.
+-- those of a server, of format 1 or 2; where it has no table at all, it has the property of no rows.
 pub record HoldsRows (image : Image) (P : Readable → Type 0) : Type 0 where
   pub db : Database
   pub sound : IsDatabase db
   pub holds : (trees : Trees) → HoldsDatabase image trees → db.trees ≡ trees
   pub blank : db.schema ≡ no_schema → P (whole [])
-  pub ours : HasOurTables db.schema → IsTable (db.trees 2) → P (readable_rows (map shown_row (db.trees 2)))
+  pub ours : (ours : IsOurs db) → P (readable_rows (base_found db ours) (map shown_row (db.trees 2)))
 
 -- so it is, or the files hold no database: they have no byte, or a first page that was left half made
 abbrev pub Holds : Image → (Readable → Type 0) → Type 0
@@ -51,7 +51,7 @@ pub record IsUnreadableAt (k : ℕ) (held : Readable) : Type 0 where
 
 -- while the store is open, the tables are those of a server, and this can be read of them
 abbrev pub ShowsWhileOpen : State → Readable → Type 0
-ShowsWhileOpen s held = IsTrue s.is_open → IsOurs s × (readable_rows (shown_rows s) ≡ held)
+ShowsWhileOpen s held = IsTrue s.is_open → (ours : IsOurs s.now) × (readable_rows (base_found s.now ours) (shown_rows s) ≡ held)
 
 -- what is wrong with rows of which no server is made: the number of the first bad one, and why
 abbrev pub IsFlaw : Readable → InspectFault → Type 0

@@ -1,11 +1,14 @@
 -- Rows that are numbered 1, 2, ..: the greatest number is how many they are.
-use Rattle.std.proofs.Common.{◌≡◌, ◌==◌, ◌&&◌, Bool, true, false, ℕ, ◌+◌, max, nat_le, if◌then◌else◌, List, [], ◌∷◌, length, Option, Some, None, Result, Ok, Err, refl, ap, arith}
+use Rattle.std.proofs.Common.{◌≡◌, ◌==◌, ◌&&◌, Bool, true, false, ℕ, ◌+◌, max, nat_le, if◌then◌else◌, List, [], ◌∷◌, ◌++◌, length, Option, Some, None, Result, Ok, Err, refl, sym, ap, ◌∙◌, map, append-nil, arith}
+use Rattle.std.proofs.lemmas.List.{append_assoc}
 use Rattle.std.proofs.lemmas.Bool.Decides.{nat_tests}
 use Rattle.std.specs.Option.{unwrap_or}
 use Rattle.sqlite.specs.Order.{Row, column}
 use Rattle.pres_write.specs.Moments.{last_moment}
-use Rattle.pres_batch_rows.specs.RowContents.{RowContent, saved_as, saved_row, saved_from, saved_rows, rows_then, saved_front, front_from, front_then, whole_of, text_of}
-use Rattle.pres_batch_rows.specs.TableOpening.{greatest_in}
+use Rattle.pres_batch_rows.specs.RowContents.{RowContent, stored, stored_from, shown_row, saved_as, saved_row, saved_from, saved_rows, rows_then, saved_front, front_from, front_then, whole_of, text_of}
+use Rattle.pres_batch_rows.specs.TableOpening.{greatest_in, last_in}
+use Rattle.pres_batch_rows.proofs.Finding.{greatest_push}
+use Rattle.pres_batch_rows.proofs.Growing.{map_push}
 use Rattle.pres_batch_rows.proofs.Loading.{then_ok}
 
 chosen : (b c : Bool) (x s : RowContent) → (if b && c then Some x else None) ≡ Some s → b ≡ true
@@ -35,7 +38,7 @@ greatest_from before (row ∷ rows) saved e =
     let many = ap length parts.4 in
     omega (arith, later, first, many)
 
-pub greatest_is : (rows : List Row) (saved : List RowContent) → saved_rows rows ≡ Ok saved → greatest_in rows ≡ length saved
+pub greatest_is : (rows : List Row) (saved : List RowContent) → saved_rows 0 rows ≡ Ok saved → greatest_in rows ≡ length saved
 greatest_is rows saved e = let it = greatest_from 0 rows saved e in omega (arith, it)
 
 -- the number that was due at the first row that saves nothing
@@ -48,5 +51,29 @@ due_from : (due : ℕ) (rows : List Row) (k : ℕ) → saved_from due rows ≡ E
 due_from due [] k e = absurd (cc)
 due_from due (row ∷ rows) k e = due_then due k (saved_row due row) (saved_from (due + 1) rows) (front_from (due + 1) rows) (due_from (due + 1) rows) e
 
-pub due_is : (rows : List Row) (k : ℕ) → saved_rows rows ≡ Err k → k ≡ length (saved_front rows) + 1
+pub due_is : (rows : List Row) (k : ℕ) → saved_rows 0 rows ≡ Err k → k ≡ length (saved_front 0 rows) + 1
 due_is rows k e = let it = due_from 1 rows k e in omega (arith, it)
+
+-- ---- the number of the last row
+
+-- without a checkpoint
+pub last_alone : (rows : List Row) → last_in [] rows ≡ greatest_in rows
+last_alone [] = refl
+last_alone (row ∷ rows) = refl
+
+-- with a row more, numbered one after it
+pub last_push : (base rows : List Row) (row : Row) (n : ℕ) → n ≡ last_in base rows → unwrap_or (whole_of (column row 0)) 0 ≡ n + 1 → last_in base (rows ++ row ∷ []) ≡ n + 1
+last_push base [] row n last next = omega (arith, next)
+last_push base (r ∷ rows) row n last next = let pushed = greatest_push (r ∷ rows) row in omega (arith, pushed, last, next)
+
+-- with these rows more, numbered on from it
+pub last_group : (base rows : List Row) (all : List RowContent) (n : ℕ) → n ≡ last_in base (map shown_row rows) → last_in base (map shown_row (rows ++ stored_from (n + 1) all)) ≡ n + length all
+last_group base rows [] n last =
+    let same : n ≡ n + 0 = omega arith in
+    ap (λ l. last_in base (map shown_row l)) (append-nil rows) ∙ sym last ∙ same
+last_group base rows (s ∷ all) n last =
+    let row = stored (n + 1) s in
+    let pushed = ap (last_in base) (map_push shown_row rows row) ∙ last_push base (map shown_row rows) (shown_row row) n last refl in
+    let count : n + 1 + length all ≡ n + length (s ∷ all) = omega arith in
+    ap (λ l. last_in base (map shown_row l)) (sym (append_assoc rows (row ∷ []) (stored_from (n + 1 + 1) all)))
+    ∙ last_group base (rows ++ row ∷ []) all (n + 1) (sym pushed) ∙ count

@@ -1,6 +1,9 @@
+pub mod Basing
 pub mod Committing
 pub mod Counted
+pub mod Opening
 pub mod Outlasting
+pub mod Printed
 pub mod Reading
 pub mod Refused
 pub mod Remade

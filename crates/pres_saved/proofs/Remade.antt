@@ -11,7 +11,7 @@ use Rattle.pres_server.specs.Sums.{Sum, nothing}
 use Rattle.pres_keeper.specs.Keepers.{MakesSum}
 use Rattle.pres_keeper.proofs.Nulls.{number_made}
 use Rattle.pres_keeper.proofs.Behind.{makes_all, makes_more}
-use Rattle.pres_saved.specs.SavedLogs.{batch_in, log_then, log_after, front_by, log_front, saved_log, readable_by, readable_rows}
+use Rattle.pres_saved.specs.SavedLogs.{batch_in, log_then, log_after, front_by, log_front, rows_log, readable_by, rows_readable}
 use Rattle.pres_saved.specs.RowReplay.{Follows}
 use Rattle.pres_saved.proofs.Reading.{no_err, read_of, after_one}
 
@@ -74,5 +74,5 @@ batches_by front (Ok log) same = sym (same log refl)
 batches_by front (Err k) same = refl
 
 -- what can be read are these batches
-pub read_batches : (shown : List Row) → (readable_rows shown).batches ≡ log_front [] (saved_front shown)
-read_batches shown = batches_by _ (saved_log shown) (λ log all. front_is (saved_front shown) [] log (read_of shown log all).made)
+pub read_batches : (shown : List Row) → (rows_readable shown).batches ≡ log_front [] (saved_front 0 shown)
+read_batches shown = batches_by _ (rows_log shown) (λ log all. front_is (saved_front 0 shown) [] log (read_of shown log all).made)

@@ -2,6 +2,7 @@
 //! that reports the fate of each commit.
 #![tactic(auto)]
 
+mod printing;
 mod replaying;
 mod sql;
 mod watch;

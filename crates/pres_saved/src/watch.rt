@@ -15,7 +15,7 @@ use pres_server::Server;
 use sqlite::Alter;
 use std::marker::Model;
 
-/// What became of a commit.
+/// What became of a commit, of a batch or of several at once.
 #[derive(Clone, Copy, Debug, PartialEq, Eq)]
 pub enum Commit {
     /// It was taken.
@@ -88,10 +88,8 @@ impl<S: Alter + Drop, W: Watch> Watched<S, W> {
 }
 
 impl<S: Alter + Drop, W: Watch> Keeper for Watched<S, W> {
-    ghost use Rattle.std.proofs.Common.{ap};
-    ghost use Rattle.pres_saved.specs.SavedLogs.{readable_by};
-    ghost use Rattle.pres_saved.specs.SqlKeepers.{IsReady, Works, WasShut, KeepsLog, LeavesLog, MayFind, OutlastsLog, SavesBatch, readable_in};
-    ghost use Rattle.pres_saved.specs.Laws.{found_first};
+    ghost use Rattle.pres_saved.specs.SqlKeepers.{IsReady, Works, WasShut, KeepsLog, LeavesLog, MayFind, OutlastsLog, SavesBatches, readable_in};
+    ghost use Rattle.pres_saved.specs.Laws.{kept_whole, found_first};
 
     ghost ready = { λ kept. IsReady S.Store kept };
 
@@ -101,23 +99,36 @@ impl<S: Alter + Drop, W: Watch> Keeper for Watched<S, W> {
 
     ghost keeps = { λ kept log. KeepsLog S.Store kept log };
 
-    ghost stores = { λ old batch new. SavesBatch S.Store old batch new };
+    ghost stores = { λ old batches new. SavesBatches S.Store old batches new };
 
     ghost shut = { λ old new. WasShut S.Store old new };
 
-    ghost leaves = { λ old log batch new. LeavesLog S.Store old log batch new };
+    ghost leaves = { λ old log batches new. LeavesLog S.Store old log batches new };
 
     ghost may_find = { λ kept held. MayFind S.Store kept held };
 
     ghost outlasts = { λ kept log. OutlastsLog S.Store kept log };
 
-    ghost kept_is_read = { λ kept log keeps. ap (readable_by _) keeps };
+    ghost kept_is_read = { λ kept log keeps. kept_whole _ _ log keeps };
 
     ghost outlasting_is_found = { λ kept log held lasts finds.
         found_first _ kept log held lasts finds };
 
     fn commit(&mut self, batch: &Batch) -> Result<(), SavedFault> {
         match self.keeper.commit(batch) {
+            Ok(()) => {
+                self.watch.note(Commit::Taken);
+                Ok(())
+            }
+            Err(fault) => {
+                self.note_refusal();
+                Err(fault)
+            }
+        }
+    }
+
+    fn commit_all(&mut self, batches: &[Batch]) -> Result<(), SavedFault> {
+        match self.keeper.commit_all(batches) {
             Ok(()) => {
                 self.watch.note(Commit::Taken);
                 Ok(())

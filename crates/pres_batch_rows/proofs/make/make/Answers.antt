@@ -8,7 +8,7 @@ use Rattle.sqlite.specs.Effect.{Database}
 use Rattle.sqlite.specs.Held.{state}
 use Rattle.sqlite.specs.State.{HasCleanDisk, Survives}
 use Rattle.pres_batch_rows.specs.TableCreation.{IsMade, HoldsFormat, Makes, FailsToMake}
-use Rattle.pres_batch_rows.proofs.Making.{creates_meta, creates_batch, adds_format, err_weaker}
+use Rattle.pres_batch_rows.proofs.Making.{makes_all, err_weaker}
 use Rattle.pres_batch_rows.proofs.make.make.Goals as goal
 use Rattle.std.proofs.lemmas.Grind.{common_steps}
 
@@ -17,21 +17,24 @@ returns-clause-ok g c clean has =
     let first = c.execute.new.self.conn.now in
     let second = c.execute-2.new.self.conn.now in
     let third = c.execute-3.new.self.conn.now in
+    let fourth = c.execute-4.new.self.conn.now in
+    let fifth = c.execute-5.new.self.conn.now in
     let begun = c.transaction-tx.ensures.begun in
     let end = c.commit.new.self.0 in
     let same : end ≡ c.connection-2-1.given.0 = search rules in
     let ended : HasCleanDisk (state g.S.Store end) = rw (same) clean in
-    let late : HasCleanDisk (state g.S.Store third) = omega (arith, c.commit.ensures.survives.clean, ended) in
-    let one = c.in_ok-execute.ensures.runs (omega (arith, c.execute-2.ensures.survives.clean, c.execute-3.ensures.survives.clean, late)) (rw begun) in
-    let two = c.in_ok-execute-2.ensures.runs (omega (arith, c.execute-3.ensures.survives.clean, late)) one.1.mode in
-    let three = c.in_ok-execute-3.ensures.runs late two.1.mode in
-    let meta = creates_meta (state g.S.Store c.transaction-tx.result.conn.now) (state g.S.Store first) c.in_ok-execute.field-0 (rw begun has) one.0 in
-    let batch = creates_batch (state g.S.Store first) (state g.S.Store second) c.in_ok-execute-2.field-0 meta.0 two.0 in
-    let format = adds_format (state g.S.Store second) (state g.S.Store third) c.in_ok-execute-3.field-0 batch.0 (batch.2 ∙ meta.1) three.0 in
+    let late : HasCleanDisk (state g.S.Store fifth) = omega (arith, c.commit.ensures.survives.clean, ended) in
+    let one = c.in_ok-execute.ensures.runs (omega (arith, c.execute-2.ensures.survives.clean, c.execute-3.ensures.survives.clean, c.execute-4.ensures.survives.clean, c.execute-5.ensures.survives.clean, late)) (rw begun) in
+    let two = c.in_ok-execute-2.ensures.runs (omega (arith, c.execute-3.ensures.survives.clean, c.execute-4.ensures.survives.clean, c.execute-5.ensures.survives.clean, late)) one.1.mode in
+    let three = c.in_ok-execute-3.ensures.runs (omega (arith, c.execute-4.ensures.survives.clean, c.execute-5.ensures.survives.clean, late)) two.1.mode in
+    let four = c.in_ok-execute-4.ensures.runs (omega (arith, c.execute-5.ensures.survives.clean, late)) three.1.mode in
+    let five = c.in_ok-execute-5.ensures.runs late four.1.mode in
+    let made = makes_all (state g.S.Store c.transaction-tx.result.conn.now) (state g.S.Store first) (state g.S.Store second) (state g.S.Store third) (state g.S.Store fourth) (state g.S.Store fifth) c.in_ok-execute.field-0 c.in_ok-execute-2.field-0 c.in_ok-execute-3.field-0 c.in_ok-execute-4.field-0 c.in_ok-execute-5.field-0 (rw begun has) one.0 two.0 three.0 four.0 five.0 in
     let finish : OnOk c.commit.result (IsMade (state g.S.Store end)) = on_ok_weaker c.commit.result (λ done. record {
-      schema = ap (λ (d : Database). d.schema) done.1.now_is ∙ format.0;
-      rows = ap (λ (d : Database). d.trees 2) done.1.now_is ∙ (format.1 ∙ batch.1);
-      format = ap (λ (d : Database). d.trees 0) done.1.now_is ∙ format.2;
+      schema = ap (λ (d : Database). d.schema) done.1.now_is ∙ made.0;
+      rows = ap (λ (d : Database). d.trees 2) done.1.now_is ∙ made.1;
+      base = ap (λ (d : Database). d.trees 3) done.1.now_is ∙ made.2;
+      format = ap (λ (d : Database). d.trees 0) done.1.now_is ∙ made.3;
       committed = done.1.committed_is ∙ sym done.1.now_is;
       is_open = done.1.is_open;
       mode = done.1.mode;
@@ -49,7 +52,7 @@ returns-in_err-execute-clause-refused g c clean =
     let late : HasCleanDisk (state g.S.Store first) = omega (arith, c.drop-tx.ensures.survives.clean, ended) in
     let one = rw begun at (c.in_err-execute.ensures.runs late (rw begun)) in
     let p = err_from_is_err_and c.from_residual.result c.from_residual.ensures.1 in
-    rw (p.1, p.2) (inl (first, one))
+    rw (p.1, p.2) (inl ((first, one)))
 
 pub returns-in_err-execute-2-clause-refused : goal.returns-in_err-execute-2-clause-refused
 returns-in_err-execute-2-clause-refused g c clean =
@@ -62,7 +65,7 @@ returns-in_err-execute-2-clause-refused g c clean =
     let one = c.in_ok-execute.ensures.runs (omega (arith, c.execute-2.ensures.survives.clean, late)) (rw begun) in
     let two = c.in_err-execute-2.ensures.runs late one.1.mode in
     let p = err_from_is_err_and c.from_residual-in_err-execute-2.result c.from_residual-in_err-execute-2.ensures.1 in
-    rw (p.1, p.2) (inr (inl (first, c.in_ok-execute.field-0, rw begun at one, (second, two))))
+    rw (p.1, p.2) (inr (inl ((first, c.in_ok-execute.field-0, rw begun at one, (second, two)))))
 
 pub returns-in_err-execute-3-clause-refused : goal.returns-in_err-execute-3-clause-refused
 returns-in_err-execute-3-clause-refused g c clean =
@@ -77,7 +80,43 @@ returns-in_err-execute-3-clause-refused g c clean =
     let two = c.in_ok-execute-2.ensures.runs (omega (arith, c.execute-3.ensures.survives.clean, late)) one.1.mode in
     let three = c.in_err-execute-3.ensures.runs late two.1.mode in
     let p = err_from_is_err_and c.from_residual-in_err-execute-3.result c.from_residual-in_err-execute-3.ensures.1 in
-    rw (p.1, p.2) (inr (inr (inl (first, c.in_ok-execute.field-0, rw begun at one, (second, c.in_ok-execute-2.field-0, two, (third, three))))))
+    rw (p.1, p.2) (inr (inr (inl ((first, c.in_ok-execute.field-0, rw begun at one, (second, c.in_ok-execute-2.field-0, two, (third, three)))))))
+
+pub returns-in_err-execute-4-clause-refused : goal.returns-in_err-execute-4-clause-refused
+returns-in_err-execute-4-clause-refused g c clean =
+    let first = c.execute.new.self.conn.now in
+    let second = c.execute-2.new.self.conn.now in
+    let third = c.execute-3.new.self.conn.now in
+    let fourth = c.execute-4.new.self.conn.now in
+    let begun = c.transaction-tx.ensures.begun in
+    let same : c.drop-tx-in_err-execute-4.new.self.0 ≡ c.connection-in_err-execute-4-1.given.0 = search rules in
+    let ended : HasCleanDisk (state g.S.Store c.drop-tx-in_err-execute-4.new.self.0) = rw (same) clean in
+    let late : HasCleanDisk (state g.S.Store fourth) = omega (arith, c.drop-tx-in_err-execute-4.ensures.survives.clean, ended) in
+    let one = c.in_ok-execute.ensures.runs (omega (arith, c.execute-2.ensures.survives.clean, c.execute-3.ensures.survives.clean, c.execute-4.ensures.survives.clean, late)) (rw begun) in
+    let two = c.in_ok-execute-2.ensures.runs (omega (arith, c.execute-3.ensures.survives.clean, c.execute-4.ensures.survives.clean, late)) one.1.mode in
+    let three = c.in_ok-execute-3.ensures.runs (omega (arith, c.execute-4.ensures.survives.clean, late)) two.1.mode in
+    let four = c.in_err-execute-4.ensures.runs late three.1.mode in
+    let p = err_from_is_err_and c.from_residual-in_err-execute-4.result c.from_residual-in_err-execute-4.ensures.1 in
+    rw (p.1, p.2) (inr (inr (inr (inl ((first, c.in_ok-execute.field-0, rw begun at one, (second, c.in_ok-execute-2.field-0, two, (third, c.in_ok-execute-3.field-0, three, (fourth, four)))))))))
+
+pub returns-in_err-execute-5-clause-refused : goal.returns-in_err-execute-5-clause-refused
+returns-in_err-execute-5-clause-refused g c clean =
+    let first = c.execute.new.self.conn.now in
+    let second = c.execute-2.new.self.conn.now in
+    let third = c.execute-3.new.self.conn.now in
+    let fourth = c.execute-4.new.self.conn.now in
+    let fifth = c.execute-5.new.self.conn.now in
+    let begun = c.transaction-tx.ensures.begun in
+    let same : c.drop-tx-in_err-execute-5.new.self.0 ≡ c.connection-in_err-execute-5-1.given.0 = search rules in
+    let ended : HasCleanDisk (state g.S.Store c.drop-tx-in_err-execute-5.new.self.0) = rw (same) clean in
+    let late : HasCleanDisk (state g.S.Store fifth) = omega (arith, c.drop-tx-in_err-execute-5.ensures.survives.clean, ended) in
+    let one = c.in_ok-execute.ensures.runs (omega (arith, c.execute-2.ensures.survives.clean, c.execute-3.ensures.survives.clean, c.execute-4.ensures.survives.clean, c.execute-5.ensures.survives.clean, late)) (rw begun) in
+    let two = c.in_ok-execute-2.ensures.runs (omega (arith, c.execute-3.ensures.survives.clean, c.execute-4.ensures.survives.clean, c.execute-5.ensures.survives.clean, late)) one.1.mode in
+    let three = c.in_ok-execute-3.ensures.runs (omega (arith, c.execute-4.ensures.survives.clean, c.execute-5.ensures.survives.clean, late)) two.1.mode in
+    let four = c.in_ok-execute-4.ensures.runs (omega (arith, c.execute-5.ensures.survives.clean, late)) three.1.mode in
+    let five = c.in_err-execute-5.ensures.runs late four.1.mode in
+    let p = err_from_is_err_and c.from_residual-in_err-execute-5.result c.from_residual-in_err-execute-5.ensures.1 in
+    rw (p.1, p.2) (inr (inr (inr (inr (inl ((first, c.in_ok-execute.field-0, rw begun at one, (second, c.in_ok-execute-2.field-0, two, (third, c.in_ok-execute-3.field-0, three, (fourth, c.in_ok-execute-4.field-0, four, (fifth, five)))))))))))
 
 -- ---- all are carried out
 
@@ -87,16 +126,20 @@ returns-clause-makes g c clean =
     let first = c.execute.new.self.conn.now in
     let second = c.execute-2.new.self.conn.now in
     let third = c.execute-3.new.self.conn.now in
+    let fourth = c.execute-4.new.self.conn.now in
+    let fifth = c.execute-5.new.self.conn.now in
     let begun = c.transaction-tx.ensures.begun in
     let end = c.commit.new.self.0 in
     let same : end ≡ c.connection-2-1.given.0 = search rules in
     let ended : HasCleanDisk (state g.S.Store end) = rw (same) clean in
-    let late : HasCleanDisk (state g.S.Store third) = omega (arith, c.commit.ensures.survives.clean, ended) in
-    let one = c.in_ok-execute.ensures.runs (omega (arith, c.execute-2.ensures.survives.clean, c.execute-3.ensures.survives.clean, late)) (rw begun) in
-    let two = c.in_ok-execute-2.ensures.runs (omega (arith, c.execute-3.ensures.survives.clean, late)) one.1.mode in
-    let three = c.in_ok-execute-3.ensures.runs late two.1.mode in
+    let late : HasCleanDisk (state g.S.Store fifth) = omega (arith, c.commit.ensures.survives.clean, ended) in
+    let one = c.in_ok-execute.ensures.runs (omega (arith, c.execute-2.ensures.survives.clean, c.execute-3.ensures.survives.clean, c.execute-4.ensures.survives.clean, c.execute-5.ensures.survives.clean, late)) (rw begun) in
+    let two = c.in_ok-execute-2.ensures.runs (omega (arith, c.execute-3.ensures.survives.clean, c.execute-4.ensures.survives.clean, c.execute-5.ensures.survives.clean, late)) one.1.mode in
+    let three = c.in_ok-execute-3.ensures.runs (omega (arith, c.execute-4.ensures.survives.clean, c.execute-5.ensures.survives.clean, late)) two.1.mode in
+    let four = c.in_ok-execute-4.ensures.runs (omega (arith, c.execute-5.ensures.survives.clean, late)) three.1.mode in
+    let five = c.in_ok-execute-5.ensures.runs late four.1.mode in
     let finish : OnOk c.commit.result (Makes g.S.Store old (state g.S.Store end)) = on_ok_weaker c.commit.result (λ done.
-    (first, c.in_ok-execute.field-0, rw begun at one, (second, c.in_ok-execute-2.field-0, two, (third, c.in_ok-execute-3.field-0, three, (done.1.now_is, done.1.committed_is)))))
+    (first, c.in_ok-execute.field-0, rw begun at one, (second, c.in_ok-execute-2.field-0, two, (third, c.in_ok-execute-3.field-0, three, (fourth, c.in_ok-execute-4.field-0, four, (fifth, c.in_ok-execute-5.field-0, five, (done.1.now_is, done.1.committed_is)))))))
     (c.commit.ensures.ok ended) in
     subst (λ h. OnOk c.commit.result (Makes g.S.Store old (state g.S.Store h))) same finish
 
@@ -106,16 +149,20 @@ returns-clause-refused g c clean =
     let first = c.execute.new.self.conn.now in
     let second = c.execute-2.new.self.conn.now in
     let third = c.execute-3.new.self.conn.now in
+    let fourth = c.execute-4.new.self.conn.now in
+    let fifth = c.execute-5.new.self.conn.now in
     let begun = c.transaction-tx.ensures.begun in
     let end = c.commit.new.self.0 in
     let same : end ≡ c.connection-2-1.given.0 = search rules in
     let ended : HasCleanDisk (state g.S.Store end) = rw (same) clean in
-    let late : HasCleanDisk (state g.S.Store third) = omega (arith, c.commit.ensures.survives.clean, ended) in
-    let one = c.in_ok-execute.ensures.runs (omega (arith, c.execute-2.ensures.survives.clean, c.execute-3.ensures.survives.clean, late)) (rw begun) in
-    let two = c.in_ok-execute-2.ensures.runs (omega (arith, c.execute-3.ensures.survives.clean, late)) one.1.mode in
-    let three = c.in_ok-execute-3.ensures.runs late two.1.mode in
-    err_weaker c.commit.result (FailsToCommit (state g.S.Store third) (state g.S.Store end)) (FailsToMake g.S.Store old)
-    (λ e failed. inr (inr (inr (first, c.in_ok-execute.field-0, rw begun at one, (second, c.in_ok-execute-2.field-0, two, (third, c.in_ok-execute-3.field-0, three, (end, failed)))))))
+    let late : HasCleanDisk (state g.S.Store fifth) = omega (arith, c.commit.ensures.survives.clean, ended) in
+    let one = c.in_ok-execute.ensures.runs (omega (arith, c.execute-2.ensures.survives.clean, c.execute-3.ensures.survives.clean, c.execute-4.ensures.survives.clean, c.execute-5.ensures.survives.clean, late)) (rw begun) in
+    let two = c.in_ok-execute-2.ensures.runs (omega (arith, c.execute-3.ensures.survives.clean, c.execute-4.ensures.survives.clean, c.execute-5.ensures.survives.clean, late)) one.1.mode in
+    let three = c.in_ok-execute-3.ensures.runs (omega (arith, c.execute-4.ensures.survives.clean, c.execute-5.ensures.survives.clean, late)) two.1.mode in
+    let four = c.in_ok-execute-4.ensures.runs (omega (arith, c.execute-5.ensures.survives.clean, late)) three.1.mode in
+    let five = c.in_ok-execute-5.ensures.runs late four.1.mode in
+    err_weaker c.commit.result (FailsToCommit (state g.S.Store fifth) (state g.S.Store end)) (FailsToMake g.S.Store old)
+    (λ e failed. inr (inr (inr (inr (inr ((first, c.in_ok-execute.field-0, rw begun at one, (second, c.in_ok-execute-2.field-0, two, (third, c.in_ok-execute-3.field-0, three, (fourth, c.in_ok-execute-4.field-0, four, (fifth, c.in_ok-execute-5.field-0, five, (end, failed))))))))))))
     (c.commit.ensures.err ended)
 
 pub returns-clause-crash : goal.returns-clause-crash
@@ -125,51 +172,129 @@ returns-clause-crash g c has =
     let first = c.execute.new.self.conn.now in
     let second = c.execute-2.new.self.conn.now in
     let third = c.execute-3.new.self.conn.now in
+    let fourth = c.execute-4.new.self.conn.now in
+    let fifth = c.execute-5.new.self.conn.now in
     let begun = c.transaction-tx.ensures.begun in
     let end = c.commit.new.self.0 in
     let same : end ≡ c.connection-2-1.given.0 = search rules in
-    let holds : HasCleanDisk (state g.S.Store third) → HoldsFormat (state g.S.Store third).now.trees = λ late.
-    let one = c.in_ok-execute.ensures.runs (omega (arith, c.execute-2.ensures.survives.clean, c.execute-3.ensures.survives.clean, late)) (rw begun) in
-    let two = c.in_ok-execute-2.ensures.runs (omega (arith, c.execute-3.ensures.survives.clean, late)) one.1.mode in
-    let three = c.in_ok-execute-3.ensures.runs late two.1.mode in
-    let meta = creates_meta (state g.S.Store start) (state g.S.Store first) c.in_ok-execute.field-0 (rw begun has) one.0 in
-    let batch = creates_batch (state g.S.Store first) (state g.S.Store second) c.in_ok-execute-2.field-0 meta.0 two.0 in
-    let format = adds_format (state g.S.Store second) (state g.S.Store third) c.in_ok-execute-3.field-0 batch.0 (batch.2 ∙ meta.1) three.0 in
-    (format.1 ∙ batch.1, format.2) in
+    let holds : HasCleanDisk (state g.S.Store fifth) → HoldsFormat (state g.S.Store fifth).now.trees = λ late.
+    let one = c.in_ok-execute.ensures.runs (omega (arith, c.execute-2.ensures.survives.clean, c.execute-3.ensures.survives.clean, c.execute-4.ensures.survives.clean, c.execute-5.ensures.survives.clean, late)) (rw begun) in
+    let two = c.in_ok-execute-2.ensures.runs (omega (arith, c.execute-3.ensures.survives.clean, c.execute-4.ensures.survives.clean, c.execute-5.ensures.survives.clean, late)) one.1.mode in
+    let three = c.in_ok-execute-3.ensures.runs (omega (arith, c.execute-4.ensures.survives.clean, c.execute-5.ensures.survives.clean, late)) two.1.mode in
+    let four = c.in_ok-execute-4.ensures.runs (omega (arith, c.execute-5.ensures.survives.clean, late)) three.1.mode in
+    let five = c.in_ok-execute-5.ensures.runs late four.1.mode in
+    let made = makes_all (state g.S.Store c.transaction-tx.result.conn.now) (state g.S.Store first) (state g.S.Store second) (state g.S.Store third) (state g.S.Store fourth) (state g.S.Store fifth) c.in_ok-execute.field-0 c.in_ok-execute-2.field-0 c.in_ok-execute-3.field-0 c.in_ok-execute-4.field-0 c.in_ok-execute-5.field-0 (rw begun has) one.0 two.0 three.0 four.0 five.0 in
+    (made.1, made.2, made.3) in
     let none = λ (db : Trees). ⊥ in
-    let two_calls = survives_then (state g.S.Store start) (state g.S.Store first) (state g.S.Store second) _ _ none (λ _ db x. x) (λ _ db x. x) c.execute.ensures.survives c.execute-2.ensures.survives in
-    let inside = survives_then (state g.S.Store start) (state g.S.Store second) (state g.S.Store third) _ _ none (λ _ db x. x) (λ _ db x. x) two_calls c.execute-3.ensures.survives in
-    let whole = survives_then (state g.S.Store old) (state g.S.Store third) (state g.S.Store end) _ _ HoldsFormat (λ _ db x. absurd x)
+    let upto2 = survives_then (state g.S.Store start) (state g.S.Store first) (state g.S.Store second) _ _ none (λ _ db x. x) (λ _ db x. x) c.execute.ensures.survives c.execute-2.ensures.survives in
+    let upto3 = survives_then (state g.S.Store start) (state g.S.Store second) (state g.S.Store third) _ _ none (λ _ db x. x) (λ _ db x. x) upto2 c.execute-3.ensures.survives in
+    let upto4 = survives_then (state g.S.Store start) (state g.S.Store third) (state g.S.Store fourth) _ _ none (λ _ db x. x) (λ _ db x. x) upto3 c.execute-4.ensures.survives in
+    let upto5 = survives_then (state g.S.Store start) (state g.S.Store fourth) (state g.S.Store fifth) _ _ none (λ _ db x. x) (λ _ db x. x) upto4 c.execute-5.ensures.survives in
+    let whole = survives_then (state g.S.Store old) (state g.S.Store fifth) (state g.S.Store end) _ _ HoldsFormat (λ _ db x. absurd x)
     (λ clean db is. subst HoldsFormat (sym is) (holds (omega (arith, c.commit.ensures.survives.clean, clean))))
-    (survives_begin g.S.Store old (state g.S.Store third) _ (rw begun at inside)) c.commit.ensures.survives in
+    (survives_begin g.S.Store old (state g.S.Store fifth) _ (rw begun at upto5)) c.commit.ensures.survives in
     subst (λ h. Survives (state g.S.Store old) (state g.S.Store h) HoldsFormat) same whole
+
+pub returns-in_err-execute-clause-err : goal.returns-in_err-execute-clause-err
+returns-in_err-execute-clause-err g c = grind (arith, common_steps)
 
 pub returns-in_err-execute-clause-crash : goal.returns-in_err-execute-clause-crash
 returns-in_err-execute-clause-crash g c = grind (arith, common_steps)
 
-pub returns-clause-mode : goal.returns-clause-mode
-returns-clause-mode g c = grind (arith, common_steps)
-
-pub returns-in_err-execute-3-clause-mode : goal.returns-in_err-execute-3-clause-mode
-returns-in_err-execute-3-clause-mode g c = grind (arith, common_steps)
-
-pub returns-in_err-execute-3-clause-crash : goal.returns-in_err-execute-3-clause-crash
-returns-in_err-execute-3-clause-crash g c = grind arith
+pub returns-in_err-execute-2-clause-mode : goal.returns-in_err-execute-2-clause-mode
+returns-in_err-execute-2-clause-mode g c = grind (arith, common_steps)
 
 pub returns-in_err-execute-2-clause-err : goal.returns-in_err-execute-2-clause-err
 returns-in_err-execute-2-clause-err g c = grind (arith, common_steps)
 
 pub returns-in_err-execute-2-clause-crash : goal.returns-in_err-execute-2-clause-crash
-returns-in_err-execute-2-clause-crash g c = grind (arith, common_steps)
+returns-in_err-execute-2-clause-crash g c has =
+    let old = c.args.connection.now in
+    let start = c.transaction-tx.result.conn.now in
+    let first = c.execute.new.self.conn.now in
+    let second = c.execute-2.new.self.conn.now in
+    let begun = c.transaction-tx.ensures.begun in
+    let end = c.drop-tx-in_err-execute-2.new.self.0 in
+    let same : end ≡ c.connection-in_err-execute-2-1.given.0 = search rules in
+    let none = λ (db : Trees). ⊥ in
+    let upto2 = survives_then (state g.S.Store start) (state g.S.Store first) (state g.S.Store second) _ _ none (λ _ db x. x) (λ _ db x. x) c.execute.ensures.survives c.execute-2.ensures.survives in
+    let whole = survives_then (state g.S.Store old) (state g.S.Store second) (state g.S.Store end) _ _ HoldsFormat (λ _ db x. absurd x) (λ _ db x. absurd x) (survives_begin g.S.Store old (state g.S.Store second) _ (rw begun at upto2)) c.drop-tx-in_err-execute-2.ensures.survives in
+    subst (λ h. Survives (state g.S.Store old) (state g.S.Store h) HoldsFormat) same whole
 
-pub returns-in_err-execute-clause-err : goal.returns-in_err-execute-clause-err
-returns-in_err-execute-clause-err g c = grind (arith, common_steps)
-
-pub returns-clause-err : goal.returns-clause-err
-returns-clause-err g c = grind (arith, common_steps)
+pub returns-in_err-execute-3-clause-mode : goal.returns-in_err-execute-3-clause-mode
+returns-in_err-execute-3-clause-mode g c = grind (arith, common_steps)
 
 pub returns-in_err-execute-3-clause-err : goal.returns-in_err-execute-3-clause-err
 returns-in_err-execute-3-clause-err g c = grind (arith, common_steps)
 
-pub returns-in_err-execute-2-clause-mode : goal.returns-in_err-execute-2-clause-mode
-returns-in_err-execute-2-clause-mode g c = grind (arith, common_steps)
+pub returns-in_err-execute-3-clause-crash : goal.returns-in_err-execute-3-clause-crash
+returns-in_err-execute-3-clause-crash g c has =
+    let old = c.args.connection.now in
+    let start = c.transaction-tx.result.conn.now in
+    let first = c.execute.new.self.conn.now in
+    let second = c.execute-2.new.self.conn.now in
+    let third = c.execute-3.new.self.conn.now in
+    let begun = c.transaction-tx.ensures.begun in
+    let end = c.drop-tx-in_err-execute-3.new.self.0 in
+    let same : end ≡ c.connection-in_err-execute-3-1.given.0 = search rules in
+    let none = λ (db : Trees). ⊥ in
+    let upto2 = survives_then (state g.S.Store start) (state g.S.Store first) (state g.S.Store second) _ _ none (λ _ db x. x) (λ _ db x. x) c.execute.ensures.survives c.execute-2.ensures.survives in
+    let upto3 = survives_then (state g.S.Store start) (state g.S.Store second) (state g.S.Store third) _ _ none (λ _ db x. x) (λ _ db x. x) upto2 c.execute-3.ensures.survives in
+    let whole = survives_then (state g.S.Store old) (state g.S.Store third) (state g.S.Store end) _ _ HoldsFormat (λ _ db x. absurd x) (λ _ db x. absurd x) (survives_begin g.S.Store old (state g.S.Store third) _ (rw begun at upto3)) c.drop-tx-in_err-execute-3.ensures.survives in
+    subst (λ h. Survives (state g.S.Store old) (state g.S.Store h) HoldsFormat) same whole
+
+pub returns-in_err-execute-4-clause-mode : goal.returns-in_err-execute-4-clause-mode
+returns-in_err-execute-4-clause-mode g c = grind (arith, common_steps)
+
+pub returns-in_err-execute-4-clause-err : goal.returns-in_err-execute-4-clause-err
+returns-in_err-execute-4-clause-err g c = grind (arith, common_steps)
+
+pub returns-in_err-execute-4-clause-crash : goal.returns-in_err-execute-4-clause-crash
+returns-in_err-execute-4-clause-crash g c has =
+    let old = c.args.connection.now in
+    let start = c.transaction-tx.result.conn.now in
+    let first = c.execute.new.self.conn.now in
+    let second = c.execute-2.new.self.conn.now in
+    let third = c.execute-3.new.self.conn.now in
+    let fourth = c.execute-4.new.self.conn.now in
+    let begun = c.transaction-tx.ensures.begun in
+    let end = c.drop-tx-in_err-execute-4.new.self.0 in
+    let same : end ≡ c.connection-in_err-execute-4-1.given.0 = search rules in
+    let none = λ (db : Trees). ⊥ in
+    let upto2 = survives_then (state g.S.Store start) (state g.S.Store first) (state g.S.Store second) _ _ none (λ _ db x. x) (λ _ db x. x) c.execute.ensures.survives c.execute-2.ensures.survives in
+    let upto3 = survives_then (state g.S.Store start) (state g.S.Store second) (state g.S.Store third) _ _ none (λ _ db x. x) (λ _ db x. x) upto2 c.execute-3.ensures.survives in
+    let upto4 = survives_then (state g.S.Store start) (state g.S.Store third) (state g.S.Store fourth) _ _ none (λ _ db x. x) (λ _ db x. x) upto3 c.execute-4.ensures.survives in
+    let whole = survives_then (state g.S.Store old) (state g.S.Store fourth) (state g.S.Store end) _ _ HoldsFormat (λ _ db x. absurd x) (λ _ db x. absurd x) (survives_begin g.S.Store old (state g.S.Store fourth) _ (rw begun at upto4)) c.drop-tx-in_err-execute-4.ensures.survives in
+    subst (λ h. Survives (state g.S.Store old) (state g.S.Store h) HoldsFormat) same whole
+
+pub returns-in_err-execute-5-clause-mode : goal.returns-in_err-execute-5-clause-mode
+returns-in_err-execute-5-clause-mode g c = grind (arith, common_steps)
+
+pub returns-in_err-execute-5-clause-err : goal.returns-in_err-execute-5-clause-err
+returns-in_err-execute-5-clause-err g c = grind (arith, common_steps)
+
+pub returns-in_err-execute-5-clause-crash : goal.returns-in_err-execute-5-clause-crash
+returns-in_err-execute-5-clause-crash g c has =
+    let old = c.args.connection.now in
+    let start = c.transaction-tx.result.conn.now in
+    let first = c.execute.new.self.conn.now in
+    let second = c.execute-2.new.self.conn.now in
+    let third = c.execute-3.new.self.conn.now in
+    let fourth = c.execute-4.new.self.conn.now in
+    let fifth = c.execute-5.new.self.conn.now in
+    let begun = c.transaction-tx.ensures.begun in
+    let end = c.drop-tx-in_err-execute-5.new.self.0 in
+    let same : end ≡ c.connection-in_err-execute-5-1.given.0 = search rules in
+    let none = λ (db : Trees). ⊥ in
+    let upto2 = survives_then (state g.S.Store start) (state g.S.Store first) (state g.S.Store second) _ _ none (λ _ db x. x) (λ _ db x. x) c.execute.ensures.survives c.execute-2.ensures.survives in
+    let upto3 = survives_then (state g.S.Store start) (state g.S.Store second) (state g.S.Store third) _ _ none (λ _ db x. x) (λ _ db x. x) upto2 c.execute-3.ensures.survives in
+    let upto4 = survives_then (state g.S.Store start) (state g.S.Store third) (state g.S.Store fourth) _ _ none (λ _ db x. x) (λ _ db x. x) upto3 c.execute-4.ensures.survives in
+    let upto5 = survives_then (state g.S.Store start) (state g.S.Store fourth) (state g.S.Store fifth) _ _ none (λ _ db x. x) (λ _ db x. x) upto4 c.execute-5.ensures.survives in
+    let whole = survives_then (state g.S.Store old) (state g.S.Store fifth) (state g.S.Store end) _ _ HoldsFormat (λ _ db x. absurd x) (λ _ db x. absurd x) (survives_begin g.S.Store old (state g.S.Store fifth) _ (rw begun at upto5)) c.drop-tx-in_err-execute-5.ensures.survives in
+    subst (λ h. Survives (state g.S.Store old) (state g.S.Store h) HoldsFormat) same whole
+
+pub returns-clause-mode : goal.returns-clause-mode
+returns-clause-mode g c = grind (arith, common_steps)
+
+pub returns-clause-err : goal.returns-clause-err
+returns-clause-err g c = grind (arith, common_steps)

@@ -10,4 +10,4 @@ invariant-rows g l =
     let now = state g.S.Store l.rows.conn.now in
     (l.rows.conn.ghost_name ≡ l.initial.rows.conn.ghost_name)
     × Survives old now (λ _. ⊥)
-    × SoFar g.S.Store g.T.Take.takes l.fn.connection l.fn.taker l.rows.conn.now l.taker l.before
+    × SoFar g.S.Store g.T.Take.takes l.fn.connection l.fn.taker l.fn.behind l.rows.conn.now l.taker l.before

@@ -10,7 +10,7 @@ returns-in-Ok g c = record {
         new = it.new;
         ready = λ cause. elim cause [ inl new ↦ it.made new | inr ours ↦ it.ready ours ];
         empty = λ new now. it.empty new now;
-        read = λ old now. it.read old now;
+        read = λ old now ours. it.read old now ours;
         found = λ log old now ours saved. it.found log old now ours saved;
       };
   ready = λ ours. elim ours [ inl none ↦ c.in-Ok.ensures.made (c.in-Ok.ensures.new.1 none) | inr ours ↦ c.in-Ok.ensures.ready ours ];

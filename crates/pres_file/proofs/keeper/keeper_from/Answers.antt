@@ -14,7 +14,7 @@ returns g c = record {
         new = there.new;
         ready = there.ready;
         empty = λ new. there.empty new now;
-        read = λ old. there.read old now;
+        read = λ old ours. there.read old now ours;
         found = λ log old ours saved. there.found log old now ours saved;
       }) c.keeper_for.ensures.keeps;
 }

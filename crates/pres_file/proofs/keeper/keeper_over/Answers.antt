@@ -10,7 +10,7 @@ pub returns-then-is_blank-clause-made : goal.returns-then-is_blank-clause-made
 returns-then-is_blank-clause-made g c = grind (arith, common_steps)
 
 pub returns-then-is_blank-clause-empty : goal.returns-then-is_blank-clause-empty
-returns-then-is_blank-clause-empty g c = grind (arith, common_steps)
+returns-then-is_blank-clause-empty g c = from_one c.made.result (λ it empty _ clean. empty clean) c.made.ensures.empty
 
 pub returns-then-is_blank-clause-ready : goal.returns-then-is_blank-clause-ready
 returns-then-is_blank-clause-ready g c = grind (arith, common_steps)
@@ -18,8 +18,8 @@ returns-then-is_blank-clause-ready g c = grind (arith, common_steps)
 pub returns-then-is_blank-clause-clean : goal.returns-then-is_blank-clause-clean
 returns-then-is_blank-clause-clean g c = grind (arith, common_steps)
 
-pub returns-then-is_blank-clause-format : goal.returns-then-is_blank-clause-format
-returns-then-is_blank-clause-format g c = grind (arith, common_steps)
+pub returns-then-is_blank-clause-opens : goal.returns-then-is_blank-clause-opens
+returns-then-is_blank-clause-opens g c = grind (arith, common_steps)
 
 pub returns-then-is_blank-clause-read : goal.returns-then-is_blank-clause-read
 returns-then-is_blank-clause-read g c = grind (arith, common_steps)
@@ -54,14 +54,14 @@ returns-else-is_blank-clause-ready g c = grind (arith, common_steps)
 pub returns-else-is_blank-clause-clean : goal.returns-else-is_blank-clause-clean
 returns-else-is_blank-clause-clean g c = grind (arith, common_steps)
 
-pub returns-else-is_blank-clause-format : goal.returns-else-is_blank-clause-format
-returns-else-is_blank-clause-format g c = grind (arith, common_steps)
+pub returns-else-is_blank-clause-opens : goal.returns-else-is_blank-clause-opens
+returns-else-is_blank-clause-opens g c = from_one c.found.result (λ it opens _ clean. opens clean) c.found.ensures.opens
 
 pub returns-else-is_blank-clause-read : goal.returns-else-is_blank-clause-read
-returns-else-is_blank-clause-read g c = from_one c.found.result (λ it read _ clean. read clean) c.found.ensures.read
+returns-else-is_blank-clause-read g c = from_one c.found.result (λ it read _ clean ours. read clean ours) c.found.ensures.read
 
 pub returns-else-is_blank-clause-found : goal.returns-else-is_blank-clause-found
-returns-else-is_blank-clause-found g c = grind (arith, common_steps)
+returns-else-is_blank-clause-found g c = from_one c.found.result (λ it found log _ clean ours kept. found log clean ours kept) c.found.ensures.found
 
 pub returns-else-is_blank-clause-unmade : goal.returns-else-is_blank-clause-unmade
 returns-else-is_blank-clause-unmade g c = grind (arith, common_steps)

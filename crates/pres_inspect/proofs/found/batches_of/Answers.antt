@@ -3,7 +3,8 @@ use Rattle.std.specs.Prelude.{IfErr}
 use Rattle.std.proofs.lemmas.Result.{IfOk-weaker}
 use Rattle.sqlite.specs.Held.{Held, state}
 use Rattle.pres_keeper.specs.Keepers.{whole}
-use Rattle.pres_saved.specs.SavedLogs.{readable_by}
+use Rattle.pres_batch_rows.specs.RowContents.{shown_base, shown_rows}
+use Rattle.pres_saved.specs.Laws.{kept_whole}
 use Rattle.pres_saved.specs.SqlKeepers.{readable_in}
 use Rattle.pres_inspect.specs.Copies.{IsFlaw, ShowsWhileOpen}
 use Rattle.pres_inspect.proofs.Flaws.{no_flaw, shows_left}
@@ -11,11 +12,15 @@ use Rattle.pres_inspect.proofs.found.batches_of.Goals as goal
 
 pub returns-in-Ok-clause-held : goal.returns-in-Ok-clause-held
 returns-in-Ok-clause-held g c = λ serves.
-    IfOk-weaker c.legal_only.result _ _ (λ legal same. ap (readable_by _) (c.in-Ok.ensures.batches (c.requires.honest c.load.new.self.connection) serves) ∙ ap whole (sym same)) c.legal_only.ensures.same
+    let was = state g.S.Store c.args.keeper.connection in
+    let all = kept_whole (shown_base was) (shown_rows was) c.in-Ok.batches.items (c.in-Ok.ensures.batches (c.requires.honest c.load.new.self.connection) serves) in
+    IfOk-weaker c.legal_only.result _ _ (λ legal same. all ∙ ap whole (sym same)) c.legal_only.ensures.same
 
 pub returns-in-Ok-clause-refused : goal.returns-in-Ok-clause-refused
 returns-in-Ok-clause-refused g c = λ serves.
-    subst (λ held. IfErr c.legal_only.result (IsFlaw held)) (sym (ap (readable_by _) (c.in-Ok.ensures.batches (c.requires.honest c.load.new.self.connection) serves))) c.legal_only.ensures.refused
+    let was = state g.S.Store c.args.keeper.connection in
+    let all = kept_whole (shown_base was) (shown_rows was) c.in-Ok.batches.items (c.in-Ok.ensures.batches (c.requires.honest c.load.new.self.connection) serves) in
+    subst (λ held. IfErr c.legal_only.result (IsFlaw held)) (sym all) c.legal_only.ensures.refused
 
 pub returns-in-Err-BadRow-clause-refused : goal.returns-in-Err-BadRow-clause-refused
 returns-in-Err-BadRow-clause-refused g c = λ serves.

@@ -1,12 +1,15 @@
-use Rattle.std.proofs.Common.{ap}
-use Rattle.pres_saved.specs.SavedLogs.{readable_by}
+use Rattle.sqlite.specs.Held.{state}
+use Rattle.pres_batch_rows.specs.RowContents.{shown_base, shown_rows}
+use Rattle.pres_saved.specs.Laws.{kept_whole}
 use Rattle.pres_saved.specs.SqlKeepers.{readable_in}
 use Rattle.pres_inspect.proofs.Flaws.{read_bad}
 use Rattle.pres_inspect.proofs.found.flaw_of.Goals as goal
 
 pub returns-in-Ok : goal.returns-in-Ok
 returns-in-Ok g c = λ serves bad.
-    read_bad (readable_in g.S.Store c.args.keeper.now) c.in-Ok.batches.items _ (ap (readable_by _) (c.in-Ok.ensures.batches (c.requires.honest c.load.new.self.connection) serves)) bad
+    let was = state g.S.Store c.args.keeper.now.connection in
+    let all = kept_whole (shown_base was) (shown_rows was) c.in-Ok.batches.items (c.in-Ok.ensures.batches (c.requires.honest c.load.new.self.connection) serves) in
+    read_bad (readable_in g.S.Store c.args.keeper.now) c.in-Ok.batches.items _ all bad
 
 pub returns-in-Err : goal.returns-in-Err
 returns-in-Err g c = λ serves bad.

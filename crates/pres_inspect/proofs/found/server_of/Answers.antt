@@ -1,6 +1,7 @@
-use Rattle.std.proofs.Common.{ap, subst, sym}
+use Rattle.std.proofs.Common.{subst, sym}
 use Rattle.sqlite.specs.Held.{Held, state}
-use Rattle.pres_saved.specs.SavedLogs.{readable_by}
+use Rattle.pres_batch_rows.specs.RowContents.{shown_base, shown_rows}
+use Rattle.pres_saved.specs.Laws.{kept_whole}
 use Rattle.pres_saved.specs.SqlKeepers.{readable_in}
 use Rattle.pres_inspect.specs.Copies.{ShowsWhileOpen}
 use Rattle.pres_inspect.proofs.Finding.{some_sum}
@@ -10,7 +11,8 @@ use Rattle.pres_inspect.proofs.found.server_of.Goals as goal
 pub returns-in-Ok-clause-held : goal.returns-in-Ok-clause-held
 returns-in-Ok-clause-held g c = λ serves.
     let it = c.in-Ok.ensures.server in
-    record { log = it.log; makes = it.makes; held = ap (readable_by _) (it.held (c.requires.honest c.replay.new.self.connection) serves) }
+    let was = state g.S.Store c.args.keeper.connection in
+    record { log = it.log; makes = it.makes; held = kept_whole (shown_base was) (shown_rows was) it.log (it.held (c.requires.honest c.replay.new.self.connection) serves) }
 
 pub returns-in-Ok-clause-made : goal.returns-in-Ok-clause-made
 returns-in-Ok-clause-made g c = some_sum _ c.in-Ok.ensures.server

@@ -2,7 +2,7 @@ use Rattle.std.proofs.Common.{◌+◌, arith}
 use Rattle.sqlite.specs.State.{HasCleanDisk}
 use Rattle.sqlite.specs.Held.{state}
 use Rattle.pres_batch_rows.proofs.Collecting.{taken_so}
-use Rattle.pres_batch_rows.proofs.Inserting.{awaits_left}
+use Rattle.pres_batch_rows.proofs.Formats.{awaits_left}
 use Rattle.pres_batch_rows.proofs.Shut.{nothing_done}
 use Rattle.pres_batch_rows.proofs.table.BatchTable.each.Goals as goal
 

@@ -10,7 +10,7 @@ use Rattle.std.proofs.lemmas.Grind.{common_steps}
 pub returns-clause-ok : goal.returns-clause-ok
 returns-clause-ok g c clean serves =
     let it = c.in_ok-each.ensures.goes clean serves in
-    let front = saved_front (shown_rows (state g.S.Store c.args.self.now.connection)) in
+    let front = saved_front c.args.behind (shown_rows (state g.S.Store c.args.self.now.connection)) in
     let all = collected (λ (kept : Collector). map saved_of kept.rows.items) front _ _ it.1 in
     it.0 ∙ ap Ok (sym (all ∙ ap (λ rows. map saved_of rows ++ front) c.new.ensures.items))
 

@@ -1,18 +1,18 @@
-use Rattle.std.proofs.Common.{◌∙◌, ap, map, sym}
-use Rattle.sqlite.specs.Effect.{Database}
-use Rattle.pres_batch_rows.specs.RowContents.{shown_row}
-use Rattle.pres_batch_rows.specs.TableOpening.{greatest_in}
-use Rattle.pres_saved.specs.SavedLogs.{saved_log}
+use Rattle.std.proofs.Common.{◌∙◌, ap₂}
+use Rattle.sqlite.specs.Held.{state}
+use Rattle.pres_saved.specs.SavedLogs.{saved_log, readable_rows}
+use Rattle.pres_saved.proofs.Opening.{found_rows}
 use Rattle.pres_saved.proofs.sql.SqlKeeper.open.Goals as goal
 
 pub returns-in-Ok-clause-ready : goal.returns-in-Ok-clause-ready
-returns-in-Ok-clause-ready g c = λ ours. record {
-  serves = c.in-Ok.ensures.serves ours;
-  last = λ works.
-      let found = c.in-Ok.ensures.found works.clean ours in
-      found.last ∙ ap (λ (d : Database). greatest_in (map shown_row (d.trees 2))) (sym found.same.now);
-}
+returns-in-Ok-clause-ready g c = λ ours. record { serves = c.in-Ok.ensures.serves ours; last = λ works. (c.in-Ok.ensures.found works.clean ours).last }
+
+pub returns-in-Ok-clause-read : goal.returns-in-Ok-clause-read
+returns-in-Ok-clause-read g c = λ clean ours.
+    let same = found_rows (state g.S.Store c.args.connection) (state g.S.Store c.in-Ok.table.connection) ours (c.in-Ok.ensures.found clean ours).kept in
+    ap₂ readable_rows same.0 same.1
 
 pub returns-in-Ok-clause-found : goal.returns-in-Ok-clause-found
 returns-in-Ok-clause-found g c = λ log clean ours kept.
-    ap (λ (d : Database). saved_log (map shown_row (d.trees 2))) (c.in-Ok.ensures.found clean ours).same.now ∙ kept
+    let same = found_rows (state g.S.Store c.args.connection) (state g.S.Store c.in-Ok.table.connection) ours (c.in-Ok.ensures.found clean ours).kept in
+    ap₂ saved_log same.0 same.1 ∙ kept

@@ -1,6 +1,6 @@
 use Rattle.std.proofs.Common.{◌≡◌, Ok}
 use Rattle.sqlite.specs.Held.{state}
-use Rattle.pres_batch_rows.specs.RowContents.{shown_rows}
+use Rattle.pres_batch_rows.specs.RowContents.{shown_rows, shown_base}
 use Rattle.pres_keeper.proofs.Running.{served_so}
 use Rattle.pres_saved.specs.SavedLogs.{saved_log}
 use Rattle.pres_saved.proofs.Committing.{kept_left}
@@ -15,7 +15,8 @@ returns-clause-server g c = served_so _ _ c.replay.result
 
 pub returns-clause-exact : goal.returns-clause-exact
 returns-clause-exact g c = λ log ready works kept.
-    let saved = saved_log (shown_rows (state g.S.Store c.args.self.now.connection)) in
+    let old = state g.S.Store c.args.self.now.connection in
+    let saved = saved_log (shown_base old) (shown_rows old) in
     served_by saved log c.replay.result kept
     (served_so _ (λ l. saved ≡ Ok l) c.replay.result (λ l held. held works.clean ready.serves) c.replay.ensures.server)
 

@@ -2,9 +2,9 @@ use Rattle.std.proofs.Common.{◌≡◌, ◌<◌, ◌≤◌, ◌^◌, false}
 use Rattle.sqlite.specs.State.{HasCleanDisk, IsUnchanged, Survives}
 use Rattle.sqlite.specs.View.{doubt}
 use Rattle.sqlite.specs.Held.{state}
-use Rattle.pres_batch_rows.specs.TableStates.{IsOurs}
+use Rattle.pres_batch_rows.specs.TableStates.{HoldsBatches}
 use Rattle.pres_batch_rows.proofs.Finding.{Counting}
-use Rattle.pres_batch_rows.proofs.format.last_number.Given as goal
+use Rattle.pres_batch_rows.proofs.last.last_number.Given as goal
 
 abbrev pub invariant-rows : goal.invariant-rows
 invariant-rows g l =
@@ -16,4 +16,4 @@ invariant-rows g l =
     × (l.last < 2 ^ 63)
     × Survives old now (λ _. ⊥)
     × (HasCleanDisk now → IsUnchanged old now)
-    × (HasCleanDisk now → IsOurs old → Counting g.S.Store l.fn.connection l.rows.conn.now l.last)
+    × (HasCleanDisk now → HoldsBatches old → Counting g.S.Store l.fn.connection l.rows.conn.now l.before l.last)

@@ -1,4 +1,4 @@
-use Rattle.std.proofs.Common.{◌≡◌, ◌⊎◌, inl, inr, max, [], refl, sym, subst, ◌∙◌, IsTrue, rules, arith}
+use Rattle.std.proofs.Common.{◌≡◌, ◌⊎◌, inl, inr, max, ◌+◌, [], refl, sym, subst, ◌∙◌, IsTrue, rules, arith}
 use Rattle.sqlite.specs.State.{HasCleanDisk, IsUnchanged, IsRolledBack, Survives, CommitsShowing}
 use Rattle.sqlite.specs.Held.{state}
 use Rattle.sqlite.proofs.Callers.{unchanged_then}
@@ -7,8 +7,9 @@ use Rattle.pres_batch_rows.specs.TableStates.{IsLeft}
 use Rattle.pres_batch_rows.proofs.Plain.{rows_are_read, query_fails, begun_same, commits_none}
 use Rattle.pres_batch_rows.proofs.Inserting.{left_by, left_later}
 use Rattle.pres_batch_rows.proofs.Progress.{nothing_more}
-use Rattle.pres_batch_rows.proofs.Finding.{Counting, counting_begins, counting_more, counted}
-use Rattle.pres_batch_rows.proofs.format.last_number.Goals as goal
+use Rattle.pres_batch_rows.specs.RowContents.{AreBelow, rows_in}
+use Rattle.pres_batch_rows.proofs.Finding.{Counting, counting_begins, counting_more, counted, chosen, chosen_low}
+use Rattle.pres_batch_rows.proofs.last.last_number.Goals as goal
 use Rattle.std.proofs.lemmas.Grind.{common_steps}
 
 pub returns-in_err-rows-clause-left : goal.returns-in_err-rows-clause-left
@@ -38,7 +39,13 @@ returns-in_default-clause-ok g c clean ours =
     let same : now ≡ c.connection-in_default-1.given.0 = search rules in
     let late : HasCleanDisk (state g.S.Store now) = subst (λ h. HasCleanDisk (state g.S.Store h)) (sym same) clean in
     let progress = c.rows.invariant.6 (omega (arith, moved.survives.clean, late)) ours in
-    counted g.S.Store c.args.connection.now ours c.rows.rows.conn.now c.rows.last progress now (rw (c.in_ok-row.was, c.in_default.is) at (moved.ok late))
+    let it = counted g.S.Store c.args.connection.now ours c.rows.rows.conn.now c.rows.before c.rows.last progress now (rw (c.in_ok-row.was, c.in_default.is) at (moved.ok late)) in
+    let any = c.if_any.ensures in
+    let both = chosen c.rows.before c.rows.last c.if_any.result _ any.none any.some it.0.0 it.0.1 it.2 in
+    (both.0, subst (λ n. AreBelow (n + 1) (rows_in (state g.S.Store c.args.connection.now))) (sym both.1) it.1)
+
+pub returns-in_default-clause-bound : goal.returns-in_default-clause-bound
+returns-in_default-clause-bound g c = chosen_low c.rows.before c.rows.last c.if_any.result c.if_any.ensures.none c.if_any.ensures.some c.rows.invariant.3
 
 pub rows-preserved : goal.rows-preserved
 rows-preserved g c =
@@ -56,8 +63,8 @@ rows-preserved g c =
           let progress = c.rows.invariant.6 (omega (arith, moved.survives.clean, clean)) ours in
           let next = rw (c.in_ok-row.was, c.in-Some.is) at (moved.ok clean) in
           let stays = rw c.in_ok-row.was at (moved.same clean) in
-          subst (Counting g.S.Store c.args.connection.now now) (sym last)
-          (counting_more g.S.Store c.args.connection.now ours c.rows.rows.conn.now c.rows.last progress now c.in-Some.row.now c.in_ok-number_in.field-0 next stays number.0 number.1),
+          subst (Counting g.S.Store c.args.connection.now now (c.rows.before + 1)) (sym last)
+          (counting_more g.S.Store c.args.connection.now ours c.rows.rows.conn.now c.rows.before c.rows.last progress now c.in-Some.row.now c.in_ok-number_in.field-0 next stays number.0 number.1),
     )
 
 pub returns-in_err-rows-clause-crash : goal.returns-in_err-rows-clause-crash

@@ -3,7 +3,7 @@ use Rattle.sqlite.specs.Order.{column}
 use Rattle.sqlite.specs.declared.types.Value.TheVariants.{Int}
 use Rattle.pres_batch_rows.specs.RowContents.{whole_of}
 use Rattle.pres_batch_rows.proofs.Finding.{number_facts, number_bound}
-use Rattle.pres_batch_rows.proofs.format.number_in.Goals as goal
+use Rattle.pres_batch_rows.proofs.last.number_in.Goals as goal
 
 pub returns-in-Ok-Int : goal.returns-in-Ok-Int
 returns-in-Ok-Int c =
