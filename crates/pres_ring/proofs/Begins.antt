@@ -34,7 +34,7 @@ first_told s m more k =
     let es = entries k.log in
     (length (up_to_open s es), ops s.client (up_to_open s es), head_of m (welcome s (up_to_open s es)) (more ++ k.within.0) (stream s es) (k.within.1 ∙ told_opened s es k.opened))
 
-one_welcome : (s t : SessionId) (m : Down) → IsWelcome s m → IsWelcome t m → t ≡ s
+pub one_welcome : (s t : SessionId) (m : Down) → IsWelcome s m → IsWelcome t m → t ≡ s
 one_welcome s t m a b = same_welcome t s b.0 b.1 a.0 a.1 (sym b.2 ∙ a.2)
 
 -- a transcript that begins with the Welcome of s is no other session's

@@ -21,7 +21,7 @@ use Rattle.pres_ring.specs.Transcripts.{transcript, up_to_open, is_gone}
 use Rattle.pres_ring.specs.Laws.{GoneIsLast}
 use Rattle.pres_ring.proofs.Begins.{told_opened, told_unopened}
 
-abbrev has_gone : List Down → Bool
+abbrev pub has_gone : List Down → Bool
 has_gone ms = list_any is_gone ms
 
 none_in_push : (s : SessionId) (now : List Entry) (ps : List Path) (r : ℕ) → has_gone (numbered_from r (push_of s now ps)) ≡ false
@@ -76,7 +76,7 @@ none_in_entry s now e r h =
     ∙ none_in_pair (numbered_from r pushes) (numbered_from (length pushes + r) answer) (none_in_push s now (touched s now e) r) (none_in_answer s now e (length pushes + r) h)
 
 -- there is no Gone, or it is the last message and the only one
-abbrev GoneAtEnd : Bool → List Down → Type 0
+abbrev pub GoneAtEnd : Bool → List Down → Type 0
 GoneAtEnd false ms = has_gone ms ≡ false
 GoneAtEnd true ms = (front : List Down) × (g : Down) × (ms ≡ front ++ g ∷ []) × (has_gone front ≡ false)
 
@@ -148,11 +148,11 @@ whole (x ∷ xs) rest (f ∷ front) g e n h =
     let same = same_head x f (xs ++ rest) (front ++ g ∷ []) e in
     whole xs rest front g (same_tail x f (xs ++ rest) (front ++ g ∷ []) e) none.1 (other_one (is_gone x) (has_gone xs) h (ap is_gone same ∙ none.0))
 
-has_gone_first : (xs rest : List Down) → has_gone xs ≡ true → has_gone (xs ++ rest) ≡ true
+pub has_gone_first : (xs rest : List Down) → has_gone xs ≡ true → has_gone (xs ++ rest) ≡ true
 has_gone_first xs rest h = any-append is_gone xs rest ∙ ap (λ b. b || has_gone rest) h
 
 -- then the session has ended, and that is all of it
-gone_prefix : (b : Bool) (xs rest ms : List Down) → GoneAtEnd b ms → xs ++ rest ≡ ms → has_gone xs ≡ true → (b ≡ true) × (rest ≡ [])
+pub gone_prefix : (b : Bool) (xs rest ms : List Down) → GoneAtEnd b ms → xs ++ rest ≡ ms → has_gone xs ≡ true → (b ≡ true) × (rest ≡ [])
 gone_prefix false xs rest ms g e h = absurd (true≢false (sym (has_gone_first xs rest h) ∙ ap has_gone e ∙ g))
 gone_prefix true xs rest ms g e h = (refl, whole xs rest g.0 g.1 (e ∙ g.2) g.3 h)
 

@@ -10,3 +10,12 @@ pub mod Changes
 pub mod Marks
 pub mod Sends
 pub mod Firsts
+pub mod OpenSteps
+pub mod SentSteps
+pub mod HistoriesTell
+pub mod BeginsIn
+pub mod MadeBy
+pub mod TurnsBy
+pub mod WelcomedBy
+pub mod LegalTranscripts
+pub mod AcceptedSince

@@ -130,19 +130,19 @@ said_made P bs s q d h = by (is_open s bs) refl (nat_le q (count s bs)) (q == co
   by true o false true k = h o (eqb-true q (count s bs + 1) k)
   by true o false false k = tt
 
-op_made : (P : List Entry → Type 0) (t : WriteStatus) (tree : Rows Scalar) (m : ℕ) (s : SessionId) (q n : ℕ) (op : Op)
+pub op_made : (P : List Entry → Type 0) (t : WriteStatus) (tree : Rows Scalar) (m : ℕ) (s : SessionId) (q n : ℕ) (op : Op)
     → P (entry.Op s q n op (resolved tree m op) ∷ []) → P (entry.Again s q n ∷ []) → IfMakes P (op_by t tree m s q n op)
 op_made P fresh tree m s q n op a b = a
 op_made P (again row) tree m s q n op a b = b
 op_made P gap tree m s q n op a b = tt
 
-rows_made : (P : List Entry → Type 0) (n : ℕ) (e : Entry) (s : SessionId) (q : ℕ) → P (e ∷ []) → P (entry.Denied s q limit.Plan ∷ []) → IfMakes P (within_rows n e s q)
+pub rows_made : (P : List Entry → Type 0) (n : ℕ) (e : Entry) (s : SessionId) (q : ℕ) → P (e ∷ []) → P (entry.Denied s q limit.Plan ∷ []) → IfMakes P (within_rows n e s q)
 rows_made P n e s q a d = by (nat_le n most_rows) where
   by : (b : Bool) → P (cond b e (entry.Denied s q limit.Plan) ∷ [])
   by true = a
   by false = d
 
-paths_made : (P : List Entry → Type 0) (n : ℕ) (s : SessionId) (q : ℕ) (path : Path) → P (entry.On s q path ∷ []) → P (entry.Denied s q limit.Listens ∷ []) → IfMakes P (within_paths n s q path)
+pub paths_made : (P : List Entry → Type 0) (n : ℕ) (s : SessionId) (q : ℕ) (path : Path) → P (entry.On s q path ∷ []) → P (entry.Denied s q limit.Listens ∷ []) → IfMakes P (within_paths n s q path)
 paths_made P n s q path a d = by (nat_le n most_paths) where
   by : (b : Bool) → P (cond b (entry.On s q path) (entry.Denied s q limit.Listens) ∷ [])
   by true = a
@@ -220,15 +220,15 @@ hello_loud bs m s = by (is_newest s bs) where
   by true = tt
   by false = tt
 
-op_loud : (t : WriteStatus) (tree : Rows Scalar) (m : ℕ) (s : SessionId) (q n : ℕ) (op : Op) → IsLoud (op_by t tree m s q n op)
+pub op_loud : (t : WriteStatus) (tree : Rows Scalar) (m : ℕ) (s : SessionId) (q n : ℕ) (op : Op) → IsLoud (op_by t tree m s q n op)
 op_loud fresh tree m s q n op = tt
 op_loud (again row) tree m s q n op = tt
 op_loud gap tree m s q n op = tt
 
-passed_by : (q c : ℕ) → q ≡ c + 1 → nat_le q c ≡ true → ⊥
+pub passed_by : (q c : ℕ) → q ≡ c + 1 → nat_le q c ≡ true → ⊥
 passed_by q c k h = grind (arith, nat_tests)
 
-same_some : (a b : ℕ) → Some a ≡ Some b → a ≡ b
+pub same_some : (a b : ℕ) → Some a ≡ Some b → a ≡ b
 same_some a b e = cc e
 
 said_loud : (bs : List Entry) (s : SessionId) (q : ℕ) (d : Decision) → Some q ≡ Some (count s bs + 1) → IsLoud d → IsLoud (if_open bs s (in_order bs s q d))

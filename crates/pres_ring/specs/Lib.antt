@@ -2,6 +2,8 @@ pub mod Transcripts
 pub mod AcceptedMessages
 pub mod RingEnds
 pub mod Laws
+pub mod HistoryTranscripts
+pub mod LawsByTheSum
 pub mod Lines
 pub mod Deliveries
 pub mod InternalFeeds
