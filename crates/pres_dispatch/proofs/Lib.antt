@@ -8,3 +8,4 @@ pub mod Standing
 pub mod Growing
 pub mod Since
 pub mod Started
+pub mod Several

@@ -1,1 +1,2 @@
 pub mod Dispatches
+pub mod Groups

@@ -77,6 +77,13 @@ impl<B: Bell + Clone + Drop> Bells<B> {
         drop(self.hung.remove(session));
     }
 
+    /// The session's bell isn't due by what is put for it until bells are handed out next.
+    pub(crate) fn pass_over(&mut self, session: &SessionId) {
+        if let Some(hung) = self.hung.get_mut(session) {
+            hung.due_in = Some(self.round);
+        }
+    }
+
     /// The bells of these messages' sessions are due.
     pub(crate) fn note(&mut self, answers: &Items<Down>) {
         if self.hung.is_empty() {

@@ -1,6 +1,6 @@
 //! An engine with the lines of its sessions.
 
-ghost use Rattle.std.specs.Prelude.{◌≡◌, ◌≤◌, ◌<◌, [], true, false, is_some, Some, None, IfOk, IfErr, IfSome, IfNone, OnOk, OnErr, MatchResult, option_copied, option_map};
+ghost use Rattle.std.specs.Prelude.{◌≡◌, ◌≤◌, ◌<◌, ◌+◌, ◌++◌, ◌∷◌, [], map, length, All, vec_len, vec_capacity, true, false, is_some, Some, None, IfOk, IfErr, IfSome, IfNone, OnOk, OnErr, MatchResult, option_copied, option_map};
 ghost use Rattle.pres_ids.specs.declared.id.SessionId.{SessionId};
 ghost use Rattle.pres_log.specs.Logs.{Log};
 ghost use Rattle.pres_server.specs.declared.input.Input.TheVariants.{Up as Message};
@@ -15,11 +15,12 @@ ghost use Rattle.pres_ring.specs.Deliveries.{FitsTranscript};
 ghost use Rattle.pres_keeper.specs.Keepers.{SomeLog};
 ghost use Rattle.pres_keeper.specs.Engines.{Runs, IsLogOf};
 ghost use Rattle.pres_keeper.specs.EngineTurns.{IsTurnRefused, MakesBatch, log_turned};
+ghost use Rattle.pres_dispatch.specs.Groups.{MayDeliver, AreDelivered, AreTurned, TurnsStand, turned_of};
 ghost use Rattle.pres_dispatch.specs.Dispatches.{is_hello, StayMarked, Stands, SomeStands, IsAnswered, IsJoined, IsNotJoined, LastIsFor, LinesJoined, NoneSlow, AreEnded, log_ended, AreRestarted, log_restarted, IsNoClient, StopsAtStart, IsNotStarted};
 
 use crate::bells::{Bell, Bells};
 use pres_faults::EngineFault;
-use pres_keeper::{Engine, Input, Keeper};
+use pres_keeper::{Engine, Input, Keeper, TurnResult};
 use pres_ring::{Lines, Opening, Outbox};
 use pres_server::{ClientId, Down, Items, Moment, Server, SessionId, Up, Why};
 use std::alloc::{AllocError, Global};
@@ -60,6 +61,51 @@ fn welcome(lines: &mut Lines, opening: Opening, answers: Items<Down>) -> Outbox
     let (feed, outbox) = opening.welcome(message);
     lines.attach(feed);
     outbox
+}
+
+/// Whether a turn among several answered anything, or why it wasn't done.
+pub type Turned = Result<bool, EngineFault>;
+
+// Puts the answers of a turn that was done on the lines. What is left is whether there were any.
+fn deliver<B: Bell + Clone + Drop>(
+    lines: &mut Lines,
+    bells: &mut Bells<B>,
+    outcome: TurnResult,
+) -> Turned
+    requires { MayDeliver (outcome ∷ []) lines.old }
+    ensures turned { result ≡ turned_of outcome }
+    ensures put { AreDelivered (outcome ∷ []) lines.old lines.new }
+    ensures fewer { unmarked lines.new ≤ unmarked lines.old }
+{
+    match outcome {
+        Ok(answers) => {
+            bells.note(&answers);
+            let is_told = !answers.as_slice().is_empty();
+            lines.deliver(answers);
+            Ok(is_told)
+        }
+        Err(fault) => Err(fault),
+    }
+}
+
+// Puts the answers of the turns that were done on the lines, one turn after another, and adds what
+// is left of each. There is room for that.
+fn deliver_all<B: Bell + Clone + Drop>(
+    lines: &mut Lines,
+    bells: &mut Bells<B>,
+    results: Items<TurnResult>,
+    turned: &mut Vec<Turned>,
+)
+    requires told { MayDeliver results lines.old }
+    requires room { vec_len turned.old + length results ≤ vec_capacity turned.old }
+    ensures turned { turned.new.items ≡ turned.old.items ++ map turned_of results }
+    ensures put { AreDelivered results lines.old lines.new }
+    ensures fewer { unmarked lines.new ≤ unmarked lines.old }
+{
+    let mut rest = results.into_vec().into_iter();
+    'results: while let Some(outcome) = rest.next() {
+        turned.push_reserved(deliver(lines, bells, outcome));
+    }
 }
 
 // The first client, in byte order, that has a session open.
@@ -214,6 +260,48 @@ impl<K: Keeper + Drop, B: Bell + Clone + Drop> Dispatcher<K, B> {
         Ok(())
     }
 
+    /// Does what the inputs ask for, one after another, and puts the answers of each on the lines
+    /// before those of the next. Of each it returns whether it answered anything, or why it wasn't
+    /// done. Operations that follow one another share a commit, and none is answered before it; where
+    /// such a commit is refused, each of its turns is refused with the keeper's fault, and server and
+    /// lines are as before them. No session is ended as slow. The inputs are handed back, with nothing
+    /// done, where memory for the results is refused.
+    pub fn turn_all(
+        &mut self,
+        alloc: Global,
+        inputs: Vec<Input>,
+        now: Moment,
+    ) -> Result<Items<Turned>, Vec<Input>>
+        requires { All (λ input. is_hello input ≡ false) inputs.items }
+        ensures turned { IfOk result (λ turned. AreTurned inputs.items turned now
+            self.old.run.server self.new.run.server self.old.lines self.new.lines) }
+        ensures stands { (log : Log) → Stands K.works K.keeps log self.old → IfOk result
+            (TurnsStand K.works K.keeps K.outlasts inputs.items now self.old self.new log) }
+        ensures back { IfErr result (λ back. back.items ≡ inputs.items) }
+        ensures unchanged { OnErr result (self.new ≡ self.old) }
+        ensures marks { StayMarked self.old.lines self.new.lines }
+        ensures rises { self.old.run.number ≤ self.new.run.number }
+        ensures fewer { unmarked self.new.lines ≤ unmarked self.old.lines }
+        ensures worked { K.works self.new.run.keeper → K.works self.old.run.keeper }
+        ensures outlasts { (log : Log) → K.outlasts self.old.run.keeper log
+            → K.outlasts self.new.run.keeper log }
+    {
+        let Ok(mut turned) = Vec::with_capacity(alloc, inputs.len()) else {
+            return Err(inputs);
+        };
+        let results = match self.engine.turn_all(alloc, inputs, now) {
+            Ok(results) => results,
+            Err(inputs) => {
+                drop(turned);
+                return Err(inputs);
+            }
+        };
+        // it ensures what the number counts
+        let _ = self.engine.number();
+        deliver_all(&mut self.lines, &mut self.bells, results, &mut turned);
+        Ok(Items::of(turned))
+    }
+
     /// Opens the session: the end from which its messages are taken.
     pub fn join(
         &mut self,
@@ -334,6 +422,14 @@ impl<K: Keeper + Drop, B: Bell + Clone + Drop> Dispatcher<K, B> {
         ensures { self.new ≡ self.old }
     {
         self.bells.remove(session);
+    }
+
+    /// What is put for the session until bells are handed out next doesn't make its bell due: its
+    /// connection looks by itself.
+    pub fn pass_over(&mut self, session: &SessionId)
+        ensures { self.new ≡ self.old }
+    {
+        self.bells.pass_over(session);
     }
 
     /// Hands out each bell that is due, once, except that of this session, whose connection asks.

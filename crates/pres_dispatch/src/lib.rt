@@ -6,8 +6,8 @@ mod bells;
 mod dispatcher;
 
 pub use bells::{Bell, NoBell};
-pub use dispatcher::Dispatcher;
+pub use dispatcher::{Dispatcher, Turned};
 pub use pres_faults::EngineFault;
 pub use pres_keeper::{Input, Keeper, MemKeeper};
 pub use pres_ring::Outbox;
-pub use pres_server::{Count, Fault, Moment, Server, SessionId, Up, Why};
+pub use pres_server::{Count, Fault, Items, Moment, Server, SessionId, Up, Why};
