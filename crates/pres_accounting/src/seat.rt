@@ -19,14 +19,14 @@ pub struct Seat<L: Ledger> {
 }
 
 impl<L: Ledger> Model for Seat<L> {
-    ghost use Rattle.std.specs.Prelude.{◌≡◌};
+    ghost use Rattle.std.specs.Prelude.{◌≡◌, ◌≤◌};
     ghost use Rattle.pres_accounting.specs.Seats.{SeatState};
 
     ghost Value = { SeatState };
 
     ghost view = { λ s. record { session = s.session; q = s.q; seen = s.seen; made = s.made } };
 
-    ghost invariant = { λ s. (s.share.parts ≡ 1) × (s.share.amount ≡ s.made) };
+    ghost invariant = { λ s. (s.share.parts ≡ 1) × (s.share.amount ≡ s.made) × (1 ≤ s.made) };
 }
 
 impl<L: Ledger> Seat<L> {
@@ -49,6 +49,14 @@ impl<L: Ledger> Seat<L> {
         ensures { result ≡ self.now.seen }
     {
         self.seen
+    }
+
+    /// How many of its messages were accepted, its Hello too.
+    pub fn made(&self) -> u64
+        ensures made { result ≡ self.now.made }
+        ensures joined { 1 ≤ result }
+    {
+        self.made
     }
 
     /// Notes a number that was sent to it, no smaller than the ones before.

@@ -27,6 +27,8 @@ use Rattle.pres_tree.specs.contracts.nested.Nested as nested
 use Rattle.pres_write.specs.contracts.draft.DraftLeaf as slot
 use Rattle.pres_write.specs.contracts.basic.Basic as basic
 use Rattle.pres_write.specs.contracts.op.Op as op
+use Rattle.pres_write.specs.contracts.update.Update as update
+use Rattle.pres_write.specs.contracts.unconditional.Unconditional as unconditional
 use Rattle.pres_write.specs.contracts.outcome.Outcome as outcome
 use Rattle.pres_write.specs.contracts.outcome.Kept as kept
 use Rattle.pres_write.specs.contracts.puts.Puts as puts
@@ -50,6 +52,7 @@ use Rattle.pres_server.specs.contracts.index.Index as index
 use Rattle.pres_server.specs.contracts.server.Server as server
 use Rattle.pres_wire.specs.contracts.values.Values as values
 use Rattle.pres_wire.specs.contracts.down.Down as down
+use Rattle.pres_wire.specs.contracts.up.Up as up
 use Rattle.pres_ring.specs.contracts.feed.Feed as feed
 use Rattle.pres_ring.specs.contracts.outbox.Outbox as outbox
 use Rattle.pres_ring.specs.contracts.lines.Lines as lines
@@ -63,9 +66,14 @@ use Rattle.pres_dispatch.specs.contracts.dispatcher.Dispatcher as dispatcher
 use Rattle.pres_dispatch.specs.contracts.bells.Bells as bells
 use Rattle.pres_dispatch.specs.contracts.bells.SessionBell as hung
 use Rattle.pres_dispatch.specs.contracts.bells.DueBell as due
+use Rattle.pres_hub.specs.contracts.center.Said as said
 use Rattle.pres_hub.specs.contracts.center.Core as core
 use Rattle.pres_hub.specs.contracts.locked.Hub as hub
+use Rattle.pres_hub.specs.contracts.request.Request as request
+use Rattle.pres_hub.specs.contracts.request.Answer as answer
 use Rattle.pres_accounting.proofs.tally.Tally.TheSendSync.{the_send as tally_is}
+use Rattle.pres_accounting.proofs.seat.Seat.TheSendSync.{the_send as seat_is}
+use Rattle.pres_faults.proofs.hub_fault.HubFault.TheSendSync.{the_send as fault_is}
 
 pub tree_send : IsSend (nested.the_row scalar.the_row)
 tree_send = search (key_is, scalar_is, maps, crosses, knot, sendable) depth 60 fits 20000
@@ -84,6 +92,15 @@ puts_send = search (placement_send, crosses, sendable) depth 60 fits 20000
 
 pub op_send : IsSend op.the_row
 op_send = search (path_is, tree_send, draft_send, placement_send, maps, crosses, sendable) depth 60 fits 20000
+
+pub update_send : IsSend update.the_row
+update_send = search (path_is, tree_send, draft_send, placement_send, maps, crosses, sendable) depth 60 fits 20000
+
+pub unconditional_send : IsSend unconditional.the_row
+unconditional_send = search (placement_send, update_send, crosses, sendable) depth 60 fits 20000
+
+pub up_send : IsSend up.the_row
+up_send = search (session_is, number_is, path_is, op_send, unconditional_send, variants_send, as_row_send, crosses, sendable) depth 60 fits 20000
 
 pub outcome_send : IsSend outcome.the_row
 outcome_send = search (tree_send, basic_send, items_is, crosses, sendable) depth 60 fits 20000
@@ -181,10 +198,20 @@ module _ (K B : RattleType) (g : keeping.Ghosts K.Denot) where
   pub dispatcher_send : IsSend K → IsSend B → IsSend (dispatcher.the_row K B g)
   dispatcher_send k b = search (engine_send, lines_send, bells_send, declared_send, as_row_send, crosses, sendable) depth 60 fits 20000
 
+pub said_send : IsSend said.the_row
+said_send = search (crosses, sendable) depth 60 fits 20000
+
+module _ (L : RattleType) (l : ledger.Ghosts L.Denot) where
+  pub request_send : IsSend (request.the_row L l)
+  request_send = search (seat_is, up_send, declared_send, as_row_send, crosses, sendable) depth 60 fits 20000
+
+  pub answer_send : IsSend (answer.the_row L l)
+  answer_send = search (seat_is, said_send, fault_is, declared_send, as_row_send, crosses, sendable) depth 60 fits 20000
+
 module _ (L K B : RattleType) (l : ledger.Ghosts L.Denot) (g : keeping.Ghosts K.Denot) where
   pub core_send : IsSend K → IsSend B → IsSend (core.the_row L K B l g)
   core_send k b = search (dispatcher_send, tally_is, global_is, declared_send, as_row_send, crosses, sendable) depth 60 fits 20000
 
   module _ (G : RattleType) where
     pub hub_sync : IsSend K → IsSend B → IsSync G → IsSync (hub.the_row L K B G l g)
-    hub_sync k b y = search (core_send, declared_sync, as_row_sync, crosses, sendable) depth 60 fits 20000
+    hub_sync k b y = search (core_send, request_send, answer_send, global_is, declared_sync, as_row_sync, crosses, sendable) depth 60 fits 20000

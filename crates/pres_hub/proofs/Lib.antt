@@ -5,3 +5,8 @@ pub mod Fewer
 pub mod Ends
 pub mod Crossing
 pub mod Ticking
+pub mod Others
+pub mod Together
+pub mod Gathered
+pub mod SaidTogether
+pub mod Booked

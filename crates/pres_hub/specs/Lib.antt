@@ -1,3 +1,5 @@
 pub mod Cores
 pub mod CoreCalls
 pub mod CoreTurns
+pub mod CoreGroups
+pub mod InternalGroups

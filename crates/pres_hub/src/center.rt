@@ -32,6 +32,7 @@ use std::sync::ledger::{Blank, Ledger};
 
 #[cfg(test)]
 mod tests;
+mod together;
 
 /// A hub's answer to a message that was taken: the number of the server's last entry then.
 #[derive(Clone, Copy, Debug, PartialEq, Eq)]
@@ -270,6 +271,7 @@ impl<L: Ledger, K: Keeper + Drop, B: Bell + Clone + Drop> Core<L, K, B> {
             self.old.run.server self.new.run.server) }
         ensures kept { OnErr result
             ((self.new.counts ≡ self.old.counts) × (seat.new ≡ seat.old)) }
+        ensures rises { self.old.run.number ≤ self.new.run.number }
         ensures stays { OnErr result (self.new.run.number ≡ self.old.run.number) }
         ensures lines { OnErr result (self.new.lines ≡ self.old.lines) }
         ensures start { self.new.start ≡ self.old.start }
@@ -455,12 +457,30 @@ impl<L: Ledger, K: Keeper + Drop, B: Bell + Clone + Drop> Core<L, K, B> {
         Ok(())
     }
 
+    /// What is put for the session until bells are handed out next doesn't make its bell due: its
+    /// connection looks by itself.
+    pub fn pass_over(&mut self, session: &SessionId)
+        ensures { self.new ≡ self.old }
+    {
+        self.dispatcher.pass_over(session);
+    }
+
     /// Hands out each bell that is due, once, except that of this session, whose connection asks.
     /// Ring them once the lock is free; one for which the list has no memory is rung at once.
     pub fn take_due(&mut self, but: Option<&SessionId>, bells: &mut Vec<B>)
         ensures { self.new ≡ self.old }
     {
         self.dispatcher.take_due(but, bells);
+    }
+
+    // The allocator.
+    pub(crate) fn alloc(&self) -> Global {
+        self.alloc
+    }
+
+    // Takes the seat. Its session stays as it is.
+    pub(crate) fn take_back(&mut self, seat: Seat<L>) {
+        drop(self.tally.take(seat, None));
     }
 
     /// Ends the run.

@@ -4,6 +4,7 @@
 mod center;
 mod gate;
 mod locked;
+mod request;
 
 pub use center::{Core, Said};
 pub use gate::{Gate, OpenGate};
@@ -11,3 +12,4 @@ pub use locked::Hub;
 pub use pres_accounting::{Parting, Report, Seat};
 pub use pres_dispatch::{Bell, Keeper, MemKeeper, Moment, NoBell, Outbox, SessionId, Up, Why};
 pub use pres_faults::HubFault;
+pub use request::{Answer, Request};
