@@ -1,6 +1,6 @@
 //! A connection's place at its hub.
 
-ghost use Rattle.std.specs.Prelude.{◌≡◌, ◌≤◌, false, Some, None, Err, OnOk, OnErr, IfOk, IfErr};
+ghost use Rattle.std.specs.Prelude.{◌≡◌, ◌≤◌, false, true, is_some, Some, None, Err, OnOk, OnErr, IfOk, IfErr, IfSome};
 ghost use Rattle.pres_wire.specs.UpForms.{decoded};
 ghost use Rattle.pres_wire.specs.declared.fault.WireFault.{WireFault};
 ghost use Rattle.pres_wire.specs.declared.down.Down.TheVariants.{Fault};
@@ -25,8 +25,10 @@ pub(crate) struct HubAccess<'a, L: Ledger, K: Keeper + Drop, B, G: Gate, R> {
 
 /// The seat of a connection's session, and the end from which its messages are taken.
 pub(crate) struct JoinedSession<L: Ledger> {
-    seat: Seat<L>,
+    // none only while the hub has it with a message
+    seat: Option<Seat<L>>,
     outbox: Outbox,
+    ghost seated: { is_some seat ≡ true },
 }
 
 /// Opens the session, and sets its bell, which is taken exactly if the session is opened. The bells
@@ -38,8 +40,9 @@ pub(crate) fn join<L: Ledger, K: Keeper + Drop, B: Bell + Clone + Drop, G: Gate,
     due: &mut Vec<B>,
     now: Moment,
 ) -> Result<JoinedSession<L>, HubFault>
-    ensures joined { IfOk result (λ place. place.seat.made ≡ 1) }
-    ensures opened { IfOk result (λ place. place.seat.session ≡ session.now) }
+    ensures joined { IfOk result (λ place. IfSome place.seat (λ seat. seat.made ≡ 1)) }
+    ensures opened { IfOk result (λ place.
+        IfSome place.seat (λ seat. seat.session ≡ session.now)) }
     ensures taken { OnOk result (bell.new ≡ None) }
     ensures kept { OnErr result (bell.new ≡ bell.old) }
 {
@@ -50,17 +53,31 @@ pub(crate) fn join<L: Ledger, K: Keeper + Drop, B: Bell + Clone + Drop, G: Gate,
         let _ = core.hang(&seat, bell);
     }
     core.take_due(Some(session), due);
-    Ok(JoinedSession { seat, outbox })
+    Ok(JoinedSession {
+        seat: Some(seat),
+        outbox,
+    })
 }
 
 impl<L: Ledger> JoinedSession<L> {
+    // The seat.
+    fn seat(&self) -> &Seat<L>
+        ensures { self.now.seat ≡ Some result.now }
+    {
+        let Some(seat) = &self.seat else {
+            unreachable!()
+        };
+        seat
+    }
+
     /// A fault message to the seat's session.
     pub(crate) fn fault(&self, alloc: Global, code: Code) -> Result<Down, SockFault>
-        ensures message { IfOk result (λ m. m ≡ Fault (Some self.now.seat.session) code) }
+        ensures message { IfOk result (λ m.
+            IfSome self.now.seat (λ seat. m ≡ Fault (Some seat.session) code)) }
         ensures err { IfErr result (λ e. is_handshake e ≡ false) }
     {
         Ok(Down::Fault {
-            session: Some(self.seat.session().copy(alloc)?),
+            session: Some(self.seat().session().copy(alloc)?),
             code,
         })
     }
@@ -81,9 +98,8 @@ impl<L: Ledger> JoinedSession<L> {
         text: &str,
         now: Moment,
     ) -> Result<Option<Down>, SockFault>
-        ensures bad { (e : WireFault) → decoded text.now ≡ Err e
-            → IfOk result (refusal.AnswersBad self.old.seat.session) }
-        ensures grows { self.old.seat.made ≤ self.new.seat.made }
+        ensures bad { (e : WireFault) → decoded text.now ≡ Err e → IfSome self.old.seat
+            (λ seat. IfOk result (refusal.AnswersBad seat.session)) }
         ensures err { IfErr result (λ e. is_handshake e ≡ false) }
     {
         let up = match Up::decode(visit.alloc, text) {
@@ -97,19 +113,19 @@ impl<L: Ledger> JoinedSession<L> {
         }
     }
 
-    // Takes a message to the hub.
+    // Takes a message to the hub, which has the seat meanwhile.
     fn say<K: Keeper + Drop, B: Bell + Clone + Drop, G: Gate, R: Wait>(
         &mut self,
         visit: &HubAccess<'_, L, K, B, G, R>,
         due: &mut Vec<B>,
         up: Up,
         now: Moment,
-    ) -> Result<(), HubFault>
-        ensures { self.old.seat.made ≤ self.new.seat.made }
-    {
-        let mut core = visit.hub.enter(visit.rt, 0);
-        let said = core.say(&mut self.seat, up, now);
-        core.take_due(Some(self.seat.session()), due);
+    ) -> Result<(), HubFault> {
+        let Some(seat) = self.seat.take() else {
+            unreachable!()
+        };
+        let (seat, said) = visit.hub.say(visit.rt, 0, seat, up, now, due);
+        fill(&mut self.seat, seat);
         said?;
         Ok(())
     }
@@ -121,13 +137,28 @@ impl<L: Ledger> JoinedSession<L> {
         due: &mut Vec<B>,
         now: Moment,
     ) -> Parting<L>
-        ensures { result.made ≡ self.seat.made }
+        ensures made { IfSome self.seat (λ seat. result.made ≡ seat.made) }
+        ensures joined { 1 ≤ result.made }
     {
         let JoinedSession { seat, outbox: _ } = self;
+        let Some(seat) = seat else { unreachable!() };
+        // it ensures that the seat made a Hello at least
+        let _ = seat.made();
         let mut core = visit.hub.enter(visit.rt, 0);
         let parting = core.leave(seat, Why::Lost, now);
         core.take_due(None, due);
         parting
+    }
+}
+
+// Puts the seat where none is.
+fn fill<L: Ledger>(place: &mut Option<Seat<L>>, seat: Seat<L>)
+    requires { place.old ≡ None }
+    ensures { place.new ≡ Some seat }
+{
+    match place.replace(seat) {
+        None => {}
+        Some(_) => unreachable!(),
     }
 }
 

@@ -47,7 +47,6 @@ struct Served<L: Ledger, B, S> {
     place: JoinedSession<L>,
     due: Vec<B>,
     step: Result<Progress, SockFault>,
-    ghost joined: { 1 ≤ place.seat.made },
     ghost shaken: { fails_to_shake step ≡ false },
 }
 
@@ -266,7 +265,6 @@ fn greet<
     due: &mut Vec<B>,
     clock: &mut C,
 ) -> Result<Option<JoinedSession<L>>, SockFault>
-    ensures joined { IfOk result (λ found. IfSome found (λ place. 1 ≤ place.seat.made)) }
     ensures bell { bell.new ≡ left_of bell.old result }
 {
     'asked: for _ in 0..u64::MAX {
@@ -312,8 +310,10 @@ fn admit<L: Ledger, K: Keeper + Drop, B: Bell + Clone + Drop, G: Gate, R: Wait, 
     due: &mut Vec<B>,
     clock: &mut C,
 ) -> Result<Result<JoinedSession<L>, Down>, SockFault>
-    ensures joined { IfOk result (λ found. IfOk found (λ place. place.seat.made ≡ 1)) }
-    ensures opened { IfOk result (λ found. IfOk found (λ place. asked ≡ Ok place.seat.session)) }
+    ensures joined { IfOk result (λ found. IfOk found (λ place.
+        IfSome place.seat (λ seat. seat.made ≡ 1))) }
+    ensures opened { IfOk result (λ found. IfOk found (λ place.
+        IfSome place.seat (λ seat. asked ≡ Ok seat.session))) }
     ensures refused { IfOk result (λ found. IfErr found (IsHelloRefusal asked)) }
     ensures taken { IfOk result (λ found. OnOk found (bell.new ≡ None)) }
     ensures kept { IfOk result (λ found. OnErr found (bell.new ≡ bell.old)) }
@@ -513,7 +513,6 @@ fn turn<
     came: Received,
     clock: &mut C,
 ) -> Result<Progress, SockFault>
-    ensures grows { place.old.seat.made ≤ place.new.seat.made }
     ensures err { IfErr result (λ e. is_handshake e ≡ false) }
 {
     if let Received::Close = came {
@@ -533,10 +532,10 @@ fn answer_to<L: Ledger, K: Keeper + Drop, B: Bell + Clone + Drop, G: Gate, R: Wa
     came: Received,
     clock: &mut C,
 ) -> Result<Option<Down>, SockFault>
-    ensures binary { came ≡ Binary → IfOk result (λ answer. answer ≡ bad place.old.seat.session) }
+    ensures binary { came ≡ Binary → IfSome place.old.seat
+        (λ seat. IfOk result (λ answer. answer ≡ bad seat.session)) }
     ensures bad { (words : List ℕ) (e : WireFault) → came ≡ Text words → decoded words ≡ Err e
-        → IfOk result (AnswersBad place.old.seat.session) }
-    ensures grows { place.old.seat.made ≤ place.new.seat.made }
+        → IfSome place.old.seat (λ seat. IfOk result (AnswersBad seat.session)) }
     ensures err { IfErr result (λ e. is_handshake e ≡ false) }
 {
     match came {
