@@ -42,7 +42,7 @@ const SERVE_HELP: &str = "Example:
   presence serve 127.0.0.1:8080 presence.db
 
 Exit status:
-  0  so many connections have ended, or the standard input has
+  0  the given number of connections has ended, or the standard input has
   1  the output failed
   2  these words are wrong
   3  the file is refused
@@ -200,7 +200,7 @@ fn connections_argument<'a>(alloc: Global) -> Arg<'a>
         .long("connections")
         .value_name("N")
         .value_parser(ValueParser::unsigned(1, MOST_CONNECTIONS))
-        .help("Ends once so many connections have ended")
+        .help("Ends once this many connections have ended")
 }
 
 fn client_command<'a>(alloc: Global) -> Result<Command<'a>, AllocError>
@@ -209,7 +209,7 @@ fn client_command<'a>(alloc: Global) -> Result<Command<'a>, AllocError>
 {
     let id = "The client's name: 1 to 128 of A-Z, a-z, 0-9, _ and -";
     Command::new(alloc, "client")
-        .about("Makes the calls that the input's lines say, and prints what it is told")
+        .about("Makes the calls that the input's lines say, and prints what the server sends")
         .after_help(CLIENT_HELP)
         .arg(needed_argument(alloc, "ADDRESS", "Where the server listens"))?
         .arg(needed_argument(alloc, "ID", id))?

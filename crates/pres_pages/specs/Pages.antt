@@ -51,9 +51,14 @@ sample_text of value = of ++ (codes " " ++ (decimal value ++ codes "\n"))
 abbrev pub metric_text : Text → Text → Text → ℕ → Text
 metric_text name about kind value = head_text name about kind ++ sample_text name value
 
+-- a sample of a metric with a label, which has this word
+abbrev pub labelled_text : Text → Text → Text → ℕ → Text
+labelled_text name label word value =
+    name ++ (codes "{" ++ (label ++ (codes "=\"" ++ (word ++ (codes "\"} " ++ (decimal value ++ codes "\n"))))))
+
 -- a sample of the entries of a kind
 abbrev pub entries_sample : Text → ℕ → Text
-entries_sample kind value = sample_text (codes "presence_entries_total{kind=\"" ++ kind ++ codes "\"}") value
+entries_sample kind value = labelled_text (codes "presence_entries_total") (codes "kind") kind value
 
 -- of sessions and their operations
 abbrev pub sessions_text : EntryCounts → Text
@@ -91,8 +96,9 @@ gauges_text is_well counts =
 abbrev pub commits_text : Counts → Text
 commits_text counts =
     metric_text (codes "presence_connections_total") (codes "Connections that were accepted since the start.") (codes "counter") counts.connections
-    ++ (metric_text (codes "presence_commits_total") (codes "Batches that were committed since the start.") (codes "counter") counts.commits
-    ++ metric_text (codes "presence_refused_commits_total") (codes "Commits that were refused since the start.") (codes "counter") counts.refused_commits)
+    ++ (metric_text (codes "presence_commits_total") (codes "Commits that were made since the start.") (codes "counter") counts.commits
+    ++ (metric_text (codes "presence_batches_total") (codes "Batches that were committed since the start; those of a group share a commit.") (codes "counter") counts.batches
+    ++ metric_text (codes "presence_refused_commits_total") (codes "Commits that were refused since the start.") (codes "counter") counts.refused_commits))
 
 -- how long what was done took
 abbrev pub times_text : Counts → Text
@@ -103,11 +109,11 @@ times_text counts =
 
 -- a sample of the messages of a kind that were sent
 abbrev pub sent_sample : Text → ℕ → Text
-sent_sample kind value = sample_text (codes "presence_messages_out_total{kind=\"" ++ kind ++ codes "\"}") value
+sent_sample kind value = labelled_text (codes "presence_messages_out_total") (codes "kind") kind value
 
 -- a sample of the refusals with a code
 abbrev pub refusals_sample : Text → ℕ → Text
-refusals_sample code value = sample_text (codes "presence_refusals_total{code=\"" ++ code ++ codes "\"}") value
+refusals_sample code value = labelled_text (codes "presence_refusals_total") (codes "code") code value
 
 -- those that answer a message of a session
 abbrev pub answers_text : SentCounts → Text

@@ -50,8 +50,10 @@ pub struct Counts {
     pub open_connections: u64,
     /// How many connections were accepted since the start.
     pub connections: u64,
-    /// How many batches were committed since the start, and how many were refused.
+    /// How many commits were made since the start, how many batches they had, and how many commits
+    /// were refused.
     pub commits: u64,
+    pub batches: u64,
     pub refused_commits: u64,
     /// How long the longest commit took since the metrics were read last, in microseconds.
     pub longest_commit: u64,

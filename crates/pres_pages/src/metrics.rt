@@ -1,7 +1,7 @@
 //! The metrics of a server, in Prometheus' text format.
 
 ghost use Rattle.std.specs.Prelude.{◌≡◌, string_bytes, IfOk};
-ghost use Rattle.pres_pages.specs.Pages.{commits_text, entries_sample, entries_text, gauges_text, head_text, metric_text, metrics_text, rows_text, sessions_text, times_text, traffic_text, unwell_now};
+ghost use Rattle.pres_pages.specs.Pages.{commits_text, entries_sample, entries_text, gauges_text, head_text, labelled_text, metric_text, metrics_text, rows_text, sessions_text, times_text, traffic_text, unwell_now};
 
 use crate::counts::{Counts, EntryCounts};
 use crate::traffic::traffic_text;
@@ -34,11 +34,25 @@ pub(crate) fn metric_text(
     format!(in alloc; "{head}{name} {value}\n")
 }
 
+/// A sample of a metric with a label.
+pub(crate) fn labelled_text(
+    alloc: Global,
+    name: &str,
+    label: &str,
+    word: &str,
+    value: u64,
+) -> Result<String, AllocError>
+    ensures { IfOk result (λ text. string_bytes text
+        ≡ labelled_text name.now label.now word.now value) }
+{
+    format!(in alloc; "{name}{{{label}=\"{word}\"}} {value}\n")
+}
+
 // A sample of the entries of a kind.
 fn entries_sample(alloc: Global, kind: &str, value: u64) -> Result<String, AllocError>
     ensures { IfOk result (λ text. string_bytes text ≡ entries_sample kind.now value) }
 {
-    format!(in alloc; "presence_entries_total{{kind=\"{kind}\"}} {value}\n")
+    labelled_text(alloc, "presence_entries_total", "kind", kind, value)
 }
 
 // The entries since the start, by their kind.
@@ -131,9 +145,16 @@ fn commits_text(alloc: Global, counts: &Counts) -> Result<String, AllocError>
     let commits = metric_text(
         alloc,
         "presence_commits_total",
-        "Batches that were committed since the start.",
+        "Commits that were made since the start.",
         "counter",
         counts.commits,
+    )?;
+    let batches = metric_text(
+        alloc,
+        "presence_batches_total",
+        "Batches that were committed since the start; those of a group share a commit.",
+        "counter",
+        counts.batches,
     )?;
     let refused = metric_text(
         alloc,
@@ -142,7 +163,7 @@ fn commits_text(alloc: Global, counts: &Counts) -> Result<String, AllocError>
         "counter",
         counts.refused_commits,
     )?;
-    format!(in alloc; "{connections}{commits}{refused}")
+    format!(in alloc; "{connections}{commits}{batches}{refused}")
 }
 
 // How long what was done took.

@@ -4,21 +4,21 @@ ghost use Rattle.std.specs.Prelude.{◌≡◌, string_bytes, IfOk};
 ghost use Rattle.pres_pages.specs.Pages.{answers_text, first_codes_text, last_codes_text, refusals_sample, refusals_text, sent_sample, sent_text, told_text, traffic_text};
 
 use crate::counts::{Counts, RefusalCounts, SentCounts};
-use crate::metrics::{head_text, metric_text};
+use crate::metrics::{head_text, labelled_text, metric_text};
 use std::alloc::{AllocError, Global};
 
 // A sample of the messages of a kind that were sent.
 fn sent_sample(alloc: Global, kind: &str, value: u64) -> Result<String, AllocError>
     ensures { IfOk result (λ text. string_bytes text ≡ sent_sample kind.now value) }
 {
-    format!(in alloc; "presence_messages_out_total{{kind=\"{kind}\"}} {value}\n")
+    labelled_text(alloc, "presence_messages_out_total", "kind", kind, value)
 }
 
 // A sample of the refusals with a code.
 fn refusals_sample(alloc: Global, code: &str, value: u64) -> Result<String, AllocError>
     ensures { IfOk result (λ text. string_bytes text ≡ refusals_sample code.now value) }
 {
-    format!(in alloc; "presence_refusals_total{{code=\"{code}\"}} {value}\n")
+    labelled_text(alloc, "presence_refusals_total", "code", code, value)
 }
 
 // The messages that were sent, by their kind.

@@ -7,6 +7,7 @@ use pres_keeper::Keeper;
 use pres_server::{Batch, Server};
 use pres_tcp::Meter;
 use std::marker::Model;
+use std::slice;
 use std::time::{Clock, Instant};
 
 /// A keeper whose commits are counted and timed. Contracts see the keeper.
@@ -54,11 +55,11 @@ impl<'a, K: Keeper, R: Clock> Keeper for CountedKeeper<'a, K, R> {
 
     ghost keeps = { λ kept log. K.keeps kept log };
 
-    ghost stores = { λ old batch new. K.stores old batch new };
+    ghost stores = { λ old batches new. K.stores old batches new };
 
     ghost shut = { λ old new. K.shut old new };
 
-    ghost leaves = { λ old log batch new. K.leaves old log batch new };
+    ghost leaves = { λ old log batches new. K.leaves old log batches new };
 
     ghost may_find = { λ kept held. K.may_find kept held };
 
@@ -73,7 +74,15 @@ impl<'a, K: Keeper, R: Clock> Keeper for CountedKeeper<'a, K, R> {
         let start = Instant::now(self.clock).ok();
         let committed = self.keeper.commit(batch);
         note_time(self.meter, self.clock, start);
-        note_fate(self.meter, batch, committed.is_ok());
+        note_fate(self.meter, slice::from_ref(batch), committed.is_ok());
+        committed
+    }
+
+    fn commit_all(&mut self, batches: &[Batch]) -> Result<(), SavedFault> {
+        let start = Instant::now(self.clock).ok();
+        let committed = self.keeper.commit_all(batches);
+        note_time(self.meter, self.clock, start);
+        note_fate(self.meter, batches, committed.is_ok());
         committed
     }
 
@@ -86,12 +95,15 @@ impl<'a, K: Keeper, R: Clock> Keeper for CountedKeeper<'a, K, R> {
     }
 }
 
-// Notes that the batch was committed, or refused.
-fn note_fate(meter: &Meter, batch: &Batch, is_committed: bool) {
-    if is_committed {
-        meter.note_commit(batch.entries());
-    } else {
+// Notes that the batches were committed together, or refused.
+fn note_fate(meter: &Meter, batches: &[Batch], is_committed: bool) {
+    if !is_committed {
         meter.note_refusal();
+        return;
+    }
+    meter.note_commit();
+    for batch in batches {
+        meter.note_batch(batch.entries());
     }
 }
 

@@ -231,6 +231,7 @@ pub struct Meter {
     connections: Counter,
     over: Counter,
     commits: Counter,
+    batches: Counter,
     refused_commits: Counter,
     longest_commit: Counter,
     received: Counter,
@@ -248,6 +249,7 @@ impl Meter {
             connections: Counter::new(),
             over: Counter::new(),
             commits: Counter::new(),
+            batches: Counter::new(),
             refused_commits: Counter::new(),
             longest_commit: Counter::new(),
             received: Counter::new(),
@@ -263,9 +265,14 @@ impl Meter {
         self.ended_at_start.reset(self.entries.ended.get());
     }
 
-    /// A batch with these entries was committed.
-    pub fn note_commit(&self, entries: &[Entry]) {
+    /// A commit was made.
+    pub fn note_commit(&self) {
         self.commits.add(1);
+    }
+
+    /// A batch with these entries was committed.
+    pub fn note_batch(&self, entries: &[Entry]) {
+        self.batches.add(1);
         self.number.add(entries.len() as u64);
         for entry in entries {
             self.entries.of(entry).add(1);
@@ -325,6 +332,7 @@ impl Meter {
             open_connections: connections.saturating_sub(over),
             connections,
             commits: self.commits.get(),
+            batches: self.batches.get(),
             refused_commits: self.refused_commits.get(),
             longest_commit: self.longest_commit.get(),
             received: self.received.get(),

@@ -153,7 +153,7 @@ fn accept_all<
     let crowd = StreamCount::new();
     let shared = &crowd;
     thread::scope(thread::scope_env(), rt, move |scope| {
-        // it is let go before the threads are waited for
+        // it closes before the scope waits for its threads
         let mut door = Door::at(rt, alloc, listener);
         let mut accepted = 0u32;
         for _ in rt.forever() {
