@@ -2,6 +2,7 @@
 
 mod callers;
 mod gates;
+mod groups;
 mod keepers;
 mod refusing;
 mod rows;
@@ -12,5 +13,7 @@ mod slow;
 mod starts;
 mod stops;
 mod threads;
+mod together;
 mod turns;
+mod upgrades;
 mod words;

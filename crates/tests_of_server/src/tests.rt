@@ -3,6 +3,7 @@
 mod bases;
 mod disconnections;
 mod dispatchers;
+mod groups;
 mod lines;
 mod logs;
 mod pushes;

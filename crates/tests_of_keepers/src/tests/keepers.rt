@@ -35,6 +35,23 @@ fn row<S: Alter + Drop>(
     (connection, text)
 }
 
+// The connection, and the format, as another program reads it.
+pub(crate) fn meta<S: Alter + Drop>(
+    rt: &impl Abort,
+    alloc: Global,
+    mut connection: Connection<S>,
+) -> (Connection<S>, String) {
+    let statement = "SELECT value FROM meta WHERE name = 'format'";
+    let text = match connection.query_row(statement, &[]) {
+        Ok(row) => {
+            let format: i64 = row.get(0).expect(rt, "a number");
+            format!(in alloc; "{format}").expect(rt, "memory")
+        }
+        Err(_) => said(rt, alloc, "no format"),
+    };
+    (connection, text)
+}
+
 // The connection after the tables were made, and what that answered.
 fn created<S: Alter + Drop>(
     rt: &impl Abort,
@@ -71,8 +88,8 @@ fn stepped<S: Alter + Drop>(
 }
 
 // The connection after a step: `create`, `sql` and a statement of another program, which has the
-// database for itself, `row` and its number, a call on the table (`open`, `append`, `load`, `each`), or a
-// step of the keeper over it.
+// database for itself, `row` and its number, `meta`, a call on the table (`open`, `append`,
+// `append_twice`, `append_none`, `load`, `each`, `checkpoint`, `base`), or a step of the keeper over it.
 fn after<S: Alter + Drop>(
     rt: &impl Abort,
     alloc: Global,
@@ -84,7 +101,15 @@ fn after<S: Alter + Drop>(
         "create" => created(rt, alloc, connection),
         "sql" => run_sql(rt, alloc, connection, rest),
         "row" => row(rt, alloc, connection, rest),
-        "open" | "append" | "load" | "each" => called(rt, alloc, connection, call),
+        "meta" => meta(rt, alloc, connection),
+        "open"
+        | "append"
+        | "append_twice"
+        | "append_none"
+        | "load"
+        | "each"
+        | "checkpoint"
+        | "base" => called(rt, alloc, connection, call),
         _ => stepped(rt, alloc, connection, call),
     }
 }
@@ -133,7 +158,7 @@ server => 2 entries, {"a":1}
 create => NotOurs
 sql UPDATE meta SET value = 9 WHERE name = 'format' => run
 server => Version
-sql UPDATE meta SET value = 1 WHERE name = 'format' => run
+sql UPDATE meta SET value = 2 WHERE name = 'format' => run
 sql INSERT INTO batch(k, moment, body) VALUES(3, 1000, '[') => run
 batches => BadRow 3
 server => BadRow 3
@@ -171,6 +196,45 @@ server => 5 entries, {"x":7}
 5000 restart bob => quiet
 server => 5 entries, {"x":7}"#;
 
+// Two batches that another program saved in format 1.
+const FORMAT_ONE: &str =
+    r#"sql CREATE TABLE meta(name TEXT PRIMARY KEY, value INTEGER NOT NULL) => run
+sql CREATE TABLE batch(k INTEGER PRIMARY KEY, moment INTEGER NOT NULL, body TEXT NOT NULL) => run
+sql INSERT INTO meta(name, value) VALUES('format', 1) => run
+sql INSERT INTO batch(k, moment, body) VALUES(1, 1000, '[{"e":"open","s":["alice",1,1]}]') => run
+sql INSERT INTO batch(k, moment, body) VALUES(2, 1000, '[{"e":"op","n":1,"op":{"op":"set","path":"/a","value":1},"out":{"wrote":[["/a",1]]},"q":1,"s":["alice",1,1]}]') => run
+meta => 1
+batches => batches, 1 1000 [{"e":"open","s":["alice",1,1]}], 2 1000 [{"e":"op","n":1,"op":{"op":"set","path":"/a","value":1},"out":{"wrote":[["/a",1]]},"q":1,"s":["alice",1,1]}]
+meta => 2
+server => 2 entries, {"a":1}
+1000 {"m":"bye","q":2,"s":["alice",1,1]} => {"m":"gone","r":2,"s":["alice",1,1],"why":"bye","z":3}
+row 3 => (3, 1000, [{"e":"ended","q":2,"rows":[],"s":["alice",1,1],"why":"bye"}])
+server => 3 entries, {"a":1}
+checkpoint 1000 {} => kept
+batches => Database
+server => Database"#;
+
+// Three batches are committed at once, all of them or none.
+const GROUPED: &str = r#"create => created
+sql CREATE UNIQUE INDEX once ON batch(body) => run
+append 500 [{"e":"open","s":["bob",1,1]}] => appended
+group => Database
+batches => batches, 1 500 [{"e":"open","s":["bob",1,1]}]
+row 2 => no row
+sql DROP INDEX once => run
+sql DELETE FROM batch => run
+group => kept
+batches => batches, 1 1000 [{"e":"open","s":["alice",1,1]}], 2 1000 [{"e":"open","s":["bob",1,1]}], 3 2000 [{"e":"op","n":1,"op":{"op":"set","path":"/x","value":7},"out":{"wrote":[["/x",7]]},"q":1,"s":["bob",1,1]}]
+server => 3 entries, {"x":7}
+row 3 => (3, 2000, [{"e":"op","n":1,"op":{"op":"set","path":"/x","value":7},"out":{"wrote":[["/x",7]]},"q":1,"s":["bob",1,1]}])"#;
+
+const GROUP: &str = r#"group => kept
+server => 3 entries, {"x":7}
+replay => replayed
+group => kept
+replay => NotLegal 4
+server => BadRow 4"#;
+
 // The lines after the making of the tables.
 fn with_tables(rt: &impl Abort, alloc: Global, lines: &str) -> String {
     format!(in alloc; "create => created\n{lines}").expect(rt, "memory")
@@ -186,6 +250,17 @@ fn batches_are_kept_in_a_database(rt: HostRuntime) {
 fn check_both(rt: &impl Abort, alloc: Global, lines: &str) {
     check_memory(rt, alloc, lines);
     check_database(rt, alloc, with_tables(rt, alloc, lines).as_str());
+}
+
+#[test]
+fn format_one_keeps_its_batches(rt: HostRuntime) {
+    check_database(&rt, rt.alloc(), FORMAT_ONE);
+}
+
+#[test]
+fn batches_are_committed_together(rt: HostRuntime) {
+    check_database(&rt, rt.alloc(), GROUPED);
+    check_both(&rt, rt.alloc(), GROUP);
 }
 
 #[test]

@@ -1,5 +1,7 @@
 //! A keeper that refuses chosen commits, and what a keeper holds.
 
+ghost use Rattle.std.specs.Prelude.{◌≡◌};
+
 use crate::tests::turns::root_text;
 use pres_batch_json::print_entries;
 use pres_faults::SavedFault;
@@ -25,10 +27,19 @@ impl Refusing {
             refused,
         }
     }
+
+    // Whether the next commit is refused.
+    fn refuses(&mut self) -> bool
+        ensures { self.new.kept ≡ self.old.kept }
+    {
+        let place = self.commits;
+        self.commits = place.saturating_add(1);
+        self.refused.contains(&place)
+    }
 }
 
 impl Keeper for Refusing {
-    ghost use Rattle.std.specs.Prelude.{◌≡◌, ◌++◌, ◌∷◌, [], ⊤};
+    ghost use Rattle.std.specs.Prelude.{◌≡◌, ◌++◌, ⊤};
     ghost use Rattle.std.proofs.Common.{ap};
     ghost use Rattle.pres_log.specs.Logs.{Log};
     ghost use Rattle.pres_keeper.specs.Keepers.{whole};
@@ -41,7 +52,7 @@ impl Keeper for Refusing {
 
     ghost keeps = { λ k log. k.kept ≡ log };
 
-    ghost stores = { λ old batch new. new.kept ≡ old.kept ++ batch ∷ [] };
+    ghost stores = { λ old batches new. new.kept ≡ old.kept ++ batches };
 
     ghost shut = { λ _ _. ⊥ };
 
@@ -56,12 +67,17 @@ impl Keeper for Refusing {
     ghost kept_is_read = { λ _ _ keeps. ap whole keeps };
 
     fn commit(&mut self, batch: &Batch) -> Result<(), SavedFault> {
-        let place = self.commits;
-        self.commits = place.saturating_add(1);
-        if self.refused.contains(&place) {
+        if self.refuses() {
             return Err(SavedFault::Database);
         }
         self.kept.commit(batch)
+    }
+
+    fn commit_all(&mut self, batches: &[Batch]) -> Result<(), SavedFault> {
+        if self.refuses() {
+            return Err(SavedFault::Database);
+        }
+        self.kept.commit_all(batches)
     }
 
     fn batches(&mut self) -> Result<Vec<Batch>, SavedFault> {

@@ -2,7 +2,7 @@
 
 use crate::tests::keepers::check_database;
 use crate::tests::words::{expect_text, refused, said};
-use pres_batch_rows::{BatchTable, SavedRow, Take};
+use pres_batch_rows::{BatchTable, SavedCheckpoint, SavedRow, Take};
 use pres_faults::SavedFault;
 use pres_ids::{Count, Number};
 use pres_limits::MAX_SAFE_INTEGER;
@@ -46,6 +46,27 @@ impl Take for Until {
     }
 }
 
+// The row that a moment and a text stand for.
+fn row_of(rt: &impl Abort, alloc: Global, row: &str) -> SavedRow {
+    let (millis, body) = row.split_once(' ').expect(rt, "a text");
+    let millis: u64 = millis.parse().expect(rt, "a number");
+    if millis > MAX_SAFE_INTEGER {
+        panic!(rt; "no moment");
+    }
+    SavedRow {
+        moment: Moment::at(millis),
+        body: said(rt, alloc, body),
+    }
+}
+
+// Whether rows were appended.
+fn appended(rt: &impl Abort, alloc: Global, added: Result<(), SavedFault>) -> String {
+    match added {
+        Ok(()) => said(rt, alloc, "appended"),
+        Err(fault) => refused(rt, alloc, fault),
+    }
+}
+
 // Adds the row of a moment and a text.
 fn append<S: Alter + Drop>(
     rt: &impl Abort,
@@ -53,20 +74,70 @@ fn append<S: Alter + Drop>(
     table: &mut BatchTable<S>,
     row: &str,
 ) -> String {
-    let (millis, body) = row.split_once(' ').expect(rt, "a text");
-    let millis: u64 = millis.parse().expect(rt, "a number");
-    if millis > MAX_SAFE_INTEGER {
-        panic!(rt; "no moment");
+    let row = row_of(rt, alloc, row);
+    appended(rt, alloc, table.append(row.moment, row.body.as_str()))
+}
+
+// Adds the row, and another with the same moment and text, at once.
+fn append_twice<S: Alter + Drop>(
+    rt: &impl Abort,
+    alloc: Global,
+    table: &mut BatchTable<S>,
+    row: &str,
+) -> String {
+    let rows = [row_of(rt, alloc, row), row_of(rt, alloc, row)];
+    appended(rt, alloc, table.append_all(&rows))
+}
+
+// How many batches the checkpoint stands for.
+fn behind<S: Alter + Drop>(alloc: Global, table: &mut BatchTable<S>) -> Result<Count, SavedFault> {
+    match table.base(alloc)? {
+        Some(base) => Ok(base.batches),
+        None => Ok(Count::zero()),
     }
-    match table.append(Moment::at(millis), body) {
-        Ok(()) => said(rt, alloc, "appended"),
+}
+
+// The rows behind the checkpoint.
+fn loaded<S: Alter + Drop>(
+    alloc: Global,
+    table: &mut BatchTable<S>,
+) -> Result<Vec<SavedRow>, SavedFault> {
+    let behind = behind(alloc, table)?;
+    table.load(alloc, behind)
+}
+
+fn load<S: Alter + Drop>(rt: &impl Abort, alloc: Global, table: &mut BatchTable<S>) -> String {
+    match loaded(alloc, table) {
+        Ok(rows) => listed(rt, alloc, rows.as_slice()),
         Err(fault) => refused(rt, alloc, fault),
     }
 }
 
-fn load<S: Alter + Drop>(rt: &impl Abort, alloc: Global, table: &mut BatchTable<S>) -> String {
-    match table.load(alloc) {
-        Ok(rows) => listed(rt, alloc, rows.as_slice()),
+// Puts a checkpoint with a moment and a text.
+fn checkpoint<S: Alter + Drop>(
+    rt: &impl Abort,
+    alloc: Global,
+    table: &mut BatchTable<S>,
+    row: &str,
+) -> String {
+    let row = row_of(rt, alloc, row);
+    match table.checkpoint(row.moment, row.body.as_str()) {
+        Ok(()) => said(rt, alloc, "kept"),
+        Err(fault) => refused(rt, alloc, fault),
+    }
+}
+
+// The number, the moment and the text of a checkpoint.
+fn base_text(rt: &impl Abort, alloc: Global, base: &SavedCheckpoint) -> String {
+    let (number, moment) = (base.batches.get(), base.row.moment.millis());
+    let body = base.row.body.as_str();
+    format!(in alloc; "{number}, {moment} {body}").expect(rt, "memory")
+}
+
+fn base<S: Alter + Drop>(rt: &impl Abort, alloc: Global, table: &mut BatchTable<S>) -> String {
+    match table.base(alloc) {
+        Ok(None) => said(rt, alloc, "no checkpoint"),
+        Ok(Some(base)) => base_text(rt, alloc, &base),
         Err(fault) => refused(rt, alloc, fault),
     }
 }
@@ -76,7 +147,7 @@ fn each<S: Alter + Drop>(rt: &impl Abort, alloc: Global, table: &mut BatchTable<
     let mut until = Until {
         taken: String::new(alloc),
     };
-    let ended = match table.each(alloc, &mut until) {
+    let ended = match table.each(alloc, Count::zero(), &mut until) {
         Ok(()) => said(rt, alloc, "all"),
         Err(fault) => refused(rt, alloc, fault),
     };
@@ -95,8 +166,12 @@ fn answer<S: Alter + Drop>(
     match word {
         "open" => said(rt, alloc, "found"),
         "append" => append(rt, alloc, table, rest),
+        "append_twice" => append_twice(rt, alloc, table, rest),
+        "append_none" => appended(rt, alloc, table.append_all(&[])),
         "load" => load(rt, alloc, table),
         "each" => each(rt, alloc, table),
+        "checkpoint" => checkpoint(rt, alloc, table, rest),
+        "base" => base(rt, alloc, table),
         _ => panic!(rt; "no such call"),
     }
 }
@@ -134,7 +209,7 @@ append 9007199254740991 stop => appended
 append 0 d => appended
 each => [{"e":"open","s":["alice",1,1]}], b, Version
 load => rows, 1000 [{"e":"open","s":["alice",1,1]}], 1000 b, 9007199254740991 stop, 0 d
-sql UPDATE meta SET value = 2 WHERE name = 'format' => run
+sql UPDATE meta SET value = 3 WHERE name = 'format' => run
 load => Version
 sql DELETE FROM meta => run
 load => NotOurs"#;
@@ -166,6 +241,83 @@ append 5 f => appended
 load => rows, 1 a, 5 f
 sql INSERT INTO batch(k, moment, body) VALUES(-1, 1, 'g') => run
 load => BadRow 1"#;
+
+const GROUPS: &str = r#"create => created
+append_twice 1 a => appended
+append 2 b => appended
+append_none => appended
+load => rows, 1 a, 1 a, 2 b
+append_twice 3 c => appended
+each => a, a, b, c, c, all"#;
+
+const CHECKPOINTS: &str = r#"create => created
+base => no checkpoint
+append 1000 a => appended
+append 2000 b => appended
+checkpoint 2000 {"x":1} => kept
+base => 2, 2000 {"x":1}
+load => rows
+append 3000 c => appended
+row 3 => (3, 3000, c)
+load => rows, 3000 c
+checkpoint 3000 {"x":2} => kept
+base => 3, 3000 {"x":2}
+row 3 => no row
+load => rows
+sql INSERT INTO checkpoint(k, moment, body) VALUES(4, 1, 'y') => run
+base => BadRow 0
+load => BadRow 0
+sql DELETE FROM checkpoint WHERE k = 4 => run
+sql UPDATE checkpoint SET moment = -1 => run
+base => BadRow 0
+sql UPDATE checkpoint SET moment = 9007199254740992 => run
+base => BadRow 0
+sql DELETE FROM checkpoint => run
+sql INSERT INTO checkpoint(k, moment, body) VALUES(9007199254740992, 1, 'y') => run
+base => BadRow 0
+append 1 d => Database
+checkpoint 1 z => Database
+sql DELETE FROM checkpoint => run
+sql INSERT INTO checkpoint(k, moment, body) VALUES(-1, 1, 'y') => run
+load => BadRow 0
+sql DELETE FROM checkpoint => run
+sql INSERT INTO checkpoint(k, moment, body) VALUES(1, 1, x'ff') => run
+load => BadRow 0"#;
+
+const FORMAT_ONE: &str =
+    r#"sql CREATE TABLE meta(name TEXT PRIMARY KEY, value INTEGER NOT NULL) => run
+sql CREATE TABLE batch(k INTEGER PRIMARY KEY, moment INTEGER NOT NULL, body TEXT NOT NULL) => run
+sql INSERT INTO meta(name, value) VALUES('format', 1) => run
+sql INSERT INTO batch(k, moment, body) VALUES(1, 1000, 'a') => run
+sql INSERT INTO batch(k, moment, body) VALUES(2, 1000, 'b') => run
+sql CREATE TABLE checkpoint(x INTEGER) => run
+open => NotOurs
+meta => 1
+sql DROP TABLE checkpoint => run
+open => found
+meta => 2
+load => rows, 1000 a, 1000 b
+base => no checkpoint
+append 1000 c => appended
+checkpoint 1000 x => kept
+load => rows
+append 1000 d => appended
+row 4 => (4, 1000, d)"#;
+
+#[test]
+fn a_checkpoint_takes_the_place_of_rows(rt: HostRuntime) {
+    check_database(&rt, rt.alloc(), CHECKPOINTS);
+}
+
+#[test]
+fn format_one_becomes_format_two(rt: HostRuntime) {
+    check_database(&rt, rt.alloc(), FORMAT_ONE);
+}
+
+#[test]
+fn groups_are_kept_in_order(rt: HostRuntime) {
+    check_database(&rt, rt.alloc(), GROUPS);
+}
 
 #[test]
 fn rows_are_kept_in_order(rt: HostRuntime) {

@@ -69,7 +69,7 @@ fn wanted(rt: &impl Abort, alloc: Global, commits: usize) -> String {
 }
 
 // The batches, and the server that they make.
-fn read<K: Keeper>(rt: &impl Abort, alloc: Global, keeper: &mut K) -> String {
+pub(crate) fn read<K: Keeper>(rt: &impl Abort, alloc: Global, keeper: &mut K) -> String {
     let batches = listed(rt, alloc, keeper);
     let server = step(rt, alloc, keeper, "server");
     format!(in alloc; "{batches}; {server}").expect(rt, "memory")
@@ -146,7 +146,7 @@ fn closed<D: Disk + Drop>(connection: Connection<FileStore<D>>, ran: Ran) -> (Fi
 }
 
 // The database in the files, or the files where it isn't opened.
-fn opened<D: Disk + Drop>(
+pub(crate) fn opened<D: Disk + Drop>(
     alloc: Global,
     files: Files<D>,
 ) -> Result<Connection<FileStore<D>>, Files<D>>
@@ -174,7 +174,11 @@ fn left<D: Disk + Drop>(rt: &impl Abort, alloc: Global, files: Files<D>) -> (Fil
 }
 
 // What is found in a database.
-fn found<S: Alter + Drop>(rt: &impl Abort, alloc: Global, connection: Connection<S>) -> String {
+pub(crate) fn found<S: Alter + Drop>(
+    rt: &impl Abort,
+    alloc: Global,
+    connection: Connection<S>,
+) -> String {
     if !connection.is_autocommit() {
         panic!(rt; "a transaction is open");
     }
@@ -214,7 +218,7 @@ fn synced(rt: &impl Abort, alloc: Global, bytes: &[u8]) -> Fuse<Memory> {
 }
 
 // The files with all that was written, as after the death of the process alone.
-fn with_all_written(
+pub(crate) fn with_all_written(
     rt: &impl Abort,
     alloc: Global,
     files: &Files<Fuse<Memory>>,

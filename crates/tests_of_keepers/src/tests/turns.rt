@@ -2,7 +2,7 @@
 
 use crate::tests::words::{refused, said};
 use pres_batch_json::print_entries;
-use pres_keeper::{Keeper, Unsettled, settle};
+use pres_keeper::{Keeper, MemKeeper, Unsettled, settle};
 use pres_server::{
     Batch, Busy, ClientId, Down, Fault, Input, Moment, Path, ReplayFault, Server, Turn, Up,
 };
@@ -27,7 +27,7 @@ fn given(rt: &impl Abort, alloc: Global, text: &str) -> (Input, Moment) {
 }
 
 // The texts of the answers, with a blank between two.
-fn texts(rt: &impl Abort, alloc: Global, answers: &[Down]) -> String {
+pub(crate) fn texts(rt: &impl Abort, alloc: Global, answers: &[Down]) -> String {
     let mut joined = String::new(alloc);
     for answer in answers {
         if !joined.is_empty() {
@@ -181,6 +181,31 @@ fn again<K: Keeper>(rt: &impl Abort, alloc: Global, keeper: &mut K) -> String {
     }
 }
 
+// Inputs that make three batches.
+const GROUP: [&str; 3] = [
+    r#"1000 {"m":"hello","s":["alice",1,1]}"#,
+    r#"1000 {"m":"hello","s":["bob",1,1]}"#,
+    r#"2000 {"m":"op","n":1,"op":{"op":"set","path":"/x","value":7},"q":1,"s":["bob",1,1]}"#,
+];
+
+// The three batches are committed at once.
+fn grouped<K: Keeper>(rt: &impl Abort, alloc: Global, keeper: &mut K) -> String {
+    let mut other = MemKeeper::new(alloc);
+    for input in GROUP {
+        drop(turn(rt, alloc, &mut other, input, false));
+    }
+    let batches = match other.batches() {
+        Ok(batches) => batches,
+        Err(fault) => return refused(rt, alloc, fault),
+    };
+    let kept = keeper.commit_all(batches.as_slice());
+    drop(batches);
+    match kept {
+        Ok(()) => said(rt, alloc, "kept"),
+        Err(fault) => refused(rt, alloc, fault),
+    }
+}
+
 // Why batches are no server's log.
 fn refusal(rt: &impl Abort, alloc: Global, fault: ReplayFault) -> String {
     let ReplayFault::NotLegal(number) = fault else {
@@ -208,7 +233,7 @@ fn replayed<K: Keeper>(rt: &impl Abort, alloc: Global, keeper: &mut K) -> String
 }
 
 // What a step says: `stop` and a moment with an input, whose batch is kept but not done; a moment
-// with an input, which says its answers; `server`, `batches`, `again` or `replay`.
+// with an input, which says its answers; `server`, `batches`, `again`, `group` or `replay`.
 pub(crate) fn step<K: Keeper>(
     rt: &impl Abort,
     alloc: Global,
@@ -222,6 +247,7 @@ pub(crate) fn step<K: Keeper>(
         "server" => server_text(rt, alloc, keeper),
         "batches" => listed(rt, alloc, keeper),
         "again" => again(rt, alloc, keeper),
+        "group" => grouped(rt, alloc, keeper),
         "replay" => replayed(rt, alloc, keeper),
         _ => turn(rt, alloc, keeper, step, false),
     }

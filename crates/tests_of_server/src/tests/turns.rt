@@ -7,9 +7,12 @@
 //! one that is rebuilt from all batches, or that and numbers of batches, whose result is what
 //! becomes of these in a server of their own; or `base`, whose result is the server's base,
 //! `resume`, from which on the server is one that begins from its base, or `add again`, whose
-//! result is what becomes of all batches after its base.
+//! result is what becomes of all batches after its base; or `group` and, each on a line, a moment
+//! and an input, whose turns share a commit, or the same after `abandon group`, whose commit is
+//! refused.
 
 use crate::tests::bases::{base_text, refused_after, resumed};
+use crate::tests::groups::{grouped, refused_group};
 use crate::tests::replays::{ordered, replayed};
 use crate::tests::said::expect_said;
 use pres_batch_json::print_entries;
@@ -49,14 +52,14 @@ fn input(rt: &impl Abort, alloc: Global, line: &str) -> Input {
 }
 
 // What comes, and when.
-fn given(rt: &impl Abort, alloc: Global, text: &str) -> (Input, Moment) {
+pub(crate) fn given(rt: &impl Abort, alloc: Global, text: &str) -> (Input, Moment) {
     let (millis, line) = text.split_once(' ').expect(rt, "a moment");
     let now = Moment::at(millis.parse().expect(rt, "a number"));
     (input(rt, alloc, line), now)
 }
 
 // The texts of the answers, each on a line.
-fn texts(rt: &impl Abort, alloc: Global, answers: &[Down]) -> String {
+pub(crate) fn texts(rt: &impl Abort, alloc: Global, answers: &[Down]) -> String {
     let mut joined = String::new(alloc);
     for answer in answers {
         if !joined.is_empty() {
@@ -283,6 +286,12 @@ fn step(
 ) -> (Server, String) {
     if case.starts_with(|c: char| c.is_ascii_digit()) {
         return turn(rt, alloc, server, log, case);
+    }
+    if let Some(inputs) = case.strip_prefix("group\n") {
+        return grouped(rt, alloc, server, log, inputs);
+    }
+    if let Some(inputs) = case.strip_prefix("abandon group\n") {
+        return refused_group(rt, alloc, server, inputs);
     }
     match case.split_once(' ') {
         Some(("see", case)) => watched(rt, alloc, server, log, case),
