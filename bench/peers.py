@@ -86,9 +86,9 @@ def is_up(kind, port):
         return False
 
 
-def start_peer(kind, words_of, folder, stack):
+def start_peer(kind, words_of, folder, stack, environment=None):
     """The process and the port of a peer that is started in a folder of its own, and ends with the stack; none where it isn't
-    installed."""
+    installed. Its environment is another than this one's where one is given."""
     folder = os.path.join(folder, kind)
     os.makedirs(folder)
     port = free_port()
@@ -97,7 +97,7 @@ def start_peer(kind, words_of, folder, stack):
     if program is None:
         return None
     log = stack.enter_context(open(os.path.join(folder, "log"), "w"))
-    process = subprocess.Popen([program, *words[1:]], stdout=log, stderr=log)
+    process = subprocess.Popen([program, *words[1:]], stdout=log, stderr=log, env=environment)
     stack.callback(process.wait)
     stack.callback(process.kill)
     for _ in range(200):

@@ -457,6 +457,22 @@ static void make_writes(const Kind *kind, int clients, long writes) {
     printf("count=%ld rate=%.1f\n", answered, answered / (now() - start));
 }
 
+// The rate of one client that makes so many writes, each after the answer to the one before, and then as many before it waits.
+static void time_ahead(long writes) {
+    Conn *c = conns_of(1, "a");
+    open_session(c);
+    double start = now();
+    for (long i = 0; i < writes; i++) {
+        presence_ask(c);
+        hear(c, "reply");
+    }
+    double waited = now() - start;
+    start = now();
+    for (long i = 0; i < writes; i++) presence_ask(c);
+    for (long i = 0; i < writes; i++) hear(c, "reply");
+    printf("waiting=%.1f ahead=%.1f\n", writes / waited, writes / (now() - start));
+}
+
 // ---- the disk alone
 
 // A file that is written to and synced: behind its end, or in turn over old places.
@@ -1001,6 +1017,7 @@ int main(int count, char **words) {
     port = atoi(words[has_kind ? 3 : 2]);
     if (!strcmp(use, "write") && count == 6) time_writes(kind_of(words[2]), atoi(words[4]), atof(words[5]));
     else if (!strcmp(use, "make") && count == 6) make_writes(kind_of(words[2]), atoi(words[4]), atol(words[5]));
+    else if (!strcmp(use, "ahead") && count == 4) time_ahead(atol(words[3]));
     else if (!strcmp(use, "sync") && count == 5) time_syncs(words[2], words[3], atof(words[4]));
     else if (!strcmp(use, "loop") && count == 4) serve_in_a_loop(words[2], words[3]);
     else if (!strcmp(use, "ends") && count == 3) serve_ends(words[2]);
