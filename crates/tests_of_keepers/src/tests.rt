@@ -13,7 +13,6 @@ mod slow;
 mod starts;
 mod stops;
 mod threads;
-mod together;
 mod turns;
 mod upgrades;
 mod words;

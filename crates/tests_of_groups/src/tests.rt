@@ -1,41 +1,44 @@
-//! Messages that are said together, by a core and by many callers of a hub.
+//! Messages that a core says together.
 
 ghost use Rattle.std.specs.Prelude.{◌≡◌, ◌^◌};
 
-use crate::tests::refusing::{Refusing, log_text};
-use crate::tests::scene::session;
 use pres_faults::SavedFault;
-use pres_hub::{
-    Answer, Core, Gate, Hub, Keeper, MemKeeper, NoBell, OpenGate, Parting, Request, Seat,
-};
-use pres_server::{Batch, Moment, Server, Up, Why};
+use pres_hub::{Answer, Core, Keeper, MemKeeper, NoBell, Request, Seat};
+use pres_server::{Batch, ClientId, Moment, Number, Server, SessionId, Stamp, Up, Why};
 use std::alloc::Global;
 use std::collections::VecDeque;
-use std::hint::black_box;
 use std::marker::Brand;
 use std::process::Abort;
 use std::sync::ledger::{Blank, Ledger};
-use std::sync::{Barrier, Wait};
-use std::thread;
-use std::thread::Threads;
 
-// Keeps in memory, and counts the commits, each of which takes a while.
+// Keeps in memory, but for the commit at the refused place, counted from 1, which it refuses.
 #[derive(Drop)]
-struct Counting {
+struct Refusing {
     kept: MemKeeper,
     commits: u64,
+    refused: u64,
 }
 
-// Takes a while.
-fn linger() {
-    let mut turns: u64 = 0;
-    for i in 0..200_000_u64 {
-        turns = black_box(turns ^ i);
+impl Refusing {
+    // Nothing is kept yet.
+    fn but(alloc: Global, refused: u64) -> Refusing {
+        Refusing {
+            kept: MemKeeper::new(alloc),
+            commits: 0,
+            refused,
+        }
     }
-    let _ = black_box(turns);
+
+    // Whether the next commit is refused.
+    fn refuses(&mut self) -> bool
+        ensures { self.new.kept ≡ self.old.kept }
+    {
+        self.commits = self.commits.saturating_add(1);
+        self.commits == self.refused
+    }
 }
 
-impl Keeper for Counting {
+impl Keeper for Refusing {
     ghost use Rattle.std.specs.Prelude.{◌≡◌, ◌++◌, ⊤};
     ghost use Rattle.std.proofs.Common.{ap};
     ghost use Rattle.pres_log.specs.Logs.{Log};
@@ -64,14 +67,16 @@ impl Keeper for Counting {
     ghost kept_is_read = { λ _ _ keeps. ap whole keeps };
 
     fn commit(&mut self, batch: &Batch) -> Result<(), SavedFault> {
-        self.commits = self.commits.saturating_add(1);
-        linger();
+        if self.refuses() {
+            return Err(SavedFault::Database);
+        }
         self.kept.commit(batch)
     }
 
     fn commit_all(&mut self, batches: &[Batch]) -> Result<(), SavedFault> {
-        self.commits = self.commits.saturating_add(1);
-        linger();
+        if self.refuses() {
+            return Err(SavedFault::Database);
+        }
         self.kept.commit_all(batches)
     }
 
@@ -82,6 +87,16 @@ impl Keeper for Counting {
     fn server(&mut self) -> Result<Server, SavedFault> {
         self.kept.server()
     }
+}
+
+// The first session of the client.
+fn session(rt: &impl Abort, alloc: Global, client: &str) -> SessionId {
+    let stamp = Stamp {
+        incarnation: Number::first(),
+        attempt: Number::first(),
+    };
+    let client = ClientId::parse(alloc, client).expect(rt, "a client's name");
+    SessionId::of(client, stamp)
 }
 
 // A core over the keeper.
@@ -144,7 +159,7 @@ fn left<L: Ledger, K: Keeper + Drop, R: Abort>(
     format!(in alloc; "{}, made {made}", text.expect(rt, "memory").as_str()).expect(rt, "memory")
 }
 
-// What these messages are answered, which the seats of as many clients say at once, and the log.
+// What these messages are answered, which the seats of as many clients say at once.
 fn say_all_over<L: Ledger, K: Keeper + Drop, R: Abort>(
     rt: &R,
     alloc: Global,
@@ -179,9 +194,7 @@ fn say_all_over<L: Ledger, K: Keeper + Drop, R: Abort>(
         text.push('\n').expect(rt, "memory");
     }
     rest.destroy_empty();
-    let mut keeper = core.finish().into_keeper();
-    text.push_str(log_text(rt, alloc, &mut keeper).as_str())
-        .expect(rt, "memory");
+    drop(core.finish().into_keeper());
     text
 }
 
@@ -206,7 +219,7 @@ fn each_message_is_answered_in_its_place(rt: HostRuntime) {
     let said = [("alice", "alice"), ("bob", "alice"), ("carol", "carol")];
     let blank = Blank::new(1 << 53);
     let text = say_all_over::<Brand, MemKeeper, HostRuntime>(&rt, alloc, blank, keeper, &said);
-    assert!(&rt; text.as_str().starts_with(IN_PLACE), "{text}");
+    assert!(&rt; text.as_str() == IN_PLACE, "{text}");
 }
 
 #[test]
@@ -215,92 +228,14 @@ fn messages_share_a_commit(rt: HostRuntime) {
     let keeper = MemKeeper::new(alloc);
     let blank = Blank::new(1 << 53);
     let text = say_all_over::<Brand, MemKeeper, HostRuntime>(&rt, alloc, blank, keeper, &THREE);
-    assert!(&rt; text.as_str().starts_with(TOGETHER), "{text}");
+    assert!(&rt; text.as_str() == TOGETHER, "{text}");
 }
 
 #[test]
 fn a_refused_commit_refuses_each_message(rt: HostRuntime) {
     let alloc = rt.alloc();
-    let keeper = Refusing::at(alloc, &[3]);
+    let keeper = Refusing::but(alloc, 4);
     let blank = Blank::new(1 << 53);
     let text = say_all_over::<Brand, Refusing, HostRuntime>(&rt, alloc, blank, keeper, &THREE);
-    assert!(&rt; text.as_str().starts_with(REFUSED), "{text}");
-}
-
-// How many threads say messages, and how many each of them says.
-const CALLERS: usize = 16;
-
-const WRITES: u64 = 10;
-
-// What a thread does: it opens a session, says its messages once each thread has, and leaves.
-fn talk<L: Ledger, K: Keeper + Drop, G: Gate, R: Wait + Abort>(
-    rt: &R,
-    alloc: Global,
-    hub: &Hub<L, K, NoBell, G>,
-    barrier: &Barrier,
-    number: usize,
-) -> Parting<L> {
-    let now = Moment::at(1000);
-    let client = format!(in alloc; "c{number}").expect(rt, "memory");
-    let session = session(rt, alloc, client.as_str());
-    let (seat, outbox) = hub.enter(rt, 0).join(&session, now).expect(rt, "a seat");
-    barrier.wait(rt);
-    let mut seat = seat;
-    let mut due = Vec::new(alloc);
-    let mut last = 0;
-    for n in 1..=WRITES {
-        let up = write(rt, alloc, client.as_str(), n);
-        let (back, said) = hub.say(rt, 0, seat, up, now, &mut due);
-        seat = back;
-        match said {
-            Ok(said) => {
-                assert!(rt; last < said.number, "the numbers rise");
-                last = said.number;
-            }
-            Err(fault) => panic!(rt; "{fault}"),
-        }
-    }
-    drop(outbox);
-    hub.enter(rt, 0).leave(seat, Why::Lost, now)
-}
-
-// What was accepted, the total of the seats, and how many commits there were, after many threads.
-fn many_talk<L: Ledger + Send + Sync, R: Threads + Wait + Abort + Sync>(
-    rt: &R,
-    alloc: Global,
-    blank: Blank,
-) -> (u64, Option<u64>, u64)
-    requires name { blank.name ≡ L.name }
-    requires parts { blank.parts ≡ L.parts }
-    requires whole { blank.parts ≡ 2 ^ 53 }
-{
-    let keeper = Counting {
-        kept: MemKeeper::new(alloc),
-        commits: 0,
-    };
-    let hub = Hub::new(opened::<L, Counting, R>(rt, alloc, blank, keeper), OpenGate);
-    let barrier = Barrier::new(CALLERS);
-    let (shared, start) = (&hub, &barrier);
-    let partings = thread::map_indices(
-        rt,
-        alloc,
-        CALLERS,
-        &|i| { talk(rt, alloc, shared, start, i) },
-    );
-    let mut report = hub.into_core().finish();
-    for parting in partings.expect(rt, "memory") {
-        report.gather(parting);
-    }
-    let (accepted, total) = (report.accepted(), report.total());
-    let keeper = report.into_keeper();
-    (accepted, total, keeper.commits)
-}
-
-#[test]
-fn threads_that_say_at_once_share_commits(rt: HostRuntime) {
-    let blank = Blank::new(1 << 53);
-    let (accepted, total, commits) = many_talk::<Brand, HostRuntime>(&rt, rt.alloc(), blank);
-    assert_eq!(&rt; accepted, 176);
-    assert_eq!(&rt; total, Some(176));
-    assert!(&rt; commits < 160, "{commits} commits");
+    assert!(&rt; text.as_str() == REFUSED, "{text}");
 }
