@@ -156,7 +156,7 @@ fn refuses_a_file(rt: HostRuntime) {
     expect_refused(&rt, &rt, &place, unread);
     let mut other = make(&rt, &rt, &place, &[]);
     other
-        .execute("UPDATE meta SET value = 2", &[])
+        .execute("UPDATE meta SET value = 3", &[])
         .expect(&rt, "another format");
     drop(other);
     let version =
