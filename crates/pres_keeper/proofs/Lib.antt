@@ -3,3 +3,7 @@ pub mod Behind
 pub mod Running
 pub mod Turned
 pub mod Filled
+pub mod Resumed
+pub mod Begins
+pub mod Unserved
+pub mod Invariants

@@ -7,4 +7,4 @@ pub returns-clause-exact : goal.returns-clause-exact
 returns-clause-exact g c = grind (arith, common_steps)
 
 pub returns-clause-server : goal.returns-clause-server
-returns-clause-server g c = served_so _ _ c.server.result (λ log kept _ works. kept (c.self.invariant works.0) works.1) c.server.ensures.server
+returns-clause-server g c = served_so _ _ c.server.result (λ history kept _ works. kept (c.self.invariant works.0) works.1) c.server.ensures.server
