@@ -1,2 +1,3 @@
 pub mod Forms
 pub mod Reads
+pub mod Checks

@@ -1,6 +1,6 @@
 //! The body of a checkpoint.
 
-ghost use Rattle.std.specs.Prelude.{◌≡◌, ◌≤◌, ◌++◌, IfOk, OnOk, MatchOption, Some, None, option_and_then, string_bytes};
+ghost use Rattle.std.specs.Prelude.{◌≡◌, ◌≤◌, ◌++◌, IfOk, IfSome, OnOk, MatchOption, Some, None, option_and_then, string_bytes};
 ghost use Rattle.serde_json.specs.Data.{depth};
 ghost use Rattle.serde_json.specs.Read.{read};
 ghost use Rattle.serde_json.specs.View.{view};
@@ -8,6 +8,7 @@ ghost use Rattle.pres_tree.specs.JsonPrinting.{tokens_of, IsPlain};
 ghost use Rattle.pres_base.specs.declared.parts.BaseParts.{BaseParts};
 ghost use Rattle.pres_base_json.specs.Forms.{base_json, body_text};
 ghost use Rattle.pres_base_json.specs.Reads.{parts_in, with_one_null, IsBody};
+ghost use Rattle.pres_base_json.specs.Checks.{base_of_parts, base_of_body};
 
 use crate::form::{read_field, write_field};
 use json::Writer;
@@ -109,6 +110,22 @@ fn read_parts(
     }
 }
 
+// The base of the parts, none where a check fails, or where the body isn't the text that is printed
+// of them.
+fn base_of_parts(alloc: Global, parts: BaseParts, body: &str) -> Result<Option<Base>, AllocError>
+    ensures { IfOk result (λ found. found ≡ base_of_parts body.now parts) }
+{
+    let Ok(base) = Base::from_parts(parts) else {
+        return Ok(None);
+    };
+    let text = print_base(alloc, &base)?;
+    if text.as_str() == body {
+        Ok(Some(base))
+    } else {
+        Ok(None)
+    }
+}
+
 /// The base of a checkpoint with this count of batches, this moment and this body; none where the
 /// body isn't exactly the text that is printed of a base: it is no JSON, lacks a part, has a wrong
 /// one or one more, has its names in another order or a space, or its parts fail a check of
@@ -119,20 +136,14 @@ pub fn read_base(
     moment: Moment,
     body: &str,
 ) -> Result<Option<Base>, AllocError>
-    ensures { IfOk result (λ found. MatchOption found
+    ensures exact { IfOk result (λ found. MatchOption found
         ((parts : BaseParts) → ¬ IsBody batches moment body.now parts)
         (λ base. IsBody batches moment body.now base)) }
+    ensures base { IfOk result (λ found. found ≡ base_of_body batches moment body.now) }
+    ensures nulls { IfOk result (λ found. IfSome found (λ base. with_one_null base ≡ base)) }
 {
-    let Some(parts) = read_parts(alloc, batches, moment, body)? else {
-        return Ok(None);
-    };
-    let Ok(base) = Base::from_parts(parts) else {
-        return Ok(None);
-    };
-    let text = print_base(alloc, &base)?;
-    if text.as_str() == body {
-        Ok(Some(base))
-    } else {
-        Ok(None)
+    match read_parts(alloc, batches, moment, body)? {
+        Some(parts) => base_of_parts(alloc, parts, body),
+        None => Ok(None),
     }
 }

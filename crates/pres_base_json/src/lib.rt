@@ -4,6 +4,7 @@
 mod answers;
 mod body;
 mod form;
+pub mod laws;
 mod part;
 mod plain;
 mod plan;

@@ -73,6 +73,14 @@ whole log = record { base = nothing; log = log }
 abbrev pub with_batch : History → Batch → History
 with_batch history batch = record { base = history.base; log = history.log ++ batch ∷ [] }
 
+-- a history with these batches more
+abbrev pub with_batches : History → Log → History
+with_batches history later = record { base = history.base; log = history.log ++ later }
+
+-- the history that begins at the sum, without batches so far
+abbrev pub begun_at : Sum → History
+begun_at sum = record { base = sum; log = [] }
+
 -- its batches follow from its base, one after another, and make the sum
 pub record LeadsTo (history : History) (sum : Sum) : Type 0 where
   pub base : IsSum history.base

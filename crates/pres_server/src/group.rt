@@ -1,6 +1,6 @@
 //! Turns that wait for one commit.
 
-ghost use Rattle.std.specs.Prelude.{◌≡◌, ◌≤◌, length, IfOk, IfErr, OnOk, OnErr, IsTrue, ◌↔◌, []};
+ghost use Rattle.std.specs.Prelude.{◌≡◌, ◌≤◌, length, IfOk, IfErr, OnOk, OnErr};
 ghost use Rattle.pres_server.specs.SumTurns.{FollowAll};
 ghost use Rattle.pres_server.specs.Groups.{begun, state_from, server_after, answers_each, Joins};
 
@@ -78,13 +78,6 @@ impl Group {
             unreachable!()
         };
         Ok(())
-    }
-
-    /// Whether no turn waits.
-    pub fn is_empty(&self) -> bool
-        ensures { IsTrue result ↔ (self.now.batches ≡ []) }
-    {
-        self.batches.is_empty()
     }
 
     /// The batches that are to be committed, all or none of them.

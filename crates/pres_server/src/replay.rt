@@ -1,4 +1,4 @@
-//! Servers that are rebuilt from the batches of their log.
+//! Servers that are rebuilt from a base and the batches after it.
 
 ghost use Rattle.std.specs.Prelude.{◌≡◌, ◌+◌, ℕ, IfErr, IfOk, OnErr, OnOk};
 ghost use Rattle.pres_server.specs.declared.replay.ReplayFault.TheVariants.{Memory, NotLegal};
@@ -18,7 +18,7 @@ use std::alloc::{AllocError, AllocFailed, Global};
 use std::marker::Model;
 use thiserror::Error;
 
-/// Why batches are refused as a server's log.
+/// Why batches are refused as a server's history.
 #[derive(Clone, Copy, Debug, Error, PartialEq, Eq)]
 pub enum ReplayFault {
     /// An allocation was refused.

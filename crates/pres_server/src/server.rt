@@ -37,7 +37,7 @@ use std::alloc::{AllocError, Global};
 use std::marker::Model;
 
 /// A server of one thread: many clients share its tree by sessions and numbered writes. It holds no
-/// entry of its log. Contracts see it as the log's sum, and when the client of each open session
+/// entry of its history. Contracts see it as the history's sum, and when the client of each open session
 /// was heard of last.
 pub struct Server {
     alloc: Global,

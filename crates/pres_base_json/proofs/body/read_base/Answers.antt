@@ -1,12 +1,25 @@
-use Rattle.std.proofs.Common.{◌≡◌, true, sym, ap, subst, ◌∙◌, true≢false}
-use Rattle.std.specs.Prelude.{is_ok}
-use Rattle.std.proofs.lemmas.Option.{same_Some}
-use Rattle.pres_base.specs.Bases.{IsBase}
+use Rattle.std.proofs.Common.{◌∙◌, sym, ap}
+use Rattle.std.proofs.lemmas.Result.{IfOk-weaker}
+use Rattle.std.specs.Option.{option_and_then}
+use Rattle.pres_base_json.specs.Checks.{base_of_parts}
+use Rattle.pres_base_json.proofs.Bodies.{read_parts, matched, one_null_read}
 use Rattle.pres_base_json.proofs.body.read_base.Goals as goal
 
-pub returns-in_default-from_parts : goal.returns-in_default-from_parts
-returns-in_default-from_parts c = λ parts body.
-    let found = sym c.in-Some.is ∙ c.in_ok-parts.ensures ∙ body.held in
-    let base : IsBase c.in-Some.parts = subst IsBase (sym (same_Some c.in-Some.parts parts found)) body.base in
-    let accepted : is_ok c.from_parts.result ≡ true = c.from_parts.ensures.exact.1 base in
-    absurd (true≢false (sym accepted ∙ ap is_ok c.in_default-from_parts.is))
+pub returns-in-Some-clause-exact : goal.returns-in-Some-clause-exact
+returns-in-Some-clause-exact c =
+    let is = ap (option_and_then (base_of_parts c.args.body.now)) (sym c.in-Some.is) ∙ read_parts c.args.batches c.args.moment c.args.body.now c.in_ok-parts.field-0 c.in_ok-parts.ensures in
+    IfOk-weaker c.base_of_parts.result _ _ (λ found e. matched c.args.batches c.args.moment c.args.body.now found (e ∙ is)) c.base_of_parts.ensures
+
+pub returns-in-Some-clause-base : goal.returns-in-Some-clause-base
+returns-in-Some-clause-base c =
+    let is = ap (option_and_then (base_of_parts c.args.body.now)) (sym c.in-Some.is) ∙ read_parts c.args.batches c.args.moment c.args.body.now c.in_ok-parts.field-0 c.in_ok-parts.ensures in
+    IfOk-weaker c.base_of_parts.result _ _ (λ found e. e ∙ is) c.base_of_parts.ensures
+
+pub returns-in-Some-clause-nulls : goal.returns-in-Some-clause-nulls
+returns-in-Some-clause-nulls c =
+    let is = ap (option_and_then (base_of_parts c.args.body.now)) (sym c.in-Some.is) ∙ read_parts c.args.batches c.args.moment c.args.body.now c.in_ok-parts.field-0 c.in_ok-parts.ensures in
+    IfOk-weaker c.base_of_parts.result _ _ (λ found e. one_null_read c.args.batches c.args.moment c.args.body.now found (e ∙ is)) c.base_of_parts.ensures
+
+pub returns-in-None-clause-base : goal.returns-in-None-clause-base
+returns-in-None-clause-base c =
+    ap (option_and_then (base_of_parts c.args.body.now)) (sym c.in-None.is) ∙ read_parts c.args.batches c.args.moment c.args.body.now c.in_ok-parts.field-0 c.in_ok-parts.ensures
