@@ -3,3 +3,6 @@ pub mod Behind
 pub mod Running
 pub mod Turned
 pub mod Filled
+pub mod Resumed
+pub mod Begins
+pub mod Invariants

@@ -1,31 +1,25 @@
--- A server that is made, and the log that leads to its sum.
-use Rattle.std.proofs.Common.{◌≡◌, Result, Ok, Err, sym, subst, true≢false}
-use Rattle.std.specs.Result.{is_ok, IfOk, MatchResult}
+-- A server that is made, and the history that leads to its sum.
+use Rattle.std.proofs.Common.{◌≡◌, Result, Ok, Err, sym, subst}
+use Rattle.std.specs.Result.{IfOk}
 use Rattle.pres_log.specs.Logs.{Log}
-use Rattle.pres_server.specs.Sums.{nothing, sum_from}
+use Rattle.pres_server.specs.Sums.{Sum, sum_from}
 use Rattle.pres_server.specs.Replays.{resumed}
 use Rattle.pres_server.specs.SumStates.{SumState}
 use Rattle.pres_server.specs.SumTurns.{FollowAll}
-use Rattle.pres_keeper.specs.Keepers.{MakesSum, SomeLog}
-use Rattle.pres_keeper.proofs.Behind.{makes_all}
+use Rattle.pres_server.specs.Histories.{IsSum, History, LeadsTo}
+use Rattle.pres_keeper.specs.Keepers.{SomeHistory, KeepsOneNull}
+use Rattle.pres_keeper.proofs.Behind.{leads_all}
+use Rattle.pres_keeper.proofs.Nulls.{nulls_from}
 
--- what holds of the log
-pub served_so : {E : Type 0} (P Q : Log → Type 0) (r : Result SumState E) → ((log : Log) → P log → Q log) → IfOk r (λ s. SomeLog P s.sum) → IfOk r (λ s. SomeLog Q s.sum)
-served_so P Q (Ok s) so some = record { log = some.log; makes = some.makes; held = so some.log some.held }
-served_so P Q (Err e) so some = tt
+-- what holds of the history
+pub served_so : {X E : Type 0} (sum_of : X → Sum) (P Q : History → Type 0) (r : Result X E) → ((history : History) → P history → Q history) → IfOk r (λ x. SomeHistory P (sum_of x)) → IfOk r (λ x. SomeHistory Q (sum_of x))
+served_so sum_of P Q (Ok x) so some = record { history = some.history; leads = some.leads; held = so some.history some.held }
+served_so sum_of P Q (Err e) so some = tt
 
--- that of the batches that are replayed
-pub replayed : {E : Type 0} (log : Log) (r : Result SumState E) → IfOk r (λ s. s ≡ resumed (sum_from nothing log)) → IfOk r (λ _. FollowAll nothing log) → IfOk r (λ s. MakesSum log s.sum)
-replayed log (Ok s) is legal = subst (λ (s : SumState). MakesSum log s.sum) (sym is) (makes_all log legal)
-replayed log (Err e) is legal = tt
+-- batches that are replayed after a base lead to the server's sum
+pub replayed : (base : Sum) (log : Log) (s : SumState) → IsSum base → s ≡ resumed (sum_from base log) → FollowAll base log → LeadsTo (record { base = base; log = log }) s.sum
+replayed base log s k is legal = subst (λ (t : SumState). LeadsTo (record { base = base; log = log }) t.sum) (sym is) (leads_all base log k legal)
 
--- a success stays where the refusal is in other words
-pub mapped : {A D E : Type 0} (P : A → Type 0) (F : E → Type 0) (r : Result A E) (told : Result A D) → MatchResult r (λ x. told ≡ Ok x) F → is_ok told ≡ is_ok r → IfOk r P → IfOk told P
-mapped P F (Ok x) told is same p = subst (λ t. IfOk t P) (sym is) p
-mapped P F (Err e) (Ok x) is same p = absurd (true≢false same)
-mapped P F (Err e) (Err d) is same p = tt
-
--- a log that leads to it is one of which this holds
-pub served_one : {E : Type 0} (P : Log → Type 0) (log : Log) (r : Result SumState E) → P log → IfOk r (λ s. MakesSum log s.sum) → IfOk r (λ s. SomeLog P s.sum)
-served_one P log (Ok s) held there = record { log = log; makes = there; held = held }
-served_one P log (Err e) held there = tt
+-- which keeps one null, where the base does
+pub replayed_nulls : (base : Sum) (log : Log) (s : SumState) → KeepsOneNull base → s ≡ resumed (sum_from base log) → FollowAll base log → KeepsOneNull s.sum
+replayed_nulls base log s k is legal = subst (λ (t : SumState). KeepsOneNull t.sum) (sym is) (nulls_from log base legal k)

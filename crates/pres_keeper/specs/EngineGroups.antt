@@ -4,11 +4,12 @@ use Rattle.std.specs.List.{flat_map}
 use Rattle.pres_wire.specs.declared.down.Down.{Down}
 use Rattle.pres_log.specs.Logs.{Log}
 use Rattle.pres_server.specs.declared.input.Input.{Input}
+use Rattle.pres_server.specs.Histories.{History, with_batches}
 use Rattle.pres_server.specs.SumStates.{SumState}
 use Rattle.pres_server.specs.Groups.{PendingGroup, MakeBatches, server_after}
 use Rattle.pres_keeper.specs.Keepers.{IsOfStore}
-use Rattle.pres_keeper.specs.Engines.{Runs, IsLogOf}
-use Rattle.pres_keeper.specs.EngineTurns.{IsTurnDone, IsTurnRefused, log_turned, log_left}
+use Rattle.pres_keeper.specs.Engines.{Runs, IsHistoryOf}
+use Rattle.pres_keeper.specs.EngineTurns.{IsTurnDone, IsTurnRefused, history_turned, history_left}
 use Rattle.pres_faults.specs.declared.engine_fault.EngineFault.{EngineFault}
 use Rattle.pres_faults.specs.declared.engine_fault.EngineFault.TheVariants as why
 use Rattle.pres_faults.specs.declared.saved_fault.SavedFault.{SavedFault}
@@ -17,14 +18,14 @@ use Rattle.pres_faults.specs.declared.saved_fault.SavedFault.{SavedFault}
 abbrev pub TurnResult : Type 0
 TurnResult = Result (List Down) EngineFault
 
--- what a turn alone does, as `turn` says it, and the log after it
+-- what a turn alone does, as `turn` says it, and the history after it
 abbrev pub IsTurnResult : Option SumState → Input → ℕ → Option SumState → TurnResult → Type 0
 IsTurnResult old input now new (Ok outs) = IsTurnDone old input now new outs
 IsTurnResult old input now new (Err f) = IsTurnRefused old input now new f
 
-abbrev pub log_after : Log → Option SumState → Input → ℕ → TurnResult → Log
-log_after log old input now (Ok outs) = log_turned log old input now
-log_after log old input now (Err f) = log_left log old input now f
+abbrev pub history_after : History → Option SumState → Input → ℕ → TurnResult → History
+history_after history old input now (Ok outs) = history_turned history old input now
+history_after history old input now (Err f) = history_left history old input now f
 
 -- ---- several turns
 
@@ -63,36 +64,37 @@ abbrev pub WouldMake : Option SumState → List Input → ℕ → Log → Type 0
 WouldMake None inputs now batches = ⊥
 WouldMake (Some s) inputs now batches = MakeBatches s inputs now batches
 
--- what a part does, from a server and its log to a server and its log
-abbrev pub IsPart : TurnPart → ℕ → Option SumState → Log → Option SumState → Log → Type 0
-IsPart (alone input result) now old log new end = IsTurnResult old input now new result × (end ≡ log_after log old input now result)
-IsPart (unkept inputs fault) now old log new end = (batches : Log) × WouldMake old inputs now batches × IsOfStore fault × (new ≡ old) × (end ≡ log)
-IsPart (gone inputs) now old log new end = (batches : Log) × WouldMake old inputs now batches × (new ≡ None) × (end ≡ log ++ batches)
+-- what a part does, from a server and its history to a server and its history
+abbrev pub IsPart : TurnPart → ℕ → Option SumState → History → Option SumState → History → Type 0
+IsPart (alone input result) now old history new end = IsTurnResult old input now new result × (end ≡ history_after history old input now result)
+IsPart (unkept inputs fault) now old history new end = (batches : Log) × WouldMake old inputs now batches × IsOfStore fault × (new ≡ old) × (end ≡ history)
+IsPart (gone inputs) now old history new end = (batches : Log) × WouldMake old inputs now batches × (new ≡ None) × (end ≡ with_batches history batches)
 
 -- one after another
-abbrev pub AreParts : List TurnPart → ℕ → Option SumState → Log → Option SumState → Log → Type 0
-AreParts [] now old log new end = (new ≡ old) × (end ≡ log)
-AreParts (part ∷ later) now old log new end = (server : Option SumState) × (between : Log) × IsPart part now old log server between × AreParts later now server between new end
+abbrev pub AreParts : List TurnPart → ℕ → Option SumState → History → Option SumState → History → Type 0
+AreParts [] now old history new end = (new ≡ old) × (end ≡ history)
+AreParts (part ∷ later) now old history new end = (server : Option SumState) × (between : History) × IsPart part now old history server between × AreParts later now server between new end
 
--- the turns of the inputs in their order, with the result of each, from a server and its log to a server and its log
-pub record AreTurns (inputs : List Input) (results : List TurnResult) (now : ℕ) (old : Option SumState) (log : Log) (new : Option SumState) (end : Log) : Type 0 where
+-- the turns of the inputs in their order, with the result of each, from a server and its history to a server and its
+-- history
+pub record AreTurns (inputs : List Input) (results : List TurnResult) (now : ℕ) (old : Option SumState) (history : History) (new : Option SumState) (end : History) : Type 0 where
   pub parts : List TurnPart
   pub in_order : inputs ≡ flat_map inputs_in parts
   pub each : results ≡ flat_map results_in parts
-  pub lead : AreParts parts now old log new end
+  pub lead : AreParts parts now old history new end
 
--- What the keeper holds after turns that lead from a log to another one: that one, where it held the first. And what it
--- was that a crash leaves, or what was made since, outlasts the next crash, also where the server went down.
-pub record KeepsOn {A : Type 0} (works : A → Type 0) (keeps : A → Log → Type 0) (outlasts : A → Log → Type 0) (old new : A) (server : Option SumState) (log end : Log) : Type 0 where
-  pub kept : works new → keeps old log → keeps new end
-  pub durable : (works old → keeps old log) → outlasts old log ⊎ (length log < length end) → Runs (λ _. outlasts new end) server
-  pub lasts : (works old → keeps old log) → outlasts old log ⊎ (length log < length end) → server ≡ None → outlasts new end
+-- What the keeper holds after turns that lead from a history to another one: that one, where it held the first. And what
+-- it was that a crash leaves, or what was made since, outlasts the next crash, also where the server went down.
+pub record KeepsOn {A : Type 0} (works : A → Type 0) (keeps : A → History → Type 0) (outlasts : A → History → Type 0) (old new : A) (server : Option SumState) (history end : History) : Type 0 where
+  pub kept : works new → keeps old history → keeps new end
+  pub durable : (works old → keeps old history) → outlasts old history ⊎ (length history.log < length end.log) → Runs (λ _. outlasts new end) server
+  pub lasts : (works old → keeps old history) → outlasts old history ⊎ (length history.log < length end.log) → server ≡ None → outlasts new end
 
--- the turns lead to a log, which leads to the sum of the server that runs, and of which this holds
-pub record TurnsLead (holds : Log → Type 0) (old : Option SumState) (log : Log) (inputs : List Input) (now : ℕ) (new : Option SumState) (results : List TurnResult) : Type 0 where
-  pub end : Log
-  pub turns : AreTurns inputs results now old log new end
-  pub leads : IsLogOf end new
+-- the turns lead to a history, which leads to the sum of the server that runs, and of which this holds
+pub record TurnsLead (holds : History → Type 0) (old : Option SumState) (history : History) (inputs : List Input) (now : ℕ) (new : Option SumState) (results : List TurnResult) : Type 0 where
+  pub end : History
+  pub turns : AreTurns inputs results now old history new end
+  pub leads : IsHistoryOf end new
   pub held : holds end
 
 -- ---- what the calls of the engine do with inputs that wait in a queue
@@ -106,9 +108,9 @@ pub record Fills (old : PendingGroup) (inputs : List Input) (now : ℕ) (new : P
   pub group : new ≡ record { state = old.state; batches = old.batches ++ batches }
 
 -- the turns of the first of the inputs are done, whose results are added to those before; the others are left
-pub record TurnsFirst (holds : Log → Type 0) (old : Option SumState) (log : Log) (inputs : List Input) (before : List TurnResult) (now : ℕ) (new : Option SumState) (left : List Input) (after : List TurnResult) : Type 0 where
+pub record TurnsFirst (holds : History → Type 0) (old : Option SumState) (history : History) (inputs : List Input) (before : List TurnResult) (now : ℕ) (new : Option SumState) (left : List Input) (after : List TurnResult) : Type 0 where
   pub taken : List Input
   pub results : List TurnResult
   pub queue : inputs ≡ taken ++ left
   pub told : after ≡ before ++ results
-  pub turns : TurnsLead holds old log taken now new results
+  pub turns : TurnsLead holds old history taken now new results

@@ -1,20 +1,19 @@
 //! A server with its keeper.
 
-ghost use Rattle.std.specs.Prelude.{◌≡◌, ◌≤◌, ◌<◌, ◌+◌, ◌++◌, ◌∷◌, [], ℕ, List, length, Some, true, IfOk, IfErr, OnOk, OnErr, MatchResult, is_some, option_copied, vec_len, vec_capacity};
+ghost use Rattle.std.specs.Prelude.{◌≡◌, ◌⊎◌, ◌≤◌, ◌<◌, ◌+◌, ◌++◌, ◌∷◌, [], ℕ, List, length, Some, true, IfOk, IfErr, IfSome, OnOk, OnErr, MatchResult, is_some, option_copied, vec_len, vec_capacity};
 ghost use Rattle.std.specs.VecDeque.{deque_len};
 ghost use Rattle.pres_server.specs.declared.input.Input.{Input};
 ghost use Rattle.pres_server.specs.Groups.{MakeBatches};
 ghost use Rattle.pres_keeper.specs.EngineGroups.{KeepsOn, TurnsLead, TurnsFirst, Fills, answered, refusals};
 ghost use Rattle.pres_faults.specs.declared.engine_fault.EngineFault.TheVariants as why;
-ghost use Rattle.pres_log.specs.Logs.{Log};
 ghost use Rattle.pres_server.specs.Replays.{resumed};
 ghost use Rattle.pres_server.specs.SumAnswers.{answers_by};
 ghost use Rattle.pres_server.specs.SumTurns.{after_commit};
-ghost use Rattle.pres_server.specs.Histories.{IsSum};
-ghost use Rattle.pres_keeper.specs.Keepers.{whole, IsNoServer, MakesSum, SomeLog};
-ghost use Rattle.pres_keeper.specs.Settlements.{log_with};
-ghost use Rattle.pres_keeper.specs.Engines.{Runs, IsLogOf};
-ghost use Rattle.pres_keeper.specs.EngineTurns.{IsTurnDone, IsTurnRefused, MakesBatch, IsUndone, KeepsGone, log_turned, log_left, log_undone};
+ghost use Rattle.pres_server.specs.Histories.{IsSum, History, LeadsTo, begun_at};
+ghost use Rattle.pres_keeper.specs.Keepers.{Readable, whole, KeepsOneNull, IsNoServer, SomeHistory};
+ghost use Rattle.pres_keeper.specs.Settlements.{history_with};
+ghost use Rattle.pres_keeper.specs.Engines.{Runs, IsHistoryOf};
+ghost use Rattle.pres_keeper.specs.EngineTurns.{IsTurnDone, IsTurnRefused, MakesBatch, IsUndone, KeepsGone, IsCheckpointed, IsNotCheckpointed, history_turned, history_left, history_undone, history_checkpointed};
 ghost use Rattle.pres_faults.specs.declared.engine_fault.EngineFault.TheVariants.{Keeper as Unkept};
 
 use crate::keeper::Keeper;
@@ -89,12 +88,14 @@ fn down_all(results: &mut Vec<TurnResult>, count: usize)
     }
 }
 
-/// A server, and what keeps its batches. Contracts see the keeper, the server while there is one,
-/// and the number of the last entry that was answered.
+/// A server, and what keeps it. Contracts see the keeper, the server while there is one, the number
+/// of the last entry that was answered, and of the last one before the sum at which what is kept
+/// begins.
 pub struct Engine<K: Keeper> {
     keeper: K,
     server: Option<Server>,
     number: u64,
+    base_number: u64,
 }
 
 impl<K: Keeper> Model for Engine<K> {
@@ -102,10 +103,10 @@ impl<K: Keeper> Model for Engine<K> {
 
     ghost Value = { EngineState K };
 
-    ghost view = { λ e. record { keeper = e.keeper; server = e.server; number = e.number } };
+    ghost view = { λ e. record { keeper = e.keeper; server = e.server; number = e.number; base_number = e.base_number } };
 
     ghost invariant = { λ e. EngineInvariant K.ready K.works K.keeps
-        (record { keeper = e.keeper; server = e.server; number = e.number }) };
+        (record { keeper = e.keeper; server = e.server; number = e.number; base_number = e.base_number }) };
 }
 
 impl<K: Keeper + Drop> Drop for Engine<K> {
@@ -114,39 +115,45 @@ impl<K: Keeper + Drop> Drop for Engine<K> {
             keeper: _,
             server: _,
             number: _,
+            base_number: _,
         } = self;
     }
 }
 
 impl<K: Keeper + Drop> Engine<K> {
-    /// The server that the keeper's batches make, all that can be read of it. Refused as the keeper
-    /// refuses it: `Keeper` with Memory, Database, or `BadRow` with the number of the first row
-    /// that is no batch, or that may not follow those before it.
+    /// The server that what the keeper holds makes, all that can be read of it. Refused as the keeper
+    /// refuses it: `Keeper` with Memory, Database, or `BadRow` with 0 where its checkpoint is no base,
+    /// or else with the number of the first row that is no batch, or that may not follow those before
+    /// it.
     pub fn open(mut keeper: K) -> Result<Engine<K>, (EngineFault, K)>
         requires ready { K.ready keeper }
         ensures made { IfOk result (λ e. Runs (λ s. s ≡ resumed s.sum) e.server) }
         ensures runs { IfOk result (λ e. is_some e.server ≡ true) }
-        ensures exact { IfOk result (λ e. (log : Log) → K.works e.keeper → K.keeps keeper log
-            → IsLogOf log e.server) }
-        ensures read { IfOk result (λ e. K.works e.keeper → Runs (λ s. SomeLog
-            (λ log. (K.readable keeper ≡ whole log) × K.keeps e.keeper log) s.sum) e.server) }
+        ensures exact { IfOk result (λ e. (history : History) → K.works e.keeper
+            → K.keeps keeper history → IsHistoryOf history e.server) }
+        ensures base { IfOk result (λ e. (history : History) → K.works e.keeper
+            → K.keeps keeper history → e.base_number ≡ history.base.number) }
+        ensures read { IfOk result (λ e. K.works e.keeper → Runs (λ s. SomeHistory
+            (λ history. (K.readable keeper ≡ whole history) × K.keeps e.keeper history) s.sum)
+            e.server) }
         ensures refused { IfErr result (λ e. (f : _) × (e.0 ≡ Unkept f)
             × (K.works e.1 → IsNoServer (K.readable keeper) f)) }
         ensures same { IfErr result (λ e. K.works e.1 → K.readable e.1 ≡ K.readable keeper) }
-        ensures left { (log : Log) → K.keeps keeper log → MatchResult result
-            (λ e. K.works e.keeper → K.keeps e.keeper log)
-            (λ e. K.works e.1 → K.keeps e.1 log) }
+        ensures left { (history : History) → K.keeps keeper history → MatchResult result
+            (λ e. K.works e.keeper → K.keeps e.keeper history)
+            (λ e. K.works e.1 → K.keeps e.1 history) }
         ensures ready { IfErr result (λ e. K.ready e.1) }
-        ensures outlasts { (log : Log) → K.outlasts keeper log
-            → MatchResult result (λ e. K.outlasts e.keeper log) (λ e. K.outlasts e.1 log) }
+        ensures outlasts { (history : History) → K.outlasts keeper history → MatchResult result
+            (λ e. K.outlasts e.keeper history) (λ e. K.outlasts e.1 history) }
     {
         match keeper.server() {
-            Ok(server) => {
+            Ok((server, base_number)) => {
                 let number = server.number();
                 Ok(Engine {
                     keeper,
                     server: Some(server),
                     number,
+                    base_number,
                 })
             }
             Err(fault) => Err((EngineFault::Keeper(fault), keeper)),
@@ -155,32 +162,34 @@ impl<K: Keeper + Drop> Engine<K> {
 
     // The turn, committed and then done.
     fn carry_out(&mut self, busy: Busy) -> Result<Items<Down>, EngineFault>
-        requires kept { SomeLog (λ log. K.works self.old.keeper → K.keeps self.old.keeper log)
+        requires kept { SomeHistory (λ history. K.works self.old.keeper → K.keeps self.old.keeper history)
             busy.state.sum }
         requires counted { self.old.number ≡ busy.state.sum.number }
         requires summed { IsSum busy.state.sum }
+        requires nulls { KeepsOneNull busy.state.sum }
         ensures done { IfOk result (λ outs.
             (self.new.server ≡ Some (after_commit busy.state busy.moment busy.made))
             × (outs ≡ answers_by busy.state.sum busy.made)) }
         ensures refused { IfErr result (IsUndone busy.state self.new.server) }
-        ensures leads { (log : Log) → MakesSum log busy.state.sum
-            → OnOk result (IsLogOf (log_with log busy) self.new.server) }
-        ensures kept { (log : Log) → MakesSum log busy.state.sum → K.works self.new.keeper
-            → K.keeps self.old.keeper log
-            → MatchResult result (λ _. K.keeps self.new.keeper (log_with log busy))
-            (λ e. K.keeps self.new.keeper (log_undone log busy e)) }
+        ensures leads { (history : History) → LeadsTo history busy.state.sum
+            → OnOk result (IsHistoryOf (history_with history busy) self.new.server) }
+        ensures kept { (history : History) → LeadsTo history busy.state.sum → K.works self.new.keeper
+            → K.keeps self.old.keeper history
+            → MatchResult result (λ _. K.keeps self.new.keeper (history_with history busy))
+            (λ e. K.keeps self.new.keeper (history_undone history busy e)) }
         ensures stays { OnErr result (self.new.number ≡ self.old.number) }
         ensures rises { self.old.number ≤ self.new.number }
+        ensures base { self.new.base_number ≡ self.old.base_number }
         ensures worked { K.works self.new.keeper → K.works self.old.keeper }
-        ensures durable { (log : Log) → MakesSum log busy.state.sum
-            → (K.works self.old.keeper → K.keeps self.old.keeper log)
-            → OnOk result (K.outlasts self.new.keeper (log_with log busy)) }
-        ensures lasts { (log : Log) → MakesSum log busy.state.sum
-            → (K.works self.old.keeper → K.keeps self.old.keeper log)
+        ensures durable { (history : History) → LeadsTo history busy.state.sum
+            → (K.works self.old.keeper → K.keeps self.old.keeper history)
+            → OnOk result (K.outlasts self.new.keeper (history_with history busy)) }
+        ensures lasts { (history : History) → LeadsTo history busy.state.sum
+            → (K.works self.old.keeper → K.keeps self.old.keeper history)
             → IfErr result (λ e. e ≡ why.Down
-            → K.outlasts self.new.keeper (log_with log busy)) }
-        ensures outlasts { (log : Log) → K.outlasts self.old.keeper log
-            → K.outlasts self.new.keeper log }
+            → K.outlasts self.new.keeper (history_with history busy)) }
+        ensures outlasts { (history : History) → K.outlasts self.old.keeper history
+            → K.outlasts self.new.keeper history }
     {
         match settle(&mut self.keeper, busy) {
             Ok((server, answers)) => {
@@ -201,36 +210,37 @@ impl<K: Keeper + Drop> Engine<K> {
 
     /// Does what the input asks for, at the later of the given moment and the greatest one so far:
     /// its batch is kept first, and then answered. Whatever a crash leaves from then on begins with
-    /// the log that was answered, also a crash in a later call. With the server as it was: Refused,
+    /// the history that was answered, also a crash in a later call. With the server as it was: Refused,
     /// as the server refuses the input; Memory; Keeper, if the batch isn't kept. Down, from then
     /// on, if memory is refused after the batch was kept.
     ///
-    /// A log that leads to the server's sum, and that the keeper holds as long as it works, still
+    /// A history that leads to the server's sum, and that the keeper holds as long as it works, still
     /// is and does so after the turn, with the turn's batch appended.
     pub fn turn(&mut self, input: Input, now: Moment) -> Result<Items<Down>, EngineFault>
         ensures turned { IfOk result (IsTurnDone self.old.server input now self.new.server) }
         ensures refused { IfErr result (IsTurnRefused self.old.server input now self.new.server) }
-        ensures leads { (log : Log) → IsLogOf log self.old.server → OnOk result
-            (IsLogOf (log_turned log self.old.server input now) self.new.server) }
-        ensures kept { (log : Log) → IsLogOf log self.old.server → K.works self.new.keeper
-            → K.keeps self.old.keeper log → MatchResult result
-            (λ _. K.keeps self.new.keeper (log_turned log self.old.server input now))
-            (λ e. K.keeps self.new.keeper (log_left log self.old.server input now e)) }
+        ensures leads { (history : History) → IsHistoryOf history self.old.server → OnOk result
+            (IsHistoryOf (history_turned history self.old.server input now) self.new.server) }
+        ensures kept { (history : History) → IsHistoryOf history self.old.server → K.works self.new.keeper
+            → K.keeps self.old.keeper history → MatchResult result
+            (λ _. K.keeps self.new.keeper (history_turned history self.old.server input now))
+            (λ e. K.keeps self.new.keeper (history_left history self.old.server input now e)) }
         ensures gone { K.works self.new.keeper → IfErr result
             (KeepsGone (K.keeps self.new.keeper) self.old.server input now) }
         ensures stays { OnErr result (self.new.number ≡ self.old.number) }
         ensures rises { self.old.number ≤ self.new.number }
+        ensures base { self.new.base_number ≡ self.old.base_number }
         ensures worked { K.works self.new.keeper → K.works self.old.keeper }
-        ensures durable { (log : Log) → IsLogOf log self.old.server
-            → (K.works self.old.keeper → K.keeps self.old.keeper log)
+        ensures durable { (history : History) → IsHistoryOf history self.old.server
+            → (K.works self.old.keeper → K.keeps self.old.keeper history)
             → MakesBatch self.old.server input now → OnOk result
-            (K.outlasts self.new.keeper (log_turned log self.old.server input now)) }
-        ensures lasts { (log : Log) → IsLogOf log self.old.server
-            → (K.works self.old.keeper → K.keeps self.old.keeper log)
+            (K.outlasts self.new.keeper (history_turned history self.old.server input now)) }
+        ensures lasts { (history : History) → IsHistoryOf history self.old.server
+            → (K.works self.old.keeper → K.keeps self.old.keeper history)
             → MakesBatch self.old.server input now → IfErr result (λ e. e ≡ why.Down
-            → K.outlasts self.new.keeper (log_turned log self.old.server input now)) }
-        ensures outlasts { (log : Log) → K.outlasts self.old.keeper log
-            → K.outlasts self.new.keeper log }
+            → K.outlasts self.new.keeper (history_turned history self.old.server input now)) }
+        ensures outlasts { (history : History) → K.outlasts self.old.keeper history
+            → K.outlasts self.new.keeper history }
     {
         let Some(server) = self.server.take() else {
             drop(input);
@@ -256,22 +266,24 @@ impl<K: Keeper + Drop> Engine<K> {
     // The turns of the group, committed together and then done, with the result of each. The inputs
     // are those that made its batches.
     fn carry_out_all(&mut self, group: Group, results: &mut Vec<TurnResult>)
-        requires kept { SomeLog (λ log. K.works self.old.keeper → K.keeps self.old.keeper log)
+        requires kept { SomeHistory (λ history. K.works self.old.keeper → K.keeps self.old.keeper history)
             group.state.sum }
         requires counted { self.old.number ≡ group.state.sum.number }
         requires summed { IsSum group.state.sum }
+        requires nulls { KeepsOneNull group.state.sum }
         requires room { vec_len results.old + length group.batches ≤ vec_capacity results.old }
-        ensures turned { (log : Log) (inputs : List Input) (now : ℕ) → MakesSum log group.state.sum
+        ensures turned { (history : History) (inputs : List Input) (now : ℕ) → LeadsTo history group.state.sum
             → MakeBatches group.state inputs now group.batches
             → TurnsFirst (KeepsOn K.works K.keeps K.outlasts self.old.keeper self.new.keeper
-            self.new.server log) (Some group.state) log inputs results.old.items now
+            self.new.server history) (Some group.state) history inputs results.old.items now
             self.new.server [] results.new.items }
         ensures told { vec_len results.new ≡ vec_len results.old + length group.batches }
         ensures room { vec_capacity results.old ≤ vec_capacity results.new }
         ensures rises { self.old.number ≤ self.new.number }
+        ensures base { self.new.base_number ≡ self.old.base_number }
         ensures worked { K.works self.new.keeper → K.works self.old.keeper }
-        ensures outlasts { (log : Log) → K.outlasts self.old.keeper log
-            → K.outlasts self.new.keeper log }
+        ensures outlasts { (history : History) → K.outlasts self.old.keeper history
+            → K.outlasts self.new.keeper history }
     {
         let count = group.batches().len();
         match settle_all(&mut self.keeper, group) {
@@ -295,16 +307,17 @@ impl<K: Keeper + Drop> Engine<K> {
     // The turn of the input alone.
     fn turn_alone(&mut self, input: Input, now: Moment, results: &mut Vec<TurnResult>)
         requires room { vec_len results.old < vec_capacity results.old }
-        ensures turned { (log : Log) → IsLogOf log self.old.server
+        ensures turned { (history : History) → IsHistoryOf history self.old.server
             → TurnsFirst (KeepsOn K.works K.keeps K.outlasts self.old.keeper self.new.keeper
-            self.new.server log) self.old.server log (input ∷ []) results.old.items now
+            self.new.server history) self.old.server history (input ∷ []) results.old.items now
             self.new.server [] results.new.items }
         ensures told { vec_len results.new ≡ vec_len results.old + 1 }
         ensures room { vec_capacity results.old ≤ vec_capacity results.new }
         ensures rises { self.old.number ≤ self.new.number }
+        ensures base { self.new.base_number ≡ self.old.base_number }
         ensures worked { K.works self.new.keeper → K.works self.old.keeper }
-        ensures outlasts { (log : Log) → K.outlasts self.old.keeper log
-            → K.outlasts self.new.keeper log }
+        ensures outlasts { (history : History) → K.outlasts self.old.keeper history
+            → K.outlasts self.new.keeper history }
     {
         let result = self.turn(input, now);
         let Ok(()) = results.push(result) else {
@@ -316,16 +329,17 @@ impl<K: Keeper + Drop> Engine<K> {
     fn turn_some(&mut self, queue: &mut VecDeque<Input>, now: Moment, results: &mut Vec<TurnResult>)
         requires some { 0 < deque_len queue.old }
         requires room { vec_len results.old + deque_len queue.old ≤ vec_capacity results.old }
-        ensures turned { (log : Log) → IsLogOf log self.old.server
+        ensures turned { (history : History) → IsHistoryOf history self.old.server
             → TurnsFirst (KeepsOn K.works K.keeps K.outlasts self.old.keeper self.new.keeper
-            self.new.server log) self.old.server log queue.old.items results.old.items now
+            self.new.server history) self.old.server history queue.old.items results.old.items now
             self.new.server queue.new.items results.new.items }
         ensures fewer { deque_len queue.new < deque_len queue.old }
         ensures room { vec_len results.new + deque_len queue.new ≤ vec_capacity results.new }
         ensures rises { self.old.number ≤ self.new.number }
+        ensures base { self.new.base_number ≡ self.old.base_number }
         ensures worked { K.works self.new.keeper → K.works self.old.keeper }
-        ensures outlasts { (log : Log) → K.outlasts self.old.keeper log
-            → K.outlasts self.new.keeper log }
+        ensures outlasts { (history : History) → K.outlasts self.old.keeper history
+            → K.outlasts self.new.keeper history }
     {
         let Some(input) = queue.pop_front() else {
             unreachable!()
@@ -354,15 +368,16 @@ impl<K: Keeper + Drop> Engine<K> {
         inputs: Vec<Input>,
         now: Moment,
     ) -> Result<Items<TurnResult>, Vec<Input>>
-        ensures turned { (log : Log) → IsLogOf log self.old.server → IfOk result
+        ensures turned { (history : History) → IsHistoryOf history self.old.server → IfOk result
             (TurnsLead (KeepsOn K.works K.keeps K.outlasts self.old.keeper self.new.keeper
-            self.new.server log) self.old.server log inputs.items now self.new.server) }
+            self.new.server history) self.old.server history inputs.items now self.new.server) }
         ensures back { IfErr result (λ back. back.items ≡ inputs.items) }
         ensures unchanged { OnErr result (self.new ≡ self.old) }
         ensures rises { self.old.number ≤ self.new.number }
+        ensures base { self.new.base_number ≡ self.old.base_number }
         ensures worked { K.works self.new.keeper → K.works self.old.keeper }
-        ensures outlasts { (log : Log) → K.outlasts self.old.keeper log
-            → K.outlasts self.new.keeper log }
+        ensures outlasts { (history : History) → K.outlasts self.old.keeper history
+            → K.outlasts self.new.keeper history }
     {
         let Ok(mut results) = Vec::with_capacity(alloc, inputs.len()) else {
             return Err(inputs);
@@ -374,13 +389,62 @@ impl<K: Keeper + Drop> Engine<K> {
         Ok(Items::of(results))
     }
 
+    /// Has the keeper keep the server's base in place of what it holds, where at least `rise` entries
+    /// were answered since the last time, or since the base that was found at first. The result is the
+    /// number of the last entry, none where it isn't due. Keeper: it isn't kept. Down: there is no
+    /// server. The server is as it was.
+    ///
+    /// A history that leads to the server's sum, and that the keeper holds as long as it works, gives
+    /// way to the one that begins at that sum. Whatever a crash leaves from then on begins there, or
+    /// at a later sum.
+    pub fn checkpoint(&mut self, rise: u64) -> Result<Option<u64>, EngineFault>
+        ensures done { IfOk result (IsCheckpointed self.old rise self.new) }
+        ensures refused { IfErr result (IsNotCheckpointed self.old.server) }
+        ensures left { OnErr result (self.new.base_number ≡ self.old.base_number) }
+        ensures server { self.new.server ≡ self.old.server }
+        ensures number { self.new.number ≡ self.old.number }
+        ensures leads { (history : History) → IsHistoryOf history self.old.server → IfOk result
+            (λ done. IsHistoryOf (history_checkpointed history self.old.server done) self.new.server) }
+        ensures kept { (history : History) → IsHistoryOf history self.old.server
+            → K.works self.new.keeper → K.keeps self.old.keeper history → MatchResult result
+            (λ done. K.keeps self.new.keeper (history_checkpointed history self.old.server done))
+            (λ _. K.keeps self.new.keeper history) }
+        ensures worked { K.works self.new.keeper → K.works self.old.keeper }
+        ensures durable { (history : History) → IsHistoryOf history self.old.server
+            → (K.works self.old.keeper → K.keeps self.old.keeper history)
+            → IfOk result (λ done. IfSome done (λ _. Runs
+            (λ s. K.outlasts self.new.keeper (begun_at s.sum)) self.old.server)) }
+        ensures found { (history : History) → IsHistoryOf history self.old.server
+            → (K.works self.old.keeper → K.keeps self.old.keeper history)
+            → (held : Readable) → K.may_find self.new.keeper held → K.may_find self.old.keeper held
+            ⊎ Runs (λ s. held ≡ whole (begun_at s.sum)) self.old.server }
+        ensures outlasts { (history : History) → K.outlasts self.old.keeper history
+            → K.outlasts self.new.keeper history }
+    {
+        match &self.server {
+            None => Err(EngineFault::Down),
+            Some(server) => {
+                if self.number.saturating_sub(self.base_number) < rise {
+                    return Ok(None);
+                }
+                match self.keeper.checkpoint(server) {
+                    Ok(()) => {
+                        self.base_number = self.number;
+                        Ok(Some(self.number))
+                    }
+                    Err(refused) => Err(EngineFault::Keeper(refused)),
+                }
+            }
+        }
+    }
+
     /// The number of the last entry that was answered. When the engine is down, it is the one from
     /// before.
     pub fn number(&self) -> u64
         ensures number { result ≡ self.now.number }
         ensures summed { Runs (λ s. IsSum s.sum) self.now.server }
-        ensures kept { Runs (λ s. SomeLog
-            (λ log. K.works self.now.keeper → K.keeps self.now.keeper log) s.sum) self.now.server }
+        ensures kept { Runs (λ s. SomeHistory
+            (λ history. K.works self.now.keeper → K.keeps self.now.keeper history) s.sum) self.now.server }
         ensures counted { Runs (λ s. self.now.number ≡ s.sum.number) self.now.server }
     {
         self.number
@@ -397,13 +461,14 @@ impl<K: Keeper + Drop> Engine<K> {
     pub fn into_keeper(self) -> K
         ensures keeper { result ≡ self.keeper }
         ensures ready { K.ready result }
-        ensures kept { Runs (λ s. SomeLog (λ log. K.works result → K.keeps result log) s.sum)
+        ensures kept { Runs (λ s. SomeHistory (λ history. K.works result → K.keeps result history) s.sum)
             self.server }
     {
         let Engine {
             keeper,
             server: _,
             number: _,
+            base_number: _,
         } = self;
         keeper
     }

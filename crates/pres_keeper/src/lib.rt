@@ -1,5 +1,5 @@
-//! What keeps the batches of a server, a turn that is kept before it is done, and an engine: a server
-//! with its keeper.
+//! What keeps the history of a server, a base and the batches after it; a turn that is kept before it is
+//! done; and an engine, which is a server with its keeper.
 #![tactic(auto)]
 
 mod engine;

@@ -1,28 +1,42 @@
 //! A keeper in memory.
 
-ghost use Rattle.std.specs.Prelude.{◌≡◌, [], IfOk};
+ghost use Rattle.std.specs.Prelude.{◌≡◌, IfOk, IfErr};
+ghost use Rattle.pres_server.specs.declared.replay.ReplayFault.TheVariants.{Memory as OutOfMemory};
+ghost use Rattle.pres_faults.specs.declared.saved_fault.SavedFault.TheVariants.{Memory};
+ghost use Rattle.pres_server.specs.Sums.{nothing, sum_from};
+ghost use Rattle.pres_server.specs.SumTurns.{FollowAll};
+ghost use Rattle.pres_server.specs.Histories.{IsSum, begun_at};
+ghost use Rattle.pres_server.specs.Replays.{resumed};
+ghost use Rattle.pres_server.specs.BaseSums.{sum_for};
+ghost use Rattle.pres_keeper.specs.Keepers.{base_sum, IsNoLogAfter};
 
 use crate::keeper::{Keeper, bad_batch};
+use pres_base::Base;
 use pres_faults::SavedFault;
 use pres_log::Batch;
-use pres_server::Server;
+use pres_server::{Replay, ReplayFault, Server};
 use std::alloc::{AllocError, Global};
 use std::marker::Model;
 
-/// Batches in memory. They last as long as the process: a crash ends both, and leaves nothing to
-/// open. Contracts see the list of them.
+/// A base and batches in memory. They last as long as the process: a crash ends both, and leaves
+/// nothing to open. Contracts see the history of them, which begins at nothing before the first
+/// checkpoint.
 #[derive(Drop)]
 pub struct MemKeeper {
     alloc: Global,
+    base: Option<Base>,
     batches: Vec<Batch>,
 }
 
 impl Model for MemKeeper {
-    ghost use Rattle.pres_log.specs.Logs.{Log};
+    ghost use Rattle.pres_server.specs.Histories.{History};
+    ghost use Rattle.pres_keeper.specs.Keepers.{HoldsBase, base_sum};
 
-    ghost Value = { Log };
+    ghost Value = { History };
 
-    ghost view = { λ k. k.batches.items };
+    ghost view = { λ k. record { base = base_sum k.base; log = k.batches.items } };
+
+    ghost invariant = { λ k. HoldsBase (base_sum k.base) };
 }
 
 // Equal batches.
@@ -36,29 +50,77 @@ fn copy_all(alloc: Global, batches: &[Batch]) -> Result<Vec<Batch>, AllocError>
     Ok(copies)
 }
 
+// The base of the server.
+fn base_of(server: &Server) -> Result<Base, SavedFault>
+    ensures base { IfOk result (λ base. sum_for base ≡ server.now.sum) }
+    ensures sum { IsSum server.now.sum }
+    ensures refused { IfErr result (λ e. e ≡ Memory) }
+{
+    // of a server's number all is known that holds of its sum
+    let _ = server.number();
+    match server.base() {
+        Ok(base) => Ok(base),
+        Err(_) => Err(SavedFault::Memory),
+    }
+}
+
+// A replay that begins at the base.
+fn begun(alloc: Global, base: &Option<Base>) -> Result<Replay, ReplayFault>
+    ensures sum { IfOk result (λ replay. replay ≡ base_sum base.now) }
+    ensures refused { IfErr result (λ e. e ≡ OutOfMemory) }
+{
+    match base {
+        None => Ok(Replay::new(alloc)),
+        Some(base) => Replay::resume(alloc, base.copy(alloc)?),
+    }
+}
+
+// The server of these batches after those of the replay.
+fn finished(alloc: Global, mut replay: Replay, batches: &[Batch]) -> Result<Server, ReplayFault>
+    ensures server { IfOk result (λ server. server ≡ resumed (sum_from replay batches.now)) }
+    ensures legal { IfOk result (λ _. FollowAll replay batches.now) }
+    ensures refused { IfErr result (IsNoLogAfter replay batches.now) }
+{
+    for batch in batches {
+        let Ok(batch) = batch.copy(alloc) else {
+            drop(replay);
+            return Err(ReplayFault::Memory);
+        };
+        if let Err(fault) = replay.add(batch) {
+            drop(replay);
+            return Err(fault);
+        }
+    }
+    Ok(replay.finish())
+}
+
 impl MemKeeper {
-    /// No batches. It takes no memory.
+    /// No base and no batches. It takes no memory.
     pub fn new(alloc: Global) -> MemKeeper
-        ensures { result ≡ [] }
+        ensures { result ≡ begun_at nothing }
     {
         MemKeeper {
             alloc,
+            base: None,
             batches: Vec::new(alloc),
         }
     }
 }
 
 impl Keeper for MemKeeper {
-    ghost use Rattle.std.specs.Prelude.{◌≡◌, ◌++◌, ⊤};
+    ghost use Rattle.std.specs.Prelude.{◌≡◌, ⊤};
     ghost use Rattle.std.proofs.Common.{ap};
-    ghost use Rattle.pres_log.specs.Logs.{Log};
-    ghost use Rattle.pres_keeper.specs.Keepers.{whole};
+    ghost use Rattle.pres_server.specs.BaseSums.{sum_for};
+    ghost use Rattle.pres_server.specs.Histories.{begun_at, with_batches};
+    ghost use Rattle.pres_keeper.specs.Keepers.{BeginsWith, whole};
 
     ghost readable = { λ kept. whole kept };
 
-    ghost keeps = { λ kept log. kept ≡ log };
+    ghost keeps = { λ kept history. kept ≡ history };
 
-    ghost stores = { λ old batches new. new ≡ old ++ batches };
+    ghost stores = { λ old batches new. new ≡ with_batches old batches };
+
+    ghost replaces = { λ old base new. new ≡ begun_at (sum_for base) };
 
     ghost ready = { λ _. ⊤ };
 
@@ -66,17 +128,17 @@ impl Keeper for MemKeeper {
 
     ghost shut = { λ _ _. ⊥ };
 
-    ghost leaves = { λ _ _ _ _. ⊤ };
+    ghost leaves = { λ _ _ _. ⊤ };
 
     // Nothing is left to be opened.
     ghost may_find = { λ _ _. ⊥ };
 
-    // These batches are its first ones, as long as it lives.
-    ghost outlasts = { λ kept log. (more : Log) × (kept ≡ log ++ more) };
+    // It begins with this history, as long as it lives.
+    ghost outlasts = { λ kept history. BeginsWith history (whole kept) };
 
-    ghost outlasting_is_found = { λ kept log held lasts finds. absurd finds };
+    ghost outlasting_is_found = { λ kept history held lasts finds. absurd finds };
 
-    ghost kept_is_read = { λ kept log keeps. ap whole keeps };
+    ghost kept_is_read = { λ kept history keeps. ap whole keeps };
 
     fn commit(&mut self, batch: &Batch) -> Result<(), SavedFault> {
         self.batches.push(batch.copy(self.alloc)?)?;
@@ -93,11 +155,33 @@ impl Keeper for MemKeeper {
         Ok(())
     }
 
+    fn checkpoint(&mut self, server: &Server) -> Result<(), SavedFault> {
+        let base = base_of(server)?;
+        drop(self.base.replace(base));
+        self.batches.clear();
+        Ok(())
+    }
+
+    fn base(&mut self) -> Result<Option<Base>, SavedFault> {
+        match &self.base {
+            None => Ok(None),
+            Some(base) => Ok(Some(base.copy(self.alloc)?)),
+        }
+    }
+
     fn batches(&mut self) -> Result<Vec<Batch>, SavedFault> {
         Ok(copy_all(self.alloc, &self.batches)?)
     }
 
-    fn server(&mut self) -> Result<Server, SavedFault> {
-        Server::replay(self.alloc, &self.batches).map_err(bad_batch)
+    fn server(&mut self) -> Result<(Server, u64), SavedFault> {
+        let replay = match begun(self.alloc, &self.base) {
+            Ok(replay) => replay,
+            Err(fault) => return Err(bad_batch(fault)),
+        };
+        let base_number = replay.number();
+        match finished(self.alloc, replay, &self.batches) {
+            Ok(server) => Ok((server, base_number)),
+            Err(fault) => Err(bad_batch(fault)),
+        }
     }
 }

@@ -3,6 +3,7 @@
 ghost use Rattle.std.specs.Prelude.{◌≡◌};
 
 use crate::keeper::Keeper;
+use pres_base::Base;
 use pres_faults::SavedFault;
 use pres_server::{Batch, Server};
 use std::marker::{Brand, Model, PhantomData};
@@ -75,22 +76,24 @@ impl<K: Keeper, P: Premise> Keeper for Supposed<K, P> {
 
     ghost readable = { λ kept. K.readable kept };
 
-    ghost keeps = { λ kept log. K.keeps kept log };
+    ghost keeps = { λ kept history. K.keeps kept history };
 
     ghost stores = { λ old batches new. K.stores old batches new };
 
+    ghost replaces = { λ old base new. K.replaces old base new };
+
     ghost shut = { λ old new. P.holds × K.shut old new };
 
-    ghost leaves = { λ old log batches new. P.holds → K.leaves old log batches new };
+    ghost leaves = { λ old history new. P.holds → K.leaves old history new };
 
     ghost may_find = { λ kept held. P.holds × K.may_find kept held };
 
-    ghost outlasts = { λ kept log. P.holds → K.outlasts kept log };
+    ghost outlasts = { λ kept history. P.holds → K.outlasts kept history };
 
-    ghost outlasting_is_found = { λ kept log held lasts finds.
-        K.outlasting_is_found kept log held (lasts finds.0) finds.1 };
+    ghost outlasting_is_found = { λ kept history held lasts finds.
+        K.outlasting_is_found kept history held (lasts finds.0) finds.1 };
 
-    ghost kept_is_read = { λ kept log keeps. K.kept_is_read kept log keeps };
+    ghost kept_is_read = { λ kept history keeps. K.kept_is_read kept history keeps };
 
     fn commit(&mut self, batch: &Batch) -> Result<(), SavedFault> {
         self.keeper.commit(batch)
@@ -100,11 +103,19 @@ impl<K: Keeper, P: Premise> Keeper for Supposed<K, P> {
         self.keeper.commit_all(batches)
     }
 
+    fn checkpoint(&mut self, server: &Server) -> Result<(), SavedFault> {
+        self.keeper.checkpoint(server)
+    }
+
+    fn base(&mut self) -> Result<Option<Base>, SavedFault> {
+        self.keeper.base()
+    }
+
     fn batches(&mut self) -> Result<Vec<Batch>, SavedFault> {
         self.keeper.batches()
     }
 
-    fn server(&mut self) -> Result<Server, SavedFault> {
+    fn server(&mut self) -> Result<(Server, u64), SavedFault> {
         self.keeper.server()
     }
 }

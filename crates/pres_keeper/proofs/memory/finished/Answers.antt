@@ -1,0 +1,33 @@
+use Rattle.std.proofs.Common.{◌∙◌, sym, subst, take}
+use Rattle.pres_log.specs.declared.entry.Batch.{Batch}
+use Rattle.pres_server.specs.Sums.{Sum, sum_with, sum_from}
+use Rattle.pres_server.specs.SumTurns.{FollowsSum}
+use Rattle.pres_server.specs.Replays.{IsNotAdded}
+use Rattle.pres_keeper.proofs.Resumed.{summed_further, follow_further, not_added}
+use Rattle.pres_keeper.proofs.memory.finished.Goals as goal
+use Rattle.std.proofs.Common.{arith}
+use Rattle.std.proofs.lemmas.Grind.{common_steps}
+
+pub returns-in-Err-clause-refused : goal.returns-in-Err-clause-refused
+returns-in-Err-clause-refused c =
+    let bs = c.args.batches.now in
+    let i = c.loop-batch.batch-index in
+    not_added c.args.replay bs i c.batch-item.result c.in-Err.fault c.loop-batch-test.true c.batch-item.is c.loop-batch.invariant.1
+    (subst (λ (x : Sum × Batch). IsNotAdded x.0 x.1 c.in-Err.fault) (λ j. (c.loop-batch.invariant.0 j, c.in-Ok.ensures j)) c.in-Err.ensures.refused)
+
+pub loop-batch-preserved : goal.loop-batch-preserved
+loop-batch-preserved c =
+    let base = c.args.replay in
+    let bs = c.args.batches.now in
+    let i = c.loop-batch.batch-index in
+    let b : Batch = c.batch-item.result in
+    let follows : FollowsSum (sum_from base (take i bs)) b = subst (λ (x : Sum × Batch). FollowsSum x.0 x.1) (λ j. (c.loop-batch.invariant.0 j, c.in-Ok.ensures j)) c.in_default-add.ensures.follows in (
+      c.in_default-add.ensures.added ∙ (λ j. sum_with (c.loop-batch.invariant.0 j) (c.in-Ok.ensures j)) ∙ sym (summed_further base bs i b c.loop-batch-test.true c.batch-item.is),
+      follow_further base bs i b c.loop-batch-test.true c.batch-item.is c.loop-batch.invariant.1 follows,
+    )
+
+pub returns-clause-server : goal.returns-clause-server
+returns-clause-server c = grind (arith, common_steps)
+
+pub returns-clause-legal : goal.returns-clause-legal
+returns-clause-legal c = grind (arith, common_steps)
