@@ -1,4 +1,5 @@
-//! Saved rows in SQLite: moments and texts, numbered from 1.
+//! Saved rows in SQLite: batches, as moments and texts in the order of their numbers, and the checkpoint
+//! that they follow.
 #![tactic(auto)]
 
 mod base;

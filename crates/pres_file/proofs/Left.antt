@@ -11,7 +11,7 @@ use Rattle.sqlite.proofs.Theorems.{opens_again}
 use Rattle.sqlite_trees.specs.Tree.{Trees}
 use Rattle.pres_batch_rows.specs.TableStates.{TableState}
 use Rattle.pres_batch_rows.specs.RowContents.{shown_row, shown_rows, shown_base}
-use Rattle.pres_saved.specs.SavedLogs.{readable_rows}
+use Rattle.pres_saved.specs.SavedHistories.{readable_rows}
 use Rattle.pres_saved.specs.SqlKeepers.{MayFind}
 use Rattle.pres_file.specs.FileOpening.{FindsWhatWasLeft}
 

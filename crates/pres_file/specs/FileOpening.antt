@@ -1,5 +1,5 @@
 -- What a connection finds in the two files of a database, and what the keeper over it keeps.
-use Rattle.std.specs.Prelude.{◌≡◌, ◌≤◌, ◌⊎◌, ◌↔◌, ℕ, [], Bool, false, IsTrue, Ok}
+use Rattle.std.specs.Prelude.{◌≡◌, ◌≤◌, ◌⊎◌, ◌↔◌, ℕ, Bool, false, IsTrue, Ok}
 use Rattle.sqlite_disk.specs.declared.Disk as disk
 use Rattle.sqlite_wal.specs.Recovery.{Image}
 use Rattle.sqlite_pool.specs.Opening.{IsBlankFile}
@@ -11,12 +11,13 @@ use Rattle.sqlite_store.specs.declared.store.FileStore.{FileStore}
 use Rattle.sqlite_store.specs.FileStore as store
 use Rattle.sqlite.specs.Held.{Held, AreDatabases, state}
 use Rattle.sqlite.specs.Files.{HoldsDatabase, IsEmpty, over_files, file_state}
-use Rattle.pres_log.specs.Logs.{Log}
+use Rattle.pres_server.specs.Sums.{nothing}
+use Rattle.pres_server.specs.Histories.{History, begun_at}
 use Rattle.pres_batch_rows.specs.TableStates.{TableState, IsOurs}
 use Rattle.pres_batch_rows.specs.RowContents.{shown_rows, shown_base}
 use Rattle.pres_batch_rows.specs.Schemas.{no_schema}
-use Rattle.pres_saved.specs.SavedLogs.{saved_log, readable_rows, base_found}
-use Rattle.pres_saved.specs.SqlKeepers.{IsReady, KeepsLog, MayFind, readable_in}
+use Rattle.pres_saved.specs.SavedHistories.{saved_history, readable_rows, base_found}
+use Rattle.pres_saved.specs.SqlKeepers.{IsReady, KeepsHistory, MayFind, readable_in}
 
 -- how many bytes a page of a new file has
 abbrev pub new_page_size : ℕ
@@ -35,30 +36,32 @@ abbrev pub HoldsOurs : {S : Type 0} → Ghosts S → Held S → Type 0
 HoldsOurs g connection = (connection.schema ≡ no_schema) ⊎ IsOurs (state g connection).now
 
 -- The keeper over a connection is new exactly where its database has no table, index or view. It is ready where it is new or the tables
--- are ours. As long as its disk gives back what was written, a new one keeps no batch, and one over tables of ours is read as the
--- checkpoint and the rows that were found, and keeps the log that they save; and a disk that was in doubt stays so.
+-- are ours. As long as its disk gives back what was written, a new one keeps no checkpoint and no batch, and one over tables of
+-- ours is read as the checkpoint and the rows that were found, and keeps the history that they save; and a disk that was in doubt
+-- stays so.
 pub record KeepsWhatIsThere {S : Type 0} (g : Ghosts S) (connection : Held S) (is_new : Bool) (keeper : TableState S) : Type 0 where
   pub clean : doubt (state g connection).is_clean ≤ doubt (state g keeper.connection).is_clean
   pub new : IsTrue is_new ↔ (connection.schema ≡ no_schema)
   pub ready : IsTrue is_new ⊎ IsOurs (state g connection).now → IsReady g keeper
-  pub empty : IsTrue is_new → HasCleanDisk (state g keeper.connection) → KeepsLog g keeper []
+  pub empty : IsTrue is_new → HasCleanDisk (state g keeper.connection) → KeepsHistory g keeper (begun_at nothing)
   pub read : is_new ≡ false → HasCleanDisk (state g keeper.connection) → (ours : IsOurs (state g connection).now)
       → readable_in g keeper ≡ readable_rows (base_found (state g connection).now ours) (shown_rows (state g connection))
-  pub found : (log : Log) → is_new ≡ false → HasCleanDisk (state g keeper.connection) → (ours : IsOurs (state g connection).now)
-      → saved_log (base_found (state g connection).now ours) (shown_rows (state g connection)) ≡ Ok log → KeepsLog g keeper log
+  pub found : (history : History) → is_new ≡ false → HasCleanDisk (state g keeper.connection) → (ours : IsOurs (state g connection).now)
+      → saved_history (base_found (state g connection).now ours) (shown_rows (state g connection)) ≡ Ok history → KeepsHistory g keeper history
 
 -- A connection found what the files held, and the keeper over it is new exactly where that has no table, index or view: then it
--- keeps no batch. Where their tables are ours, it is read as the checkpoint and the rows that were found, and keeps the log that they save.
+-- keeps no checkpoint and no batch. Where their tables are ours, it is read as the checkpoint and the rows that were found, and
+-- keeps the history that they save.
 pub record KeepsWhatWasFound {S : Type 0} (g : Ghosts S) (image : Image) (is_new : Bool) (keeper : TableState S) : Type 0 where
   pub connection : Held S
   pub finds : Finds image (state g connection)
   pub new : IsTrue is_new ↔ (connection.schema ≡ no_schema)
   pub ready : IsTrue is_new ⊎ IsOurs (state g connection).now → IsReady g keeper
-  pub empty : IsTrue is_new → KeepsLog g keeper []
+  pub empty : IsTrue is_new → KeepsHistory g keeper (begun_at nothing)
   pub read : is_new ≡ false → (ours : IsOurs (state g connection).now)
       → readable_in g keeper ≡ readable_rows (base_found (state g connection).now ours) (shown_rows (state g connection))
-  pub found : (log : Log) → is_new ≡ false → (ours : IsOurs (state g connection).now)
-      → saved_log (base_found (state g connection).now ours) (shown_rows (state g connection)) ≡ Ok log → KeepsLog g keeper log
+  pub found : (history : History) → is_new ≡ false → (ours : IsOurs (state g connection).now)
+      → saved_history (base_found (state g connection).now ours) (shown_rows (state g connection)) ≡ Ok history → KeepsHistory g keeper history
 
 -- ---- after a crash
 

@@ -1,6 +1,6 @@
 //! The keeper over a file.
 
-ghost use Rattle.std.specs.Prelude.{◌≡◌, ◌≢◌, ◌≤◌, ◌↔◌, [], Ok, true, false, IsTrue, IfOk, IfErr};
+ghost use Rattle.std.specs.Prelude.{◌≡◌, ◌≢◌, ◌≤◌, ◌↔◌, Ok, true, false, IsTrue, IfOk, IfErr};
 ghost use Rattle.sqlite.specs.Held.{state};
 ghost use Rattle.sqlite.specs.State.{HasCleanDisk};
 ghost use Rattle.sqlite.specs.View.{doubt};
@@ -11,8 +11,10 @@ ghost use Rattle.pres_batch_rows.specs.TableCreation.{FailsToMake, making_fault}
 ghost use Rattle.pres_batch_rows.specs.TableOpening.{OpensAs, FailsToOpen};
 ghost use Rattle.pres_batch_rows.specs.Schemas.{no_schema};
 ghost use Rattle.pres_batch_rows.specs.RowContents.{shown_rows};
-ghost use Rattle.pres_saved.specs.SavedLogs.{saved_log, readable_rows, base_found};
-ghost use Rattle.pres_saved.specs.SqlKeepers.{IsReady, KeepsLog, readable_in};
+ghost use Rattle.pres_server.specs.Sums.{nothing};
+ghost use Rattle.pres_server.specs.Histories.{begun_at};
+ghost use Rattle.pres_saved.specs.SavedHistories.{saved_history, readable_rows, base_found};
+ghost use Rattle.pres_saved.specs.SqlKeepers.{IsReady, KeepsHistory, readable_in};
 ghost use Rattle.pres_file.specs.FileOpening.{HoldsOurs, KeepsWhatIsThere, KeepsWhatWasFound};
 
 use crate::open::connect;
@@ -40,7 +42,8 @@ pub fn keeper_over<S: Alter + Drop>(
     ensures new { IfOk result (λ it. IsTrue it.is_new ↔ (connection.schema ≡ no_schema)) }
     ensures made { IfOk result (λ it. IsTrue it.is_new → IsReady S.Store it.keeper) }
     ensures empty { IfOk result (λ it. IsTrue it.is_new
-        → HasCleanDisk (state S.Store it.keeper.connection) → KeepsLog S.Store it.keeper []) }
+        → HasCleanDisk (state S.Store it.keeper.connection)
+        → KeepsHistory S.Store it.keeper (begun_at nothing)) }
     ensures ready { IfOk result (λ it. IsOurs (state S.Store connection).now
         → IsReady S.Store it.keeper) }
     ensures clean { IfOk result (λ it. doubt (state S.Store connection).is_clean
@@ -53,12 +56,12 @@ pub fn keeper_over<S: Alter + Drop>(
         → (ours : IsOurs (state S.Store connection).now) → readable_in S.Store it.keeper
         ≡ readable_rows (base_found (state S.Store connection).now ours)
         (shown_rows (state S.Store connection))) }
-    ensures found { IfOk result (λ it. (log : _) → it.is_new ≡ false
+    ensures found { IfOk result (λ it. (history : _) → it.is_new ≡ false
         → HasCleanDisk (state S.Store it.keeper.connection)
         → (ours : IsOurs (state S.Store connection).now)
-        → saved_log (base_found (state S.Store connection).now ours)
-        (shown_rows (state S.Store connection)) ≡ Ok log
-        → KeepsLog S.Store it.keeper log) }
+        → saved_history (base_found (state S.Store connection).now ours)
+        (shown_rows (state S.Store connection)) ≡ Ok history
+        → KeepsHistory S.Store it.keeper history) }
     ensures unmade { IfErr result (λ e. connection.schema ≡ no_schema
         → HasCleanDisk (state S.Store e.1)
         → (why : _) × FailsToMake S.Store connection why × (e.0 ≡ making_fault why)) }
@@ -98,7 +101,7 @@ fn made<S: Alter + Drop>(
     ensures clean { IfOk result (λ it. doubt (state S.Store connection).is_clean
         ≤ doubt (state S.Store it.keeper.connection).is_clean) }
     ensures empty { IfOk result (λ it. HasCleanDisk (state S.Store it.keeper.connection)
-        → KeepsLog S.Store it.keeper []) }
+        → KeepsHistory S.Store it.keeper (begun_at nothing)) }
     ensures unmade { IfErr result (λ e. HasCleanDisk (state S.Store e.1)
         → (why : _) × FailsToMake S.Store connection why × (e.0 ≡ making_fault why)) }
     ensures stays { IfErr result (λ e. HasCleanDisk (state S.Store e.1)
@@ -133,12 +136,12 @@ fn found<S: Alter + Drop>(
         → (ours : IsOurs (state S.Store connection).now) → readable_in S.Store it.keeper
         ≡ readable_rows (base_found (state S.Store connection).now ours)
         (shown_rows (state S.Store connection))) }
-    ensures found { IfOk result (λ it. (log : _)
+    ensures found { IfOk result (λ it. (history : _)
         → HasCleanDisk (state S.Store it.keeper.connection)
         → (ours : IsOurs (state S.Store connection).now)
-        → saved_log (base_found (state S.Store connection).now ours)
-        (shown_rows (state S.Store connection)) ≡ Ok log
-        → KeepsLog S.Store it.keeper log) }
+        → saved_history (base_found (state S.Store connection).now ours)
+        (shown_rows (state S.Store connection)) ≡ Ok history
+        → KeepsHistory S.Store it.keeper history) }
     ensures unfound { IfErr result (λ e. HasCleanDisk (state S.Store e.1)
         → FailsToOpen S.Store connection e.0) }
     ensures left { IfErr result (λ e. HasCleanDisk (state S.Store e.1)

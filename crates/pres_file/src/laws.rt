@@ -5,7 +5,7 @@ ghost use Rattle.pres_file.specs.FileOpening.{FindsWhatWasLeft};
 use sqlite_disk::Disk;
 
 /// What can be read of what an opening finds after a crash is one of what the crash may leave to be
-/// read. So what outlasts a crash is found: its batches are the first ones that are read.
+/// read. So what outlasts a crash is found: what is read goes on from it.
 ///
 /// `D` is the disk of the run before, and `E` the disk of the opening.
 pub fn finds_what_a_crash_left<D: Disk, E: Disk>()

@@ -1,4 +1,4 @@
--- More batches of the log that a keeper holds.
+-- More batches of the history that a keeper holds.
 use Rattle.std.proofs.Common.{refl, sym, ◌∙◌, ap, ap₂, subst, ◌≡◌, ◌⊎◌, inl, inr, ℕ, ◌+◌, if◌then◌else◌, List, [], ◌∷◌, ◌++◌, map, length, Result, Ok, Err, IsTrue, arith}
 use Rattle.std.specs.List.{AllByRecursion}
 use Rattle.std.specs.Result.{is_ok, OnOk, OnErr}
@@ -8,28 +8,29 @@ use Rattle.sqlite.specs.Held.{state}
 use Rattle.sqlite.specs.Effect.{Database}
 use Rattle.sqlite.specs.State.{State, HasCleanDisk, Survives}
 use Rattle.sqlite.proofs.StateLemmas.{survives_weaker}
-use Rattle.pres_log.specs.Logs.{Log, number}
+use Rattle.pres_log.specs.Logs.{Log}
 use Rattle.pres_faults.specs.declared.saved_fault.SavedFault.{SavedFault}
 use Rattle.pres_batch_rows.specs.RowContents.{RowContent, stored_from, rows_in, checkpoints_in, shown_row, shown_rows, shown_base}
 use Rattle.pres_batch_rows.specs.TableStates.{TableState, Serves, AddsRows, Holds, IsLeft}
 use Rattle.pres_batch_rows.specs.TableOpening.{last_in}
-use Rattle.pres_keeper.specs.Keepers.{FollowOn, Readable, whole}
-use Rattle.pres_saved.specs.SavedLogs.{saved_log, readable_rows}
+use Rattle.pres_server.specs.Histories.{History, with_batch, with_batches}
+use Rattle.pres_keeper.specs.Keepers.{FollowOn, Readable, number_in, whole}
+use Rattle.pres_saved.specs.SavedHistories.{saved_history, readable_rows}
 use Rattle.pres_saved.specs.Laws.{kept_whole}
+use Rattle.pres_saved.specs.SqlKeepers.{Works, IsReady, KeepsHistory, LeavesHistory, MayFind, IsReadBack, saved_batch}
 use Rattle.pres_saved.proofs.Counted.{last_group}
-use Rattle.pres_saved.specs.SqlKeepers.{Works, IsReady, KeepsLog, LeavesLog, MayFind, IsReadBack, saved_batch}
 use Rattle.pres_saved.proofs.Reading.{SaveNext, kept_group, kept_more, kept_count}
 
--- ---- what is printed of batches that follow the log
+-- ---- what is printed of batches that follow the history
 
-save_next : (log batches : Log) → AllByRecursion IsReadBack batches → FollowOn log batches → SaveNext log (map saved_batch batches) batches
-save_next log [] back follow = tt
-save_next log (b ∷ batches) back follow =
-    (back.0.moment, back.0.text, back.0.read (number log) follow.0 follow.1, save_next (log ++ b ∷ []) batches back.1 follow.2)
+save_next : (history : History) (batches : Log) → AllByRecursion IsReadBack batches → FollowOn history batches → SaveNext history (map saved_batch batches) batches
+save_next history [] back follow = tt
+save_next history (b ∷ batches) back follow =
+    (back.0.moment, back.0.text, back.0.read (number_in history) follow.0 follow.1, save_next (with_batch history b) batches back.1 follow.2)
 
 -- rows with what is printed of them save them
-pub save_all : (log batches : Log) (all : List RowContent) → all ≡ map saved_batch batches → AllByRecursion IsReadBack batches → FollowOn log batches → SaveNext log all batches
-save_all log batches all same back follow = subst (λ rows. SaveNext log rows batches) (sym same) (save_next log batches back follow)
+pub save_all : (history : History) (batches : Log) (all : List RowContent) → all ≡ map saved_batch batches → AllByRecursion IsReadBack batches → FollowOn history batches → SaveNext history all batches
+save_all history batches all same back follow = subst (λ rows. SaveNext history rows batches) (sym same) (save_next history batches back follow)
 
 module _ {S : Type 0} (g : Ghosts S) (old new : TableState S) where
   abbrev before : State
@@ -42,8 +43,8 @@ module _ {S : Type 0} (g : Ghosts S) (old new : TableState S) where
   abbrev last_by : Database → ℕ
   last_by d = last_in (map shown_row (d.trees 3)) (map shown_row (d.trees 2))
 
-  abbrev log_by : Database → Result Log ℕ
-  log_by d = saved_log (map shown_row (d.trees 3)) (map shown_row (d.trees 2))
+  abbrev history_by : Database → Result History ℕ
+  history_by d = saved_history (map shown_row (d.trees 3)) (map shown_row (d.trees 2))
 
   -- ---- a call that leaves the rows
 
@@ -63,8 +64,8 @@ module _ {S : Type 0} (g : Ghosts S) (old new : TableState S) where
       last = λ works. last ∙ ready.last (worked_left works) ∙ ap last_by (sym (same_now works));
     }
 
-    pub kept_left : (log : Log) → Works g new → KeepsLog g old log → KeepsLog g new log
-    kept_left log works keeps = ap log_by (same_now works) ∙ keeps
+    pub kept_left : (history : History) → Works g new → KeepsHistory g old history → KeepsHistory g new history
+    kept_left history works keeps = ap history_by (same_now works) ∙ keeps
 
   -- ---- rows after the last
 
@@ -92,38 +93,38 @@ module _ {S : Type 0} (g : Ghosts S) (old new : TableState S) where
       last = λ works. last_after r refl works (ready.last (worked survives works));
     }
 
-    pub refused : (log : Log) → Works g new → KeepsLog g old log → OnErr r (KeepsLog g new log)
-    refused log works keeps = by r (leaves works.clean)
+    pub refused : (history : History) → Works g new → KeepsHistory g old history → OnErr r (KeepsHistory g new history)
+    refused history works keeps = by r (leaves works.clean)
       where
-        by : (told : Result (Unit {0}) SavedFault) → OnErr told (IsLeft before after) → OnErr told (KeepsLog g new log)
+        by : (told : Result (Unit {0}) SavedFault) → OnErr told (IsLeft before after) → OnErr told (KeepsHistory g new history)
         by (Ok _) h = tt
-        by (Err e) h = ap log_by (h.same works.is_open).now ∙ keeps
+        by (Err e) h = ap history_by (h.same works.is_open).now ∙ keeps
 
-    module _ (log batches : Log) (next : SaveNext log all batches) where
-      count : IsReady g old → Works g old → KeepsLog g old log → old.last ≡ length log
-      count ready works keeps = ready.last works ∙ kept_count (shown_base before) (shown_rows before) log keeps
+    module _ (history : History) (batches : Log) (next : SaveNext history all batches) where
+      count : IsReady g old → Works g old → KeepsHistory g old history → old.last ≡ history.base.batches + length history.log
+      count ready works keeps = ready.last works ∙ kept_count (shown_base before) (shown_rows before) history keeps
 
-      pub committed : {P : Trees → Type 0} → Survives before after P → IsReady g old → Works g new → KeepsLog g old log → OnOk r (KeepsLog g new (log ++ batches))
+      pub committed : {P : Trees → Type 0} → Survives before after P → IsReady g old → Works g new → KeepsHistory g old history → OnOk r (KeepsHistory g new (with_batches history batches))
       committed survives ready works keeps = by r (adds works.clean)
         where
-          by : (told : Result (Unit {0}) SavedFault) → OnOk told (AddsRows before after (old.last + 1) all) → OnOk told (KeepsLog g new (log ++ batches))
-          by (Ok _) h = kept_more before after old.last log all batches next h keeps (count ready (worked survives works) keeps)
+          by : (told : Result (Unit {0}) SavedFault) → OnOk told (AddsRows before after (old.last + 1) all) → OnOk told (KeepsHistory g new (with_batches history batches))
+          by (Ok _) h = kept_more before after old.last history all batches next h keeps (count ready (worked survives works) keeps)
           by (Err e) h = tt
 
-      -- the rows of a database that has them all save the log with the batches
-      kept_after : IsReady g old → Works g old → KeepsLog g old log → saved_log (shown_base before) (map shown_row (rows_in before ++ stored_from (old.last + 1) all)) ≡ Ok (log ++ batches)
-      kept_after ready works keeps = kept_group (shown_base before) (rows_in before) old.last log all batches next keeps (count ready works keeps)
+      -- the rows of a database that has them all save the history with the batches
+      kept_after : IsReady g old → Works g old → KeepsHistory g old history → saved_history (shown_base before) (map shown_row (rows_in before ++ stored_from (old.last + 1) all)) ≡ Ok (with_batches history batches)
+      kept_after ready works keeps = kept_group (shown_base before) (rows_in before) old.last history all batches next keeps (count ready works keeps)
 
-      pub crashed : IsReady g old → KeepsLog g old log → Survives before after (Holds before (checkpoints_in before) (rows_in before ++ stored_from (old.last + 1) all))
-          → LeavesLog g old log batches new
+      pub crashed : IsReady g old → KeepsHistory g old history → Survives before after (Holds before (checkpoints_in before) (rows_in before ++ stored_from (old.last + 1) all))
+          → LeavesHistory g old (with_batches history batches) new
       crashed ready keeps survives =
           survives_weaker before after _ _
-          (λ clean db holds works. ap₂ (λ base rows. saved_log (map shown_row base) (map shown_row rows)) holds.2 holds.1 ∙ kept_after ready works keeps)
+          (λ clean db holds works. ap₂ (λ base rows. saved_history (map shown_row base) (map shown_row rows)) holds.2 holds.1 ∙ kept_after ready works keeps)
           survives
 
-      -- what an opening finds after a crash: what it could find before, or the log with the batches
-      pub found : IsReady g old → (Works g old → KeepsLog g old log) → Survives before after (Holds before (checkpoints_in before) (rows_in before ++ stored_from (old.last + 1) all))
-          → (held : Readable) → MayFind g new held → MayFind g old held ⊎ (held ≡ whole (log ++ batches))
+      -- what an opening finds after a crash: what it could find before, or the history with the batches
+      pub found : IsReady g old → (Works g old → KeepsHistory g old history) → Survives before after (Holds before (checkpoints_in before) (rows_in before ++ stored_from (old.last + 1) all))
+          → (held : Readable) → MayFind g new held → MayFind g old held ⊎ (held ≡ whole (with_batches history batches))
       found ready keeps survives held finds =
           let now = finds.clean in
           let was : HasCleanDisk before = omega (arith, survives.clean, now) in
@@ -132,5 +133,5 @@ module _ {S : Type 0} (g : Ghosts S) (old new : TableState S) where
             | inr more ↦
                 let works : Works g old = record { clean = was; is_open = more.0 } in
                 inr (finds.read ∙ ap₂ (λ base rows. readable_rows (map shown_row base) (map shown_row rows)) more.2 more.1
-                ∙ kept_whole (shown_base before) _ (log ++ batches) (kept_after ready works (keeps works)))
+                ∙ kept_whole (shown_base before) _ (with_batches history batches) (kept_after ready works (keeps works)))
           ]

@@ -1,4 +1,4 @@
--- Rows that are numbered 1, 2, ..: the greatest number is how many they are.
+-- Rows that are numbered one after another: the greatest number is how many they are, with those before them.
 use Rattle.std.proofs.Common.{◌≡◌, ◌==◌, ◌&&◌, Bool, true, false, ℕ, ◌+◌, max, nat_le, if◌then◌else◌, List, [], ◌∷◌, ◌++◌, length, Option, Some, None, Result, Ok, Err, refl, sym, ap, ◌∙◌, map, append-nil, arith}
 use Rattle.std.proofs.lemmas.List.{append_assoc}
 use Rattle.std.proofs.lemmas.Bool.Decides.{nat_tests}
@@ -38,8 +38,14 @@ greatest_from before (row ∷ rows) saved e =
     let many = ap length parts.4 in
     omega (arith, later, first, many)
 
-pub greatest_is : (rows : List Row) (saved : List RowContent) → saved_rows 0 rows ≡ Ok saved → greatest_in rows ≡ length saved
-greatest_is rows saved e = let it = greatest_from 0 rows saved e in omega (arith, it)
+-- the number of the last row, where the checkpoint has the number before the first
+pub last_read : (behind : ℕ) (base rows : List Row) (saved : List RowContent) → greatest_in base ≡ behind → saved_rows behind rows ≡ Ok saved → last_in base rows ≡ behind + length saved
+last_read behind base [] saved top e = let none : saved ≡ [] = cc in let many = ap length none in omega (arith, top, many)
+last_read behind base (row ∷ rows) saved top e =
+    let parts = then_ok (behind + 1) (saved_row (behind + 1) row) (saved_from (behind + 1 + 1) rows) saved e in
+    let most = greatest_from behind (row ∷ rows) saved e in
+    let many = ap length parts.4 in
+    omega (arith, most, many)
 
 -- the number that was due at the first row that saves nothing
 due_then : (due k : ℕ) (o : Option RowContent) (more : Result (List RowContent) ℕ) (front : List RowContent) → ((j : ℕ) → more ≡ Err j → j ≡ due + 1 + length front) → rows_then due o more ≡ Err k → k ≡ due + length (front_then o front)
@@ -51,15 +57,10 @@ due_from : (due : ℕ) (rows : List Row) (k : ℕ) → saved_from due rows ≡ E
 due_from due [] k e = absurd (cc)
 due_from due (row ∷ rows) k e = due_then due k (saved_row due row) (saved_from (due + 1) rows) (front_from (due + 1) rows) (due_from (due + 1) rows) e
 
-pub due_is : (rows : List Row) (k : ℕ) → saved_rows 0 rows ≡ Err k → k ≡ length (saved_front 0 rows) + 1
-due_is rows k e = let it = due_from 1 rows k e in omega (arith, it)
+pub due_is : (behind : ℕ) (rows : List Row) (k : ℕ) → saved_rows behind rows ≡ Err k → k ≡ behind + length (saved_front behind rows) + 1
+due_is behind rows k e = let it = due_from (behind + 1) rows k e in omega (arith, it)
 
--- ---- the number of the last row
-
--- without a checkpoint
-pub last_alone : (rows : List Row) → last_in [] rows ≡ greatest_in rows
-last_alone [] = refl
-last_alone (row ∷ rows) = refl
+-- ---- the number of the last row, with more
 
 -- with a row more, numbered one after it
 pub last_push : (base rows : List Row) (row : Row) (n : ℕ) → n ≡ last_in base rows → unwrap_or (whole_of (column row 0)) 0 ≡ n + 1 → last_in base (rows ++ row ∷ []) ≡ n + 1

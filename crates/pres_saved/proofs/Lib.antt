@@ -1,10 +1,15 @@
+pub mod Based
 pub mod Basing
+pub mod Checkpointing
 pub mod Committing
 pub mod Counted
+pub mod OneNull
 pub mod Opening
 pub mod Outlasting
 pub mod Printed
 pub mod Reading
 pub mod Refused
 pub mod Remade
+pub mod Serving
 pub mod Watching
+pub mod Written

@@ -5,7 +5,7 @@ use Rattle.sqlite.specs.State.{State}
 use Rattle.pres_batch_rows.specs.RowContents.{row_of_format, shown_row, shown_rows, shown_base}
 use Rattle.pres_batch_rows.specs.TableStates.{IsOfFormatOne, IsOfFormatTwo, IsOurs}
 use Rattle.pres_batch_rows.specs.TableOpening.{IsKept}
-use Rattle.pres_saved.specs.SavedLogs.{base_found}
+use Rattle.pres_saved.specs.SavedHistories.{base_found}
 
 -- no database is of both formats
 never_both : (s : State) → IsOfFormatOne s.now → IsOfFormatTwo s.now → ⊥

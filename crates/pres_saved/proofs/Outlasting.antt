@@ -1,6 +1,6 @@
--- Rows that come first in whatever a crash leaves, and what can be read of them.
-use Rattle.std.proofs.Common.{◌≡◌, inl, inr, ℕ, ◌+◌, List, [], ◌∷◌, ◌++◌, refl, length, map, append-nil, Result, Ok, Err, sym, ap, ◌∙◌, arith}
-use Rattle.std.proofs.lemmas.List.{map-append}
+-- What can be read of whatever a crash leaves goes on from a history.
+use Rattle.std.proofs.Common.{◌≡◌, inl, inr, ℕ, ◌+◌, List, [], ◌∷◌, ◌++◌, refl, map, Option, Some, None, Result, Ok, Err, sym, ap, ap₂, subst, ◌∙◌, arith}
+use Rattle.std.proofs.lemmas.List.{append_assoc, map-append}
 use Rattle.std.specs.Result.{OnOk}
 use Rattle.sqlite.specs.Order.{Row}
 use Rattle.sqlite.specs.Tree.{Trees}
@@ -9,35 +9,54 @@ use Rattle.sqlite.specs.Held.{state}
 use Rattle.sqlite.specs.State.{State, HasCleanDisk, Survives}
 use Rattle.pres_log.specs.Logs.{Log}
 use Rattle.pres_faults.specs.declared.saved_fault.SavedFault.{SavedFault}
-use Rattle.pres_batch_rows.specs.RowContents.{RowContent, saved_front, front_from, rows_in, checkpoints_in, shown_row, shown_base}
-use Rattle.pres_batch_rows.specs.TableStates.{TableState, AddsRows, Lasts, Outlasts}
-use Rattle.pres_batch_rows.proofs.Loading.{front_all, front_append}
+use Rattle.pres_batch_rows.specs.RowContents.{RowContent, saved_front, saved_row, front_from, front_then, rows_in, checkpoints_in, shown_row, shown_rows, shown_base, stored_from}
+use Rattle.pres_batch_rows.specs.TableStates.{TableState, IsSaved, Lasts, MayStay, Holds}
+use Rattle.pres_server.specs.Sums.{Sum}
+use Rattle.pres_server.specs.Histories.{History}
 use Rattle.pres_keeper.specs.Keepers.{Readable, BeginsWith}
-use Rattle.pres_saved.specs.SqlKeepers.{Works, KeepsLog, MayFind, ComeFirst, OutlastsLog}
-use Rattle.pres_saved.specs.SavedLogs.{log_after, log_front, rows_log, rows_readable, saved_log, readable_rows}
-use Rattle.pres_saved.proofs.Reading.{read_of, no_err}
-use Rattle.pres_saved.proofs.Remade.{then_front, front_grows, read_batches}
+use Rattle.pres_keeper.proofs.Begins.{begins_itself}
+use Rattle.pres_saved.specs.Laws.{kept_whole}
+use Rattle.pres_saved.specs.SqlKeepers.{Works, KeepsHistory, MayFind, OutlastsHistory}
+use Rattle.pres_saved.specs.SavedHistories.{log_front, saved_sum, readable_from, readable_rows}
+use Rattle.pres_saved.proofs.Remade.{front_more, read_batches, read_base}
 
--- what can be read of rows that save a log, and of more after them, begins with the log
-rows_begin : (rows more : List Row) (log : Log) → rows_log (map shown_row rows) ≡ Ok log → BeginsWith log (rows_readable (map shown_row (rows ++ more)))
-rows_begin rows more log e =
-    let shown = map shown_row rows in
-    let was = read_of shown log e in
-    let made = ap (log_after []) (sym (front_all 1 shown was.rows was.all)) ∙ was.made in
-    let rest = front_from (1 + length shown) (map shown_row more) in
-    let grown = front_grows rest log in (
-      grown.0,
-      read_batches (map shown_row (rows ++ more))
-          ∙ ap (λ all. log_front [] (saved_front 0 all)) (map-append shown_row rows more)
-          ∙ ap (log_front []) (front_append 1 shown (map shown_row more) was.rows was.all)
-          ∙ then_front was.rows rest [] log made
-          ∙ grown.1,
-    )
+-- ---- more rows
 
--- the same where there may be a checkpoint
-pub begins : (base rows more : List Row) (log : Log) → saved_log base (map shown_row rows) ≡ Ok log → BeginsWith log (readable_rows base (map shown_row (rows ++ more)))
-begins [] rows more log e = rows_begin rows more log e
-begins (row ∷ others) rows more log e = absurd (no_err 0 log (Err 0) refl e)
+saved_more_by : (o : Option RowContent) (all first : List RowContent) → ((later : List RowContent) × (all ≡ first ++ later)) → (later : List RowContent) × (front_then o all ≡ front_then o first ++ later)
+saved_more_by None all first more = ([], refl)
+saved_more_by (Some s) all first more = (more.0, ap (λ l. s ∷ l) more.1)
+
+-- those before the first that saves nothing go on
+saved_more : (due : ℕ) (given rest : List Row) → (later : List RowContent) × (front_from due (given ++ rest) ≡ front_from due given ++ later)
+saved_more due [] rest = (front_from due rest, refl)
+saved_more due (row ∷ given) rest = saved_more_by (saved_row due row) (front_from (due + 1) (given ++ rest)) (front_from (due + 1) given) (saved_more (due + 1) given rest)
+
+-- what can be read is the same, and more batches
+record Grows (old new : Readable) : Type 0 where
+  later : Log
+  base : new.base ≡ old.base
+  batches : new.batches ≡ old.batches ++ later
+
+grows : (o : Option Sum) (shown more : List Row) → Grows (readable_from o shown) (readable_from o (shown ++ more))
+grows None shown more = record { later = []; base = refl; batches = refl }
+grows (Some base) shown more =
+    let saved = saved_more (base.batches + 1) shown more in
+    let made = front_more base (saved_front base.batches shown) saved.0 [] in
+    record {
+      later = made.0;
+      base = read_base base (shown ++ more) ∙ sym (read_base base shown);
+      batches = read_batches base (shown ++ more) ∙ ap (log_front base []) saved.1 ∙ made.1 ∙ ap (λ l. l ++ made.0) (sym (read_batches base shown));
+    }
+
+begins_grown : (history : History) (old new : Readable) → Grows old new → BeginsWith history old → BeginsWith history new
+begins_grown history old new more (inl h) =
+    inl (record { more = h.more ++ more.later; base = more.base ∙ h.base; batches = more.batches ∙ ap (λ l. l ++ more.later) h.batches ∙ append_assoc history.log h.more more.later })
+begins_grown history old new more (inr h) = inr (record { more = h.more; sum = h.sum; base = more.base ∙ h.base; leads = h.leads })
+
+begins_with_more : (history : History) (base rows more : List Row) → BeginsWith history (readable_rows base (map shown_row rows)) → BeginsWith history (readable_rows base (map shown_row (rows ++ more)))
+begins_with_more history base rows more begins =
+    subst (λ shown. BeginsWith history (readable_rows base shown)) (sym (map-append shown_row rows more))
+    (begins_grown history (readable_rows base (map shown_row rows)) (readable_rows base (map shown_row rows ++ map shown_row more)) (grows (saved_sum base) (map shown_row rows) (map shown_row more)) begins)
 
 module _ {S : Type 0} (g : Ghosts S) (old new : TableState S) where
   abbrev before : State
@@ -45,6 +64,10 @@ module _ {S : Type 0} (g : Ghosts S) (old new : TableState S) where
 
   abbrev after : State
   after = state g new.connection
+
+  -- by what a crash leaves
+  abbrev read_by : Trees → Readable
+  read_by db = readable_rows (map shown_row (db 3)) (map shown_row (db 2))
 
   -- ---- a call that commits nothing
 
@@ -57,35 +80,32 @@ module _ {S : Type 0} (g : Ghosts S) (old new : TableState S) where
       read = finds.read;
     }
 
-    pub outlasts_read : (log : Log) → OutlastsLog g old log → OutlastsLog g new log
-    outlasts_read log lasts clean =
-        let come = lasts (omega (arith, survives.clean, clean)) in
-        record {
-          base = come.base;
-          rows = come.rows;
-          read = come.read;
-          first = λ db may. elim (survives.crash clean db may) [ inl it ↦ come.first db it | inr none ↦ absurd none ];
-        }
+    pub outlasts_read : (history : History) → OutlastsHistory g old history → OutlastsHistory g new history
+    outlasts_read history lasts clean left may =
+        let early : HasCleanDisk before = omega (arith, survives.clean, clean) in
+        elim (survives.crash clean left may) [ inl it ↦ lasts early left it | inr none ↦ absurd none ]
 
   -- ---- rows that are committed
 
-  module _ {P : Trees → Type 0} (survives : Survives before after P) where
-    pub outlasts_more : (HasCleanDisk after → (base rows : List Row) → Outlasts base rows before → Outlasts base rows after) → (log : Log) → OutlastsLog g old log → OutlastsLog g new log
-    outlasts_more stay log lasts clean =
-        let come = lasts (omega (arith, survives.clean, clean)) in
-        record { base = come.base; rows = come.rows; read = come.read; first = stay clean come.base come.rows come.first }
+  pub outlasts_more : (k : ℕ) (all : List RowContent) → Survives before after (Holds before (checkpoints_in before) (rows_in before ++ stored_from k all)) → (HasCleanDisk after → MayStay before) → (history : History) → OutlastsHistory g old history
+      → OutlastsHistory g new history
+  outlasts_more k all survives stays history lasts clean left may =
+      let early : HasCleanDisk before = omega (arith, survives.clean, clean) in
+      elim (survives.crash clean left may) [
+        | inl it ↦ lasts early left it
+        | inr more ↦
+            subst (BeginsWith history) (sym (ap₂ (λ base rows. readable_rows (map shown_row base) (map shown_row rows)) more.2 more.1))
+            (begins_with_more history (shown_base before) (rows_in before) (stored_from k all) (lasts early before.now.trees (stays clean more.0)))
+      ]
 
-  -- all that is shown comes first where a crash leaves just that
-  all_lasts : (log : Log) → KeepsLog g new log → Lasts after → ComeFirst after log
-  all_lasts log keeps lasts = record {
-    base = checkpoints_in after;
-    rows = rows_in after;
-    read = λ more. begins (shown_base after) (rows_in after) more log keeps;
-    first = λ db may. ([], ap (λ (t : Trees). t 2) (lasts db may) ∙ sym (append-nil (rows_in after)), ap (λ (t : Trees). t 3) (lasts db may));
-  }
+  -- ---- what lasts
 
-  pub lasts_committed : (k : ℕ) (all : List RowContent) (r : Result (Unit {0}) SavedFault) (log : Log)
-      → (HasCleanDisk after → OnOk r (AddsRows before after k all)) → (HasCleanDisk after → OnOk r (Lasts after)) → (Works g new → OnOk r (KeepsLog g new log))
-      → OnOk r (OutlastsLog g new log)
-  lasts_committed k all (Ok _) log adds lasts keeps = λ clean. all_lasts log (keeps (record { clean = clean; is_open = (adds clean).is_open })) (lasts clean)
-  lasts_committed k all (Err e) log adds lasts keeps = tt
+  -- where a crash leaves just what is shown
+  all_lasts : (history : History) → KeepsHistory g new history → Lasts after → (left : Trees) → after.may_leave left → BeginsWith history (read_by left)
+  all_lasts history keeps lasts left may =
+      subst (BeginsWith history) (sym (ap read_by (lasts left may) ∙ kept_whole (shown_base after) (shown_rows after) history keeps)) (begins_itself history)
+
+  pub lasts_committed : (base rows : List Row) (r : Result (Unit {0}) SavedFault) (history : History) → (HasCleanDisk after → OnOk r (IsSaved before after base rows)) → (HasCleanDisk after → OnOk r (Lasts after))
+      → (Works g new → OnOk r (KeepsHistory g new history)) → OnOk r (OutlastsHistory g new history)
+  lasts_committed base rows (Ok _) history saved lasts keeps = λ clean. all_lasts history (keeps (record { clean = clean; is_open = (saved clean).is_open })) (lasts clean)
+  lasts_committed base rows (Err e) history saved lasts keeps = tt

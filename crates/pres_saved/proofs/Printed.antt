@@ -17,7 +17,7 @@ use Rattle.pres_batch_json.specs.Reads.{entries_in, with_one_null}
 use Rattle.pres_batch_rows.specs.declared.row.SavedRow.{SavedRow}
 use Rattle.pres_batch_rows.specs.RowContents.{RowContent, saved_of}
 use Rattle.pres_batch_rows.proofs.Growing.{map_push}
-use Rattle.pres_saved.specs.SavedLogs.{batch_of}
+use Rattle.pres_saved.specs.SavedHistories.{batch_of}
 use Rattle.pres_saved.specs.SqlKeepers.{IsReadBack, saved_batch}
 
 pub saves : (b : Batch) (s : RowContent) → s.moment ≡ b.moment → s.body ≡ compact_text (entries_json b.entries) → s ≡ saved_batch b

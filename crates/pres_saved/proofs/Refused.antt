@@ -1,32 +1,63 @@
 -- Why rows are refused, by what going over them came to.
-use Rattle.std.proofs.Common.{refl, sym, ◌∙◌, ap, subst, ◌≡◌, inl, inr, ℕ, ◌+◌, List, [], ◌∷◌, ◌++◌, length, Option, Result, Ok, Err, Some, None, arith}
+use Rattle.std.proofs.Common.{refl, sym, ◌∙◌, ap, subst, ◌≡◌, ◌⊎◌, inl, inr, ℕ, ◌+◌, List, [], ◌∷◌, ◌++◌, length, Option, Ok, Err, Some, None, arith}
 use Rattle.std.proofs.lemmas.List.{append_assoc}
-use Rattle.std.specs.Result.{IfOk, result_unwrap_or}
+use Rattle.std.specs.Option.{option_and_then}
 use Rattle.sqlite.specs.Order.{Row}
 use Rattle.pres_log.specs.declared.entry.Batch.{Batch}
 use Rattle.pres_log.specs.Logs.{Log, number}
 use Rattle.pres_faults.specs.declared.saved_fault.SavedFault.{SavedFault}
-use Rattle.pres_faults.specs.declared.saved_fault.SavedFault.TheVariants.{BadRow}
+use Rattle.pres_faults.specs.declared.saved_fault.SavedFault.TheVariants.{Memory, Database, NotOurs, BadRow, Version}
 use Rattle.pres_batch_rows.specs.RowContents.{RowContent, saved_rows, saved_front}
+use Rattle.pres_batch_rows.specs.SavedCheckpoints.{Base, saved_base}
 use Rattle.pres_batch_rows.specs.RowIteration.{TakesAll, TakesRows, GoesOver, MeetsBadRow, IsRefused}
 use Rattle.pres_batch_rows.proofs.Loading.{front_all}
-use Rattle.pres_server.specs.Sums.{Sum, nothing, sum_from}
-use Rattle.pres_server.specs.SumStates.{SumState}
+use Rattle.pres_server.specs.Sums.{Sum, sum_from}
 use Rattle.pres_server.specs.SumTurns.{FollowsSum, FollowAll}
-use Rattle.pres_keeper.specs.Keepers.{Readable, IsOfStore, IsFirstUnread, IsFirstBad, IsUnread, IsNoServer, MakesSum, SomeLog}
-use Rattle.pres_keeper.proofs.Nulls.{number_made, batches_made}
-use Rattle.pres_saved.specs.SavedLogs.{batch_in, log_after, front_by, log_front, rows_log, readable_by, rows_readable}
-use Rattle.pres_saved.specs.RowReplay.{Extends, HasNoRoom, IsNotTaken, Follows, MayNotFollow, IsNoFollower}
+use Rattle.pres_server.specs.Histories.{IsSum, History, LeadsTo}
+use Rattle.pres_keeper.specs.Keepers.{Readable, IsOfStore, IsNoBase, IsFirstUnread, IsUnreadAfter, IsFirstBad, IsBadAfter, IsUnread, IsNoServer, KeepsOneNull, SomeHistory}
+use Rattle.pres_keeper.proofs.Nulls.{number_made, batches_made, nulls_from}
+use Rattle.pres_saved.specs.SavedHistories.{sum_by, saved_sum, batch_in, log_after, front_by, log_front, rows_log, readable_by, rows_readable, readable_from, readable_rows}
+use Rattle.pres_saved.specs.RowReplay.{Since, Extends, HasNoRoom, IsNotTaken, Follows, MayNotFollow, IsNoFollower}
 use Rattle.pres_saved.proofs.Counted.{due_is}
-use Rattle.pres_saved.proofs.Reading.{taken_log, log_of_read, stopped_log, log_unread, log_stopped, length_after}
-use Rattle.pres_saved.proofs.Remade.{made_by, then_front, front_is, front_stops, front_grows, read_batches}
+use Rattle.pres_saved.proofs.Reading.{Taken, taken_log, log_of_read, stopped_log, log_unread, log_stopped, length_after}
+use Rattle.pres_saved.proofs.Remade.{made_by, then_front, front_is, front_stops, front_grows, read_batches, read_base}
+
+-- ---- of a checkpoint
+
+of_base : (held : Readable) (e : SavedFault) → IsOfStore e → IsNoBase held e
+of_base held e (inl is) = subst (IsNoBase held) (sym is) (inl refl)
+of_base held e (inr is) = subst (IsNoBase held) (sym is) (inr refl)
+
+-- there is no sum
+unbased : (base shown : List Row) (e : SavedFault) → e ≡ BadRow 0 → saved_sum base ≡ None → IsNoBase (readable_rows base shown) e
+unbased base shown e is none = subst (IsNoBase (readable_rows base shown)) (sym is) (ap (λ o. (readable_from o shown).base) none, refl)
+
+-- a bad row, or more than one
+pub row_unbased : (base shown : List Row) (e : SavedFault) → ((e ≡ BadRow 0) × (saved_base base ≡ None)) ⊎ ((e ≡ Memory) ⊎ (e ≡ Database)) → IsNoBase (readable_rows base shown) e
+row_unbased base shown e (inl bad) = unbased base shown e bad.0 (ap (option_and_then sum_by) bad.1)
+row_unbased base shown e (inr store) = of_base (readable_rows base shown) e store
+
+-- a body that is that of no base
+pub body_unbased : (base shown : List Row) (saved : Base) (e : SavedFault) → saved_base base ≡ Some (Some saved) → (e ≡ Memory) ⊎ ((e ≡ BadRow 0) × (sum_by (Some saved) ≡ None)) → IsNoBase (readable_rows base shown) e
+body_unbased base shown saved e there (inl is) = of_base (readable_rows base shown) e (inl is)
+body_unbased base shown saved e there (inr bad) = unbased base shown e bad.0 (ap (option_and_then sum_by) there ∙ bad.1)
+
+-- nor is anything read behind it
+pub base_unread : (held : Readable) (e : SavedFault) → IsNoBase held e → IsUnread held e
+base_unread held (BadRow k) bad = subst (λ (o : Option Sum). IsUnreadAfter o held k) (sym bad.0) bad.1
+base_unread held Memory refused = refused
+base_unread held Database refused = refused
+base_unread held NotOurs refused = refused
+base_unread held Version refused = refused
+
+pub base_unserved : (held : Readable) (e : SavedFault) → IsNoBase held e → IsNoServer held e
+base_unserved held (BadRow k) bad = subst (λ (o : Option Sum). IsBadAfter o held k) (sym bad.0) bad.1
+base_unserved held Memory refused = refused
+base_unserved held Database refused = refused
+base_unserved held NotOurs refused = refused
+base_unserved held Version refused = refused
 
 -- ---- of rows that are read
-
--- the first row that is no batch, where these come before it
-first_unread : (shown : List Row) (mid : Log) (k : ℕ) → rows_log shown ≡ Err k → log_front [] (saved_front 0 shown) ≡ mid → k ≡ length mid + 1 → IsFirstUnread (rows_readable shown) k
-first_unread shown mid k stopped front due =
-    subst (λ r. IsFirstUnread (readable_by (log_front [] (saved_front 0 shown)) r) k) (sym stopped) (refl, due ∙ ap (λ l. length l + 1) (sym front))
 
 of_store : (before : ℕ) (e : SavedFault) → HasNoRoom before e → IsOfStore e
 of_store before e (inl is) = inl is
@@ -36,49 +67,64 @@ pub store_unread : (held : Readable) (e : SavedFault) → IsOfStore e → IsUnre
 store_unread held e (inl is) = subst (IsUnread held) (sym is) (inl refl)
 store_unread held e (inr is) = subst (IsUnread held) (sym is) (inr refl)
 
--- a row that isn't read, after rows that made the log
-row_unread : (shown : List Row) (log : Log) (k : ℕ) → saved_rows 0 shown ≡ Err k → log_after [] (saved_front 0 shown) ≡ Ok log → IsFirstUnread (rows_readable shown) k
-row_unread shown log k bad made =
-    let count = length_after (saved_front 0 shown) [] log made in
-    let due = due_is shown k bad in
-    first_unread shown log k (log_unread shown log k bad made) (front_is (saved_front 0 shown) [] log made) (omega (arith, due, count))
+abbrev pub Stays : Since → RowContent → SavedFault → Since → Type 0
+Stays before row e after = IsNotTaken before row e
 
--- a row whose text is that of no batch
-text_unread : (shown : List Row) (given rest : List RowContent) (row : RowContent) (mid : Log) → saved_front 0 shown ≡ given ++ row ∷ rest → log_after [] given ≡ Ok mid → batch_in (number mid) row ≡ None
-    → IsFirstUnread (rows_readable shown) (length mid + 1)
-text_unread shown given rest row mid parts made none =
-    first_unread shown mid (length mid + 1)
-    (log_stopped shown (length mid + 1) (ap (log_after []) parts ∙ stopped_log given rest row [] mid made none))
-    (ap (log_front []) parts ∙ then_front given (row ∷ rest) [] mid made ∙ front_stops mid row rest none) refl
+module _ (base : Sum) (shown : List Row) where
+  abbrev front : List RowContent
+  front = saved_front base.batches shown
 
-module _ {T : Type 0} (log_of : T → Log) where
-  abbrev pub Adds : T → RowContent → T → Type 0
-  Adds before row after = Extends (log_of before) row (log_of after)
+  -- the first row that is no batch, where these come before it
+  first_unread : (mid : Log) (k : ℕ) → rows_log base shown ≡ Err k → log_front base [] front ≡ mid → k ≡ base.batches + length mid + 1 → IsFirstUnread (rows_readable base shown) k
+  first_unread mid k stopped is due =
+      subst (λ r. IsFirstUnread (readable_by base (log_front base [] front) r) k) (sym stopped) (refl, due ∙ ap (λ (l : Log). base.batches + length l + 1) (sym is))
 
-  abbrev pub Leaves : T → RowContent → SavedFault → T → Type 0
-  Leaves before row e after = IsNotTaken (log_of before) row e
+  -- a row that isn't read, after rows that made the batches
+  row_unread : (log : Log) (k : ℕ) → saved_rows base.batches shown ≡ Err k → log_after base [] front ≡ Ok log → IsFirstUnread (rows_readable base shown) k
+  row_unread log k bad made =
+      let count = length_after base front [] log made in
+      let due = due_is base.batches shown k bad in
+      first_unread log k (log_unread base shown log k bad made) (front_is base front [] log made) (omega (arith, due, count))
 
-  made_of : (front : List RowContent) (old new : T) → log_of old ≡ [] → TakesAll Adds front old new → log_after [] front ≡ Ok (log_of new)
-  made_of front old new none taken = ap (λ log. log_after log front) (sym none) ∙ taken_log log_of front old new taken
+  -- a row whose text is that of no batch
+  text_unread : (given rest : List RowContent) (row : RowContent) (mid : Log) → front ≡ given ++ row ∷ rest → log_after base [] given ≡ Ok mid → batch_in (base.number + number mid) row ≡ None
+      → IsFirstUnread (rows_readable base shown) (base.batches + length mid + 1)
+  text_unread given rest row mid parts made none =
+      first_unread mid (base.batches + length mid + 1)
+      (log_stopped base shown (base.batches + length mid + 1) (ap (log_after base []) parts ∙ stopped_log base given rest row [] mid made none))
+      (ap (log_front base []) parts ∙ then_front base given (row ∷ rest) [] mid made ∙ front_stops base mid row rest none) refl
 
-  pub all_read : (shown : List Row) (old new : T) → log_of old ≡ [] → GoesOver Adds Leaves 0 shown old new (Ok tt) → rows_log shown ≡ Ok (log_of new)
-  all_read shown old new none (read, taken) = log_of_read shown (saved_front 0 shown) (log_of new) read (made_of (saved_front 0 shown) old new none taken)
+  -- none so far
+  abbrev pub begun : Since
+  begun = record { behind = base.batches; number = base.number; log = [] }
 
-  bad_unread : (shown : List Row) (old new : T) (e : SavedFault) → log_of old ≡ [] → MeetsBadRow Adds Leaves 0 shown old new e → IsUnread (rows_readable shown) e
-  bad_unread shown old new e none bad =
-      subst (IsUnread (rows_readable shown)) (sym bad.why) (row_unread shown (log_of new) bad.k bad.bad (made_of (saved_front 0 shown) old new none bad.taken))
+  made_of : (given : List RowContent) (old new : Since) → old ≡ begun → TakesAll Extends given old new → Taken base given begun new
+  made_of given old new is t =
+      let none : base.number ≡ base.number + 0 = omega arith in
+      taken_log base given begun new (record { behind = refl; number = none }) (subst (λ (s : Since). TakesAll Extends given s new) is t)
 
-  refused_unread : (shown : List Row) (old new : T) (e : SavedFault) → log_of old ≡ [] → IsRefused Adds Leaves (saved_front 0 shown) old new e → IsUnread (rows_readable shown) e
-  refused_unread shown old new e none it = elim it.refused [
-    | inl nothing ↦ subst (IsUnread (rows_readable shown)) (sym nothing.why)
-        (text_unread shown it.given it.rest it.row (log_of it.mid) it.parts (made_of it.given old it.mid none it.taken) nothing.unread)
-    | inr room ↦ store_unread (rows_readable shown) e (of_store (length (log_of it.mid)) e room)
-  ]
+  pub all_read : (old new : Since) → old ≡ begun → GoesOver Extends Stays base.batches shown old new (Ok tt) → rows_log base shown ≡ Ok new.log
+  all_read old new is (read, taken) = log_of_read base shown front new.log read (made_of front old new is taken).made
 
-  pub unread : (shown : List Row) (old new : T) (e : SavedFault) → log_of old ≡ [] → GoesOver Adds Leaves 0 shown old new (Err e) → IsUnread (rows_readable shown) e
-  unread shown old new e none (inl bad) = bad_unread shown old new e none bad
-  unread shown old new e none (inr (inl it)) = refused_unread shown old new e none it
-  unread shown old new e none (inr (inr early)) = store_unread (rows_readable shown) e early.why
+  bad_unread : (old new : Since) (e : SavedFault) → old ≡ begun → MeetsBadRow Extends Stays base.batches shown old new e → IsUnread (rows_readable base shown) e
+  bad_unread old new e is bad =
+      subst (IsUnread (rows_readable base shown)) (sym bad.why) (row_unread new.log bad.k bad.bad (made_of front old new is bad.taken).made)
+
+  refused_unread : (old new : Since) (e : SavedFault) → old ≡ begun → IsRefused Extends Stays front old new e → IsUnread (rows_readable base shown) e
+  refused_unread old new e is it =
+      let made = made_of it.given old it.mid is it.taken in
+      elim it.refused [
+        | inl nothing ↦
+            let why = nothing.why ∙ ap (λ n. BadRow (n + length it.mid.log + 1)) made.counts.behind in
+            subst (IsUnread (rows_readable base shown)) (sym why)
+            (text_unread it.given it.rest it.row it.mid.log it.parts made.made (ap (λ n. batch_in n it.row) (sym made.counts.number) ∙ nothing.unread))
+        | inr room ↦ store_unread (rows_readable base shown) e (of_store (it.mid.behind + length it.mid.log) e room)
+      ]
+
+  pub unread : (old new : Since) (e : SavedFault) → old ≡ begun → GoesOver Extends Stays base.batches shown old new (Err e) → IsUnread (rows_readable base shown) e
+  unread old new e is (inl bad) = bad_unread old new e is bad
+  unread old new e is (inr (inl it)) = refused_unread old new e is it
+  unread old new e is (inr (inr early)) = store_unread (rows_readable base shown) e early.why
 
 -- ---- of rows that make a server
 
@@ -86,70 +132,87 @@ pub store_unserved : (held : Readable) (e : SavedFault) → IsOfStore e → IsNo
 store_unserved held e (inl is) = subst (IsNoServer held) (sym is) (inl refl)
 store_unserved held e (inr is) = subst (IsNoServer held) (sym is) (inr refl)
 
--- the batches before a row that is none follow one another
-legal_front : (shown : List Row) (mid : Log) → log_front [] (saved_front 0 shown) ≡ mid → FollowAll nothing mid → FollowAll nothing (rows_readable shown).batches
-legal_front shown mid front legal = subst (FollowAll nothing) (sym (read_batches shown ∙ front)) legal
+-- and where the same can be read
+pub unserved_also : (one other : Readable) (e : SavedFault) → one ≡ other → IsNoServer one e → IsNoServer other e
+unserved_also one other e same refused = subst (λ held. IsNoServer held e) same refused
 
--- a row that may not follow: it saves no batch, or one that may not
-bad_by : (shown : List Row) (given rest : List RowContent) (row : RowContent) (mid : Log) (o : Option Batch) → batch_in (number mid) row ≡ o
-    → saved_front 0 shown ≡ given ++ row ∷ rest → log_after [] given ≡ Ok mid → FollowAll nothing mid
-    → ((b : Batch) → batch_in (number mid) row ≡ Some b → FollowsSum (sum_from nothing mid) b → ⊥)
-    → IsFirstBad (rows_readable shown) (length mid + 1)
-bad_by shown given rest row mid None is parts made legal refused =
-    let front = ap (log_front []) parts ∙ then_front given (row ∷ rest) [] mid made ∙ front_stops mid row rest is in
-    inr (legal_front shown mid front legal, text_unread shown given rest row mid parts made is)
-bad_by shown given rest row mid (Some b) is parts made legal refused =
-    let more = front_grows rest (mid ++ b ∷ []) in
-    inl (record {
-      before = mid;
-      batch = b;
-      later = more.0;
-      parts = read_batches shown ∙ ap (log_front []) parts ∙ then_front given (row ∷ rest) [] mid made
-          ∙ ap (λ o. front_by mid o (λ l. log_front l rest)) is ∙ more.1 ∙ append_assoc mid (b ∷ []) more.0;
-      number = refl;
-      legal = legal;
-      refused = refused b is;
-    })
+abbrev pub Remains : Sum → RowContent → SavedFault → Sum → Type 0
+Remains before row e after = IsNoFollower before row e
 
-abbrev pub Stays : Sum → RowContent → SavedFault → Sum → Type 0
-Stays before row e after = IsNoFollower before row e
+module _ (base : Sum) (shown : List Row) (k : IsSum base) where
+  abbrev rows : List RowContent
+  rows = saved_front base.batches shown
 
--- rows that were all read save the log that they make
-saved_by : (shown : List Row) (rows : List RowContent) (log : Log) → saved_rows 0 shown ≡ Ok rows → log_after [] rows ≡ Ok log → rows_log shown ≡ Ok log
-saved_by shown rows log read made = log_of_read shown rows log read (ap (log_after []) (front_all 1 shown rows read) ∙ made)
+  bad : (n : ℕ) → IsBadAfter (Some base) (rows_readable base shown) n → IsFirstBad (rows_readable base shown) n
+  bad n why = subst (λ (o : Option Sum). IsBadAfter o (rows_readable base shown) n) (sym (read_base base shown)) why
 
-pub all_served : (shown : List Row) (clean serves : Type 0) (old new : Sum) → old ≡ nothing → TakesRows Follows (λ rows. clean → serves → saved_rows 0 shown ≡ Ok rows) old new
-    → SomeLog (λ log. clean → serves → rows_log shown ≡ Ok log) new
-all_served shown clean serves old new none it =
-    let made = made_by it.rows old new none it.taken in
-    record { log = made.log; makes = made.makes; held = λ now idle. saved_by shown it.rows made.log (it.held now idle) made.read }
+  -- the batches before a row that is none follow one another
+  bad_then : (n : ℕ) (mid : Log) → log_front base [] rows ≡ mid → FollowAll base mid → IsFirstUnread (rows_readable base shown) n → IsFirstBad (rows_readable base shown) n
+  bad_then n mid is legal why =
+      bad n (inr (
+        subst (FollowAll base) (sym (read_batches base shown ∙ is)) legal,
+        subst (λ (o : Option Sum). IsUnreadAfter o (rows_readable base shown) n) (read_base base shown) why,
+      ))
 
--- the log that rows save leads to the sum of the server that they make
-pub served_by : {E : Type 0} (saved : Result Log ℕ) (log : Log) (r : Result SumState E) → saved ≡ Ok log → IfOk r (λ s. SomeLog (λ l. saved ≡ Ok l) s.sum) → IfOk r (λ s. MakesSum log s.sum)
-served_by saved log (Ok s) is some = subst (λ l. MakesSum l s.sum) (ap (λ r. result_unwrap_or r log) (sym some.held ∙ is)) some.makes
-served_by saved log (Err e) is some = tt
+  -- a row that may not follow: it saves no batch, or one that may not
+  bad_by : (given rest : List RowContent) (row : RowContent) (mid : Log) (o : Option Batch) → batch_in (base.number + number mid) row ≡ o
+      → rows ≡ given ++ row ∷ rest → log_after base [] given ≡ Ok mid → FollowAll base mid
+      → ((b : Batch) → batch_in (base.number + number mid) row ≡ Some b → FollowsSum (sum_from base mid) b → ⊥)
+      → IsFirstBad (rows_readable base shown) (base.batches + length mid + 1)
+  bad_by given rest row mid None is parts made legal refused =
+      let stops = ap (log_front base []) parts ∙ then_front base given (row ∷ rest) [] mid made ∙ front_stops base mid row rest is in
+      bad_then (base.batches + length mid + 1) mid stops legal (text_unread base shown given rest row mid parts made is)
+  bad_by given rest row mid (Some b) is parts made legal refused =
+      let more = front_grows base rest (mid ++ b ∷ []) in
+      bad (base.batches + length mid + 1) (inl (record {
+        before = mid;
+        batch = b;
+        later = more.0;
+        parts = read_batches base shown ∙ ap (log_front base []) parts ∙ then_front base given (row ∷ rest) [] mid made
+            ∙ ap (λ o. front_by mid o (λ l. log_front base l rest)) is ∙ more.1 ∙ append_assoc mid (b ∷ []) more.0;
+        number = refl;
+        legal = legal;
+        refused = refused b is;
+      }))
 
-bad_unserved : (shown : List Row) (old new : Sum) (e : SavedFault) → old ≡ nothing → MeetsBadRow Follows Stays 0 shown old new e → IsNoServer (rows_readable shown) e
-bad_unserved shown old new e none bad =
-    let it = made_by (saved_front 0 shown) old new none bad.taken in
-    subst (IsNoServer (rows_readable shown)) (sym bad.why)
-    (inr (legal_front shown it.log (front_is (saved_front 0 shown) [] it.log it.read) it.makes.legal, row_unread shown it.log bad.k bad.bad it.read))
+  -- rows that were all read save the batches that they make
+  saved_by : (given : List RowContent) (log : Log) → saved_rows base.batches shown ≡ Ok given → log_after base [] given ≡ Ok log → rows_log base shown ≡ Ok log
+  saved_by given log read made = log_of_read base shown given log read (ap (log_after base []) (front_all (base.batches + 1) shown given read) ∙ made)
 
--- a row that may not follow the sum may not follow a log that leads to it
-not_behind : (mid : Sum) (log : Log) (row : RowContent) (e : SavedFault) → MakesSum log mid → MayNotFollow mid row e → (b : Batch) → batch_in (number log) row ≡ Some b → FollowsSum (sum_from nothing log) b → ⊥
-not_behind mid log row e makes not b read follows =
-    not.refused b (ap (λ n. batch_in n row) (number_made log mid makes) ∙ read) (subst (λ s. FollowsSum s b) makes.there follows)
+  pub all_served : (clean serves : Type 0) (old new : Sum) → old ≡ base → TakesRows Follows (λ given. clean → serves → saved_rows base.batches shown ≡ Ok given) old new
+      → SomeHistory (λ history. (history.base ≡ base) × (clean → serves → rows_log base shown ≡ Ok history.log)) new
+  all_served clean serves old new is it =
+      let made = made_by base it.rows old new k is it.taken in
+      record { history = record { base = base; log = made.log }; leads = made.leads; held = (refl, λ now idle. saved_by it.rows made.log (it.held now idle) made.read) }
 
-refused_unserved : (shown : List Row) (old new : Sum) (e : SavedFault) → old ≡ nothing → IsRefused Follows Stays (saved_front 0 shown) old new e → IsNoServer (rows_readable shown) e
-refused_unserved shown old new e none it =
-    let made = made_by it.given old it.mid none it.taken in
-    elim it.refused [
-      | inl nothing ↦ subst (IsNoServer (rows_readable shown)) (sym (nothing.why ∙ ap (λ n. BadRow (n + 1)) (batches_made made.log it.mid made.makes)))
-          (bad_by shown it.given it.rest it.row made.log _ refl it.parts made.read made.makes.legal (not_behind it.mid made.log it.row e made.makes nothing))
-      | inr room ↦ store_unserved (rows_readable shown) e (of_store it.mid.batches e room)
-    ]
+  bad_unserved : (old new : Sum) (e : SavedFault) → old ≡ base → MeetsBadRow Follows Remains base.batches shown old new e → IsNoServer (rows_readable base shown) e
+  bad_unserved old new e is met =
+      let it = made_by base rows old new k is met.taken in
+      subst (IsNoServer (rows_readable base shown)) (sym met.why)
+      (bad_then met.k it.log (front_is base rows [] it.log it.read) it.leads.legal (row_unread base shown it.log met.k met.bad it.read))
 
-pub unserved : (shown : List Row) (old new : Sum) (e : SavedFault) → old ≡ nothing → GoesOver Follows Stays 0 shown old new (Err e) → IsNoServer (rows_readable shown) e
-unserved shown old new e none (inl bad) = bad_unserved shown old new e none bad
-unserved shown old new e none (inr (inl it)) = refused_unserved shown old new e none it
-unserved shown old new e none (inr (inr early)) = store_unserved (rows_readable shown) e early.why
+  -- a row that may not follow the sum may not follow the history that leads to it
+  not_behind : (mid : Sum) (log : Log) (row : RowContent) (e : SavedFault) → LeadsTo (record { base = base; log = log }) mid → MayNotFollow mid row e → (b : Batch) → batch_in (base.number + number log) row ≡ Some b
+      → FollowsSum (sum_from base log) b → ⊥
+  not_behind mid log row e leads not b read follows =
+      not.refused b (ap (λ n. batch_in n row) (number_made (record { base = base; log = log }) mid leads) ∙ read) (subst (λ s. FollowsSum s b) leads.there follows)
+
+  refused_unserved : (old new : Sum) (e : SavedFault) → old ≡ base → IsRefused Follows Remains rows old new e → IsNoServer (rows_readable base shown) e
+  refused_unserved old new e is it =
+      let made = made_by base it.given old it.mid k is it.taken in
+      elim it.refused [
+        | inl nothing ↦ subst (IsNoServer (rows_readable base shown)) (sym (nothing.why ∙ ap (λ n. BadRow (n + 1)) (batches_made (record { base = base; log = made.log }) it.mid made.leads)))
+            (bad_by it.given it.rest it.row made.log _ refl it.parts made.read made.leads.legal (not_behind it.mid made.log it.row e made.leads nothing))
+        | inr room ↦ store_unserved (rows_readable base shown) e (of_store it.mid.batches e room)
+      ]
+
+  pub unserved : (old new : Sum) (e : SavedFault) → old ≡ base → GoesOver Follows Remains base.batches shown old new (Err e) → IsNoServer (rows_readable base shown) e
+  unserved old new e is (inl met) = bad_unserved old new e is met
+  unserved old new e is (inr (inl it)) = refused_unserved old new e is it
+  unserved old new e is (inr (inr early)) = store_unserved (rows_readable base shown) e early.why
+
+-- ---- one null
+
+-- the answers of a server keep one null where those of the base do
+pub nulls_served : (history : History) (sum : Sum) → LeadsTo history sum → KeepsOneNull history.base → KeepsOneNull sum
+nulls_served history sum leads nulls = subst KeepsOneNull leads.there (nulls_from history.log history.base leads.legal nulls)

@@ -1,4 +1,5 @@
-pub mod SavedLogs
+pub mod SavedHistories
 pub mod RowReplay
 pub mod SqlKeepers
 pub mod Laws
+pub mod WrittenHistories

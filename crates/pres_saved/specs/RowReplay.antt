@@ -1,34 +1,40 @@
--- Rows that are taken one at a time: what each does to the log or the sum so far, and why one is refused.
+-- Rows that are taken one at a time: what each does to the batches or the sum so far, and why one is refused.
 use Rattle.std.specs.Prelude.{◌≡◌, ◌⊎◌, ◌+◌, ◌≤◌, ℕ, [], ◌∷◌, ◌++◌, length, Some, None}
 use Rattle.pres_ids.specs.Numbers.{greatest_number}
 use Rattle.pres_log.specs.declared.entry.Batch.{Batch}
-use Rattle.pres_log.specs.Logs.{Log, number}
+use Rattle.pres_log.specs.Logs.{Log}
 use Rattle.pres_faults.specs.declared.saved_fault.SavedFault.{SavedFault}
 use Rattle.pres_faults.specs.declared.saved_fault.SavedFault.TheVariants.{Memory, Database, BadRow}
 use Rattle.pres_batch_rows.specs.RowContents.{RowContent}
 use Rattle.pres_server.specs.Sums.{Sum, sum_with}
 use Rattle.pres_server.specs.SumTurns.{FollowsSum}
-use Rattle.pres_saved.specs.SavedLogs.{batch_in}
+use Rattle.pres_saved.specs.SavedHistories.{batch_in}
 
 -- memory is refused, or after this many no number is left for one more
 abbrev pub HasNoRoom : ℕ → SavedFault → Type 0
 HasNoRoom before e = (e ≡ Memory) ⊎ ((e ≡ Database) × (greatest_number ≤ before))
 
--- ---- by the log
+-- ---- by the batches
 
--- the row's batch is appended to the log
-pub record Extends (old : Log) (row : RowContent) (new : Log) : Type 0 where
+-- batches after others: how many came before them, how many entries there are with theirs, and the batches
+pub record Since : Type 0 where
+  pub behind : ℕ
+  pub number : ℕ
+  pub log : Log
+
+-- the row's batch is appended
+pub record Extends (old : Since) (row : RowContent) (new : Since) : Type 0 where
   pub batch : Batch
-  pub read : batch_in (number old) row ≡ Some batch
-  pub extended : new ≡ old ++ batch ∷ []
+  pub read : batch_in old.number row ≡ Some batch
+  pub extended : new ≡ record { behind = old.behind; number = old.number + length batch.entries; log = old.log ++ batch ∷ [] }
 
 -- the row saves no batch
-pub record SavesNone (log : Log) (row : RowContent) (e : SavedFault) : Type 0 where
-  pub unread : batch_in (number log) row ≡ None
-  pub why : e ≡ BadRow (length log + 1)
+pub record SavesNone (since : Since) (row : RowContent) (e : SavedFault) : Type 0 where
+  pub unread : batch_in since.number row ≡ None
+  pub why : e ≡ BadRow (since.behind + length since.log + 1)
 
-abbrev pub IsNotTaken : Log → RowContent → SavedFault → Type 0
-IsNotTaken log row e = SavesNone log row e ⊎ HasNoRoom (length log) e
+abbrev pub IsNotTaken : Since → RowContent → SavedFault → Type 0
+IsNotTaken since row e = SavesNone since row e ⊎ HasNoRoom (since.behind + length since.log) e
 
 -- ---- by the sum
 

@@ -1,7 +1,9 @@
-//! A keeper whose batches are rows of a SQLite database, from which a server is rebuilt, and one
-//! that reports the fate of each commit.
+//! A keeper whose batches are rows of a SQLite database, after a checkpoint that stands for those
+//! before them, from which a server is rebuilt; and one that reports the fate of each commit.
 #![tactic(auto)]
 
+mod base;
+pub mod laws;
 mod printing;
 mod replaying;
 mod sql;

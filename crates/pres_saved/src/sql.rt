@@ -1,6 +1,6 @@
 //! A keeper over a database.
 
-ghost use Rattle.std.specs.Prelude.{◌≡◌, ◌≤◌, [], false, is_ok, Ok, IfOk, IfErr, OnOk, MatchResult, IsTrue};
+ghost use Rattle.std.specs.Prelude.{◌≡◌, ◌≤◌, false, is_ok, Ok, Some, IfOk, IfErr, OnOk, MatchResult, IsTrue};
 ghost use Rattle.sqlite.specs.Held.{state};
 ghost use Rattle.sqlite.specs.State.{HasCleanDisk, IsUnchanged, Survives};
 ghost use Rattle.sqlite.specs.View.{doubt};
@@ -10,23 +10,28 @@ ghost use Rattle.pres_batch_rows.specs.TableOpening.{OpensAs, FailsToOpen, Openi
 ghost use Rattle.pres_batch_rows.specs.Schemas.{no_schema};
 ghost use Rattle.pres_batch_rows.specs.RowContents.{shown_rows, shown_base};
 ghost use Rattle.pres_server.specs.Replays.{resumed};
-ghost use Rattle.pres_saved.specs.SavedLogs.{rows_log, saved_log, rows_readable, readable_rows, base_found};
-ghost use Rattle.pres_keeper.specs.Keepers.{IsOfStore, IsUnread, IsNoServer, SomeLog};
-ghost use Rattle.pres_saved.specs.SqlKeepers.{IsReady, WasShut, KeepsLog, readable_in};
+ghost use Rattle.pres_server.specs.Sums.{nothing};
+ghost use Rattle.pres_server.specs.Histories.{begun_at};
+ghost use Rattle.pres_keeper.specs.Keepers.{HoldsBase, HoldsSince, IsNoBase, IsUnread, IsNoServer, KeepsOneNull, SomeHistory, base_sum};
+ghost use Rattle.pres_saved.specs.SavedHistories.{rows_log, rows_readable, saved_sum, saved_history, readable_rows, base_found};
+ghost use Rattle.pres_saved.specs.SqlKeepers.{IsReady, WasShut, KeepsHistory, readable_in};
 
-use crate::printing::{print_batch, print_batches};
-use crate::replaying::{Batches, Glance, Replaying};
+use crate::base::read_checkpoint;
+use crate::printing::{print_batch, print_batches, print_checkpoint};
+use crate::replaying::{Batches, Glance, Replaying, batches_before, number_before};
+use pres_base::Base;
 use pres_batch_rows::BatchTable;
 use pres_faults::SavedFault;
 use pres_ids::Count;
 use pres_keeper::Keeper;
-use pres_log::{Batch, Log};
+use pres_log::Batch;
 use pres_server::Server;
 use sqlite::{Alter, Connection};
 use std::alloc::Global;
 use std::marker::Model;
 
-/// Batches in a database, each a row. Contracts see the connection and the number of the last row.
+/// Batches in a database, each a row, after a checkpoint that stands for those before them. Contracts
+/// see the connection and the number of the last row.
 ///
 /// After a write whose end the disk didn't confirm, the store may be shut for good: then every call
 /// answers Database, and the next open finds the rows with or without that one.
@@ -52,7 +57,7 @@ impl<S: Alter + Drop> Drop for SqlKeeper<S> {
 }
 
 impl<S: Alter + Drop> SqlKeeper<S> {
-    /// Makes the tables in a database that has none, in one transaction: no batches. NotOurs where a
+    /// Makes the tables in a database that has none, in one transaction: no checkpoint and no batches. NotOurs where a
     /// table of such a name is there; a refusal leaves the database as it was.
     pub fn create(
         alloc: Global,
@@ -61,7 +66,7 @@ impl<S: Alter + Drop> SqlKeeper<S> {
         requires { connection.in_transaction ≡ false }
         ensures ready { IfOk result (λ k. connection.schema ≡ no_schema → IsReady S.Store k) }
         ensures empty { IfOk result (λ k. HasCleanDisk (state S.Store k.connection)
-            → connection.schema ≡ no_schema → KeepsLog S.Store k []) }
+            → connection.schema ≡ no_schema → KeepsHistory S.Store k (begun_at nothing)) }
         ensures unchanged { IfErr result (λ e. HasCleanDisk (state S.Store e.1)
             → IsTrue (state S.Store e.1).is_open
             → ((state S.Store e.1).now ≡ (state S.Store connection).now)
@@ -101,11 +106,12 @@ impl<S: Alter + Drop> SqlKeeper<S> {
             → (ours : IsOurs (state S.Store connection).now) → readable_in S.Store k
             ≡ readable_rows (base_found (state S.Store connection).now ours)
             (shown_rows (state S.Store connection))) }
-        ensures found { IfOk result (λ k. (log : _) → HasCleanDisk (state S.Store k.connection)
+        ensures found { IfOk result (λ k. (history : _)
+            → HasCleanDisk (state S.Store k.connection)
             → (ours : IsOurs (state S.Store connection).now)
-            → saved_log (base_found (state S.Store connection).now ours)
-            (shown_rows (state S.Store connection)) ≡ Ok log
-            → KeepsLog S.Store k log) }
+            → saved_history (base_found (state S.Store connection).now ours)
+            (shown_rows (state S.Store connection)) ≡ Ok history
+            → KeepsHistory S.Store k history) }
 
         // By the meaning of the statements, in whatever database.
         ensures opens { IfOk result (λ k. HasCleanDisk (state S.Store k.connection)
@@ -127,11 +133,15 @@ impl<S: Alter + Drop> SqlKeeper<S> {
         }
     }
 
-    // Refuses a store that holds a checkpoint: what it stands for isn't read here.
-    fn refuse_checkpoint(&mut self) -> Result<(), SavedFault>
-        ensures none { HasCleanDisk (state S.Store self.new.connection) → Serves S.Store self.old
-            → OnOk result (shown_base (state S.Store self.old.connection) ≡ []) }
-        ensures fault { IfErr result IsOfStore }
+    /// The base of the checkpoint, none where there is none. `BadRow` with 0 where there is more than
+    /// one checkpoint, or one that is no base.
+    pub fn load_base(&mut self) -> Result<Option<Base>, SavedFault>
+        ensures base { HasCleanDisk (state S.Store self.new.connection) → Serves S.Store self.old
+            → IfOk result (λ base. saved_sum (shown_base (state S.Store self.old.connection))
+            ≡ Some (base_sum base)) }
+        ensures holds { IfOk result (λ base. HoldsBase (base_sum base)) }
+        ensures refused { HasCleanDisk (state S.Store self.new.connection) → Serves S.Store self.old
+            → IfErr result (IsNoBase (readable_in S.Store self.old)) }
         ensures left { HasCleanDisk (state S.Store self.new.connection) → Serves S.Store self.old
             → IsLeft (state S.Store self.old.connection) (state S.Store self.new.connection) }
         ensures same { HasCleanDisk (state S.Store self.new.connection) → Serves S.Store self.old
@@ -144,20 +154,20 @@ impl<S: Alter + Drop> SqlKeeper<S> {
             (state S.Store self.new.connection) (λ _. ⊥) }
         ensures serves { Serves S.Store self.old → Serves S.Store self.new }
     {
-        match self.table.base(self.alloc) {
-            Ok(None) => Ok(()),
-            Err(SavedFault::Memory) => Err(SavedFault::Memory),
-            _ => Err(SavedFault::Database),
-        }
+        let Some(checkpoint) = self.table.base(self.alloc)? else {
+            return Ok(None);
+        };
+        let base = read_checkpoint(self.alloc, &checkpoint)?;
+        Ok(Some(base))
     }
 
-    /// The batches in their order, or `BadRow` with the number that was due at the first row that
-    /// is none. Database where there is a checkpoint.
+    /// The batches since the checkpoint in their order. `BadRow` with 0 where the checkpoint is no
+    /// base, or else with the number that was due at the first row that is no batch.
     pub fn load(&mut self) -> Result<Vec<Batch>, SavedFault>
         ensures batches { HasCleanDisk (state S.Store self.new.connection) → Serves S.Store self.old
-            → IfOk result (λ batches.
-            saved_log (shown_base (state S.Store self.old.connection))
-            (shown_rows (state S.Store self.old.connection)) ≡ Ok batches.items) }
+            → IfOk result (λ batches. HoldsSince (λ history.
+            saved_history (shown_base (state S.Store self.old.connection))
+            (shown_rows (state S.Store self.old.connection)) ≡ Ok history) batches.items) }
         ensures refused { HasCleanDisk (state S.Store self.new.connection) → Serves S.Store self.old
             → IfErr result (IsUnread (readable_in S.Store self.old)) }
         ensures left { HasCleanDisk (state S.Store self.new.connection) → Serves S.Store self.old
@@ -169,18 +179,18 @@ impl<S: Alter + Drop> SqlKeeper<S> {
             (state S.Store self.new.connection) (λ _. ⊥) }
         ensures serves { Serves S.Store self.old → Serves S.Store self.new }
     {
-        self.refuse_checkpoint()?;
-        self.load_rows()
+        let base = self.load_base()?;
+        self.load_since(&base)
     }
 
-    // The batches of the rows, whatever the checkpoint.
-    fn load_rows(&mut self) -> Result<Vec<Batch>, SavedFault>
+    /// The batches since the base, whatever the checkpoint.
+    pub fn load_since(&mut self, base: &Option<Base>) -> Result<Vec<Batch>, SavedFault>
         ensures batches { HasCleanDisk (state S.Store self.new.connection) → Serves S.Store self.old
-            → IfOk result (λ batches.
-            rows_log (shown_rows (state S.Store self.old.connection)) ≡ Ok batches.items) }
+            → IfOk result (λ batches. rows_log (base_sum base.now)
+            (shown_rows (state S.Store self.old.connection)) ≡ Ok batches.items) }
         ensures refused { HasCleanDisk (state S.Store self.new.connection) → Serves S.Store self.old
-            → IfErr result
-            (IsUnread (rows_readable (shown_rows (state S.Store self.old.connection)))) }
+            → IfErr result (IsUnread (rows_readable (base_sum base.now)
+            (shown_rows (state S.Store self.old.connection)))) }
         ensures left { HasCleanDisk (state S.Store self.new.connection) → Serves S.Store self.old
             → IsLeft (state S.Store self.old.connection) (state S.Store self.new.connection) }
         ensures last { self.new.last ≡ self.old.last }
@@ -188,26 +198,27 @@ impl<S: Alter + Drop> SqlKeeper<S> {
             (state S.Store self.new.connection) (λ _. ⊥) }
         ensures serves { Serves S.Store self.old → Serves S.Store self.new }
     {
-        let mut all = Batches {
-            alloc: self.alloc,
-            log: Log::new(self.alloc),
-        };
-        if let Err(fault) = self.table.each(self.alloc, Count::zero(), &mut all) {
+        let mut all = Batches::since(self.alloc, base);
+        if let Err(fault) = self.table.each(self.alloc, batches_before(base), &mut all) {
             drop(all);
             return Err(fault);
         }
-        Ok(all.log.into_batches())
+        Ok(all.into_batches())
     }
 
-    /// The server that the rows make, read one at a time, or `BadRow` with the number that was due
-    /// at the first row that is no batch, or none that may follow those before it. Whatever the store
-    /// gave, some log leads to its sum. Database where there is a checkpoint.
-    pub fn replay(&mut self) -> Result<Server, SavedFault>
-        ensures server { IfOk result (λ server. SomeLog (λ log.
-            HasCleanDisk (state S.Store self.new.connection) → Serves S.Store self.old
-            → saved_log (shown_base (state S.Store self.old.connection))
-            (shown_rows (state S.Store self.old.connection)) ≡ Ok log) server.sum) }
-        ensures made { IfOk result (λ server. server ≡ resumed server.sum) }
+    /// The server that the checkpoint and the rows make, read one at a time, and the number of the
+    /// last entry before the checkpoint, 0 where there is none. `BadRow` with 0 where the checkpoint
+    /// is no base, or else with the number that was due at the first row that is no batch, or none
+    /// that may follow those before it. Whatever the store gave, some history leads to the server's
+    /// sum.
+    pub fn replay(&mut self) -> Result<(Server, u64), SavedFault>
+        ensures server { IfOk result (λ made. SomeHistory
+            (λ history. (made.1 ≡ history.base.number)
+            × (HasCleanDisk (state S.Store self.new.connection) → Serves S.Store self.old
+            → saved_history (shown_base (state S.Store self.old.connection))
+            (shown_rows (state S.Store self.old.connection)) ≡ Ok history)) made.0.sum) }
+        ensures made { IfOk result (λ made. made.0 ≡ resumed made.0.sum) }
+        ensures nulls { IfOk result (λ made. KeepsOneNull made.0.sum) }
         ensures refused { HasCleanDisk (state S.Store self.new.connection) → Serves S.Store self.old
             → IfErr result (IsNoServer (readable_in S.Store self.old)) }
         ensures left { HasCleanDisk (state S.Store self.new.connection) → Serves S.Store self.old
@@ -219,19 +230,25 @@ impl<S: Alter + Drop> SqlKeeper<S> {
             (state S.Store self.new.connection) (λ _. ⊥) }
         ensures serves { Serves S.Store self.old → Serves S.Store self.new }
     {
-        self.refuse_checkpoint()?;
-        self.replay_rows()
+        let base = self.load_base()?;
+        let number = number_before(&base).get();
+        let server = self.replay_since(base)?;
+        Ok((server, number))
     }
 
-    // The server of the rows, whatever the checkpoint.
-    fn replay_rows(&mut self) -> Result<Server, SavedFault>
-        ensures server { IfOk result (λ server. SomeLog (λ log.
-            HasCleanDisk (state S.Store self.new.connection) → Serves S.Store self.old
-            → rows_log (shown_rows (state S.Store self.old.connection)) ≡ Ok log) server.sum) }
+    /// The server that the base and the rows since make, whatever the checkpoint.
+    pub fn replay_since(&mut self, base: Option<Base>) -> Result<Server, SavedFault>
+        ensures server { IfOk result (λ server. SomeHistory
+            (λ history. (history.base ≡ base_sum base) × (HasCleanDisk (state S.Store self.new.connection)
+            → Serves S.Store self.old
+            → rows_log (base_sum base) (shown_rows (state S.Store self.old.connection))
+            ≡ Ok history.log)) server.sum) }
         ensures made { IfOk result (λ server. server ≡ resumed server.sum) }
+        ensures nulls { KeepsOneNull (base_sum base)
+            → IfOk result (λ server. KeepsOneNull server.sum) }
         ensures refused { HasCleanDisk (state S.Store self.new.connection) → Serves S.Store self.old
-            → IfErr result
-            (IsNoServer (rows_readable (shown_rows (state S.Store self.old.connection)))) }
+            → IfErr result (IsNoServer (rows_readable (base_sum base)
+            (shown_rows (state S.Store self.old.connection)))) }
         ensures left { HasCleanDisk (state S.Store self.new.connection) → Serves S.Store self.old
             → IsLeft (state S.Store self.old.connection) (state S.Store self.new.connection) }
         ensures last { self.new.last ≡ self.old.last }
@@ -239,8 +256,9 @@ impl<S: Alter + Drop> SqlKeeper<S> {
             (state S.Store self.new.connection) (λ _. ⊥) }
         ensures serves { Serves S.Store self.old → Serves S.Store self.new }
     {
-        let mut made = Replaying::new(self.alloc);
-        if let Err(fault) = self.table.each(self.alloc, Count::zero(), &mut made) {
+        let behind = batches_before(&base);
+        let mut made = Replaying::since(self.alloc, base)?;
+        if let Err(fault) = self.table.each(self.alloc, behind, &mut made) {
             drop(made);
             return Err(fault);
         }
@@ -274,8 +292,8 @@ impl<S: Alter + Drop> SqlKeeper<S> {
 }
 
 impl<S: Alter + Drop> Keeper for SqlKeeper<S> {
-    ghost use Rattle.pres_saved.specs.SqlKeepers.{IsReady, Works, WasShut, KeepsLog, LeavesLog, MayFind, OutlastsLog, SavesBatches, readable_in};
-    ghost use Rattle.pres_saved.specs.Laws.{kept_whole, found_first};
+    ghost use Rattle.pres_saved.specs.SqlKeepers.{IsReady, Works, WasShut, KeepsHistory, LeavesHistory, MayFind, OutlastsHistory, SavesBatches, SavesBase, readable_in};
+    ghost use Rattle.pres_saved.specs.Laws.{keeps_whole, found_first};
 
     ghost ready = { λ kept. IsReady S.Store kept };
 
@@ -283,22 +301,24 @@ impl<S: Alter + Drop> Keeper for SqlKeeper<S> {
 
     ghost readable = { λ kept. readable_in S.Store kept };
 
-    ghost keeps = { λ kept log. KeepsLog S.Store kept log };
+    ghost keeps = { λ kept history. KeepsHistory S.Store kept history };
 
     ghost stores = { λ old batches new. SavesBatches S.Store old batches new };
 
+    ghost replaces = { λ old base new. SavesBase S.Store old base new };
+
     ghost shut = { λ old new. WasShut S.Store old new };
 
-    ghost leaves = { λ old log batches new. LeavesLog S.Store old log batches new };
+    ghost leaves = { λ old history new. LeavesHistory S.Store old history new };
 
     ghost may_find = { λ kept held. MayFind S.Store kept held };
 
-    ghost outlasts = { λ kept log. OutlastsLog S.Store kept log };
+    ghost outlasts = { λ kept history. OutlastsHistory S.Store kept history };
 
-    ghost kept_is_read = { λ kept log keeps. kept_whole _ _ log keeps };
+    ghost kept_is_read = { λ kept history keeps. keeps_whole S.Store.own kept history keeps };
 
-    ghost outlasting_is_found = { λ kept log held lasts finds.
-        found_first _ kept log held lasts finds };
+    ghost outlasting_is_found = { λ kept history held lasts finds.
+        found_first _ kept history held lasts finds };
 
     fn commit(&mut self, batch: &Batch) -> Result<(), SavedFault> {
         let row = print_batch(self.alloc, batch)?;
@@ -311,11 +331,20 @@ impl<S: Alter + Drop> Keeper for SqlKeeper<S> {
         self.table.append_all(rows.as_slice())
     }
 
+    fn checkpoint(&mut self, server: &Server) -> Result<(), SavedFault> {
+        let row = print_checkpoint(self.alloc, server)?;
+        self.table.checkpoint(row.moment, row.body.as_str())
+    }
+
+    fn base(&mut self) -> Result<Option<Base>, SavedFault> {
+        self.load_base()
+    }
+
     fn batches(&mut self) -> Result<Vec<Batch>, SavedFault> {
         self.load()
     }
 
-    fn server(&mut self) -> Result<Server, SavedFault> {
+    fn server(&mut self) -> Result<(Server, u64), SavedFault> {
         self.replay()
     }
 }

@@ -3,11 +3,12 @@
 ghost use Rattle.std.specs.Prelude.{◌≡◌, ◌≤◌};
 ghost use Rattle.sqlite.specs.Held.{state};
 ghost use Rattle.sqlite.specs.State.{HasCleanDisk, Survives};
-ghost use Rattle.pres_log.specs.Logs.{Log};
+ghost use Rattle.pres_server.specs.Histories.{History};
 ghost use Rattle.pres_keeper.specs.Keepers.{Readable};
-ghost use Rattle.pres_saved.specs.SqlKeepers.{IsReady, Works, KeepsLog, MayFind, OutlastsLog};
+ghost use Rattle.pres_saved.specs.SqlKeepers.{IsReady, Works, KeepsHistory, MayFind, OutlastsHistory};
 
 use crate::sql::SqlKeeper;
+use pres_base::Base;
 use pres_faults::SavedFault;
 use pres_keeper::Keeper;
 use pres_log::Batch;
@@ -71,12 +72,12 @@ impl<S: Alter + Drop, W: Watch> Watched<S, W> {
         ensures ready { IsReady S.Store self.old → IsReady S.Store self.new }
         ensures worked { IsReady S.Store self.old → Works S.Store self.new
             → Works S.Store self.old }
-        ensures stays { (log : Log) → IsReady S.Store self.old → Works S.Store self.new
-            → KeepsLog S.Store self.old log → KeepsLog S.Store self.new log }
+        ensures stays { (history : History) → IsReady S.Store self.old → Works S.Store self.new
+            → KeepsHistory S.Store self.old history → KeepsHistory S.Store self.new history }
         ensures found { (held : Readable) → IsReady S.Store self.old
             → MayFind S.Store self.new held → MayFind S.Store self.old held }
-        ensures outlasts { (log : Log) → IsReady S.Store self.old
-            → OutlastsLog S.Store self.old log → OutlastsLog S.Store self.new log }
+        ensures outlasts { (history : History) → IsReady S.Store self.old
+            → OutlastsHistory S.Store self.old history → OutlastsHistory S.Store self.new history }
         ensures crash { Survives (state S.Store self.old.connection)
             (state S.Store self.new.connection) (λ _. ⊥) }
     {
@@ -88,8 +89,8 @@ impl<S: Alter + Drop, W: Watch> Watched<S, W> {
 }
 
 impl<S: Alter + Drop, W: Watch> Keeper for Watched<S, W> {
-    ghost use Rattle.pres_saved.specs.SqlKeepers.{IsReady, Works, WasShut, KeepsLog, LeavesLog, MayFind, OutlastsLog, SavesBatches, readable_in};
-    ghost use Rattle.pres_saved.specs.Laws.{kept_whole, found_first};
+    ghost use Rattle.pres_saved.specs.SqlKeepers.{IsReady, Works, WasShut, KeepsHistory, LeavesHistory, MayFind, OutlastsHistory, SavesBatches, SavesBase, readable_in};
+    ghost use Rattle.pres_saved.specs.Laws.{keeps_whole, found_first};
 
     ghost ready = { λ kept. IsReady S.Store kept };
 
@@ -97,22 +98,24 @@ impl<S: Alter + Drop, W: Watch> Keeper for Watched<S, W> {
 
     ghost readable = { λ kept. readable_in S.Store kept };
 
-    ghost keeps = { λ kept log. KeepsLog S.Store kept log };
+    ghost keeps = { λ kept history. KeepsHistory S.Store kept history };
 
     ghost stores = { λ old batches new. SavesBatches S.Store old batches new };
 
+    ghost replaces = { λ old base new. SavesBase S.Store old base new };
+
     ghost shut = { λ old new. WasShut S.Store old new };
 
-    ghost leaves = { λ old log batches new. LeavesLog S.Store old log batches new };
+    ghost leaves = { λ old history new. LeavesHistory S.Store old history new };
 
     ghost may_find = { λ kept held. MayFind S.Store kept held };
 
-    ghost outlasts = { λ kept log. OutlastsLog S.Store kept log };
+    ghost outlasts = { λ kept history. OutlastsHistory S.Store kept history };
 
-    ghost kept_is_read = { λ kept log keeps. kept_whole _ _ log keeps };
+    ghost kept_is_read = { λ kept history keeps. keeps_whole S.Store.own kept history keeps };
 
-    ghost outlasting_is_found = { λ kept log held lasts finds.
-        found_first _ kept log held lasts finds };
+    ghost outlasting_is_found = { λ kept history held lasts finds.
+        found_first _ kept history held lasts finds };
 
     fn commit(&mut self, batch: &Batch) -> Result<(), SavedFault> {
         match self.keeper.commit(batch) {
@@ -140,11 +143,19 @@ impl<S: Alter + Drop, W: Watch> Keeper for Watched<S, W> {
         }
     }
 
+    fn checkpoint(&mut self, server: &Server) -> Result<(), SavedFault> {
+        self.keeper.checkpoint(server)
+    }
+
+    fn base(&mut self) -> Result<Option<Base>, SavedFault> {
+        self.keeper.base()
+    }
+
     fn batches(&mut self) -> Result<Vec<Batch>, SavedFault> {
         self.keeper.batches()
     }
 
-    fn server(&mut self) -> Result<Server, SavedFault> {
+    fn server(&mut self) -> Result<(Server, u64), SavedFault> {
         self.keeper.server()
     }
 }

@@ -11,7 +11,7 @@ returns-in-Ok g c = record {
         ready = λ cause. elim cause [ inl new ↦ it.made new | inr ours ↦ it.ready ours ];
         empty = λ new now. it.empty new now;
         read = λ old now ours. it.read old now ours;
-        found = λ log old now ours saved. it.found log old now ours saved;
+        found = λ history old now ours saved. it.found history old now ours saved;
       };
   ready = λ ours. elim ours [ inl none ↦ c.in-Ok.ensures.made (c.in-Ok.ensures.new.1 none) | inr ours ↦ c.in-Ok.ensures.ready ours ];
 }

@@ -15,6 +15,6 @@ returns g c = record {
         ready = there.ready;
         empty = λ new. there.empty new now;
         read = λ old ours. there.read old now ours;
-        found = λ log old ours saved. there.found log old now ours saved;
+        found = λ history old ours saved. there.found history old now ours saved;
       }) c.keeper_for.ensures.keeps;
 }

@@ -61,7 +61,7 @@ pub returns-else-is_blank-clause-read : goal.returns-else-is_blank-clause-read
 returns-else-is_blank-clause-read g c = from_one c.found.result (λ it read _ clean ours. read clean ours) c.found.ensures.read
 
 pub returns-else-is_blank-clause-found : goal.returns-else-is_blank-clause-found
-returns-else-is_blank-clause-found g c = from_one c.found.result (λ it found log _ clean ours kept. found log clean ours kept) c.found.ensures.found
+returns-else-is_blank-clause-found g c = from_one c.found.result (λ it found history _ clean ours kept. found history clean ours kept) c.found.ensures.found
 
 pub returns-else-is_blank-clause-unmade : goal.returns-else-is_blank-clause-unmade
 returns-else-is_blank-clause-unmade g c = grind (arith, common_steps)

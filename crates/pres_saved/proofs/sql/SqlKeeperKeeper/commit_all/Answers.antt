@@ -3,7 +3,8 @@ use Rattle.std.proofs.lemmas.List.{length-map}
 use Rattle.std.specs.Result.{is_ok, OnOk}
 use Rattle.sqlite.specs.Held.{state}
 use Rattle.pres_batch_rows.specs.TableStates.{AddsRows}
-use Rattle.pres_batch_rows.specs.RowContents.{saved_of}
+use Rattle.pres_batch_rows.specs.RowContents.{saved_of, rows_in, checkpoints_in, stored_from}
+use Rattle.pres_server.specs.Histories.{with_batches}
 use Rattle.pres_saved.specs.SqlKeepers.{saved_batch}
 use Rattle.pres_saved.proofs.Committing.{save_all, still_ready, worked, committed, crashed, found}
 use Rattle.pres_saved.proofs.Outlasting.{outlasts_more, lasts_committed}
@@ -26,11 +27,11 @@ returns-clause-ok g c =
     let all = map saved_of rows in
     let last = c.append_all.ensures.last ∙ ap (λ n. if is_ok c.append_all.result then c.self.inside.table.last + n else c.self.inside.table.last) (sym (length-map rows saved_of)) in
     let is : all ≡ map saved_batch batches = ap (map saved_of) c.as_slice.ensures.value ∙ c.in_ok-rows.ensures.save in
-    rw (← c.self.view_is) (λ log ready works keeps follow.
-    let next = save_all log batches all is c.in_ok-rows.ensures.back follow in
+    rw (← c.self.view_is) (λ history ready works keeps follow.
+    let next = save_all history batches all is c.in_ok-rows.ensures.back follow in
     committed g.S.Store c.self.inside.table c.append_all.new.self all c.append_all.result (c.append_all.ensures.serves ready.serves)
     (λ clean. c.append_all.ensures.ok clean ready.serves) (λ clean. c.append_all.ensures.err clean ready.serves) last
-    log batches next (c.append_all.ensures.crash ready.serves) ready works keeps)
+    history batches next (c.append_all.ensures.crash ready.serves) ready works keeps)
 
 pub returns-clause-crash : goal.returns-clause-crash
 returns-clause-crash g c =
@@ -39,11 +40,11 @@ returns-clause-crash g c =
     let all = map saved_of rows in
     let last = c.append_all.ensures.last ∙ ap (λ n. if is_ok c.append_all.result then c.self.inside.table.last + n else c.self.inside.table.last) (sym (length-map rows saved_of)) in
     let is : all ≡ map saved_batch batches = ap (map saved_of) c.as_slice.ensures.value ∙ c.in_ok-rows.ensures.save in
-    rw (← c.self.view_is) (λ log ready keeps follow.
-    let next = save_all log batches all is c.in_ok-rows.ensures.back follow in
+    rw (← c.self.view_is) (λ history ready keeps follow.
+    let next = save_all history batches all is c.in_ok-rows.ensures.back follow in
     crashed g.S.Store c.self.inside.table c.append_all.new.self all c.append_all.result (c.append_all.ensures.serves ready.serves)
     (λ clean. c.append_all.ensures.ok clean ready.serves) (λ clean. c.append_all.ensures.err clean ready.serves) last
-    log batches next ready keeps (c.append_all.ensures.crash ready.serves))
+    history batches next ready keeps (c.append_all.ensures.crash ready.serves))
 
 pub returns-clause-stored : goal.returns-clause-stored
 returns-clause-stored g c =
@@ -62,11 +63,11 @@ returns-clause-found g c =
     let all = map saved_of rows in
     let last = c.append_all.ensures.last ∙ ap (λ n. if is_ok c.append_all.result then c.self.inside.table.last + n else c.self.inside.table.last) (sym (length-map rows saved_of)) in
     let is : all ≡ map saved_batch batches = ap (map saved_of) c.as_slice.ensures.value ∙ c.in_ok-rows.ensures.save in
-    rw (← c.self.view_is) (λ log ready keeps follow held finds.
-    let next = save_all log batches all is c.in_ok-rows.ensures.back follow in
+    rw (← c.self.view_is) (λ history ready keeps follow held finds.
+    let next = save_all history batches all is c.in_ok-rows.ensures.back follow in
     found g.S.Store c.self.inside.table c.append_all.new.self all c.append_all.result (c.append_all.ensures.serves ready.serves)
     (λ clean. c.append_all.ensures.ok clean ready.serves) (λ clean. c.append_all.ensures.err clean ready.serves) last
-    log batches next ready keeps (c.append_all.ensures.crash ready.serves) held finds)
+    history batches next ready keeps (c.append_all.ensures.crash ready.serves) held finds)
 
 pub returns-clause-durable : goal.returns-clause-durable
 returns-clause-durable g c =
@@ -75,17 +76,18 @@ returns-clause-durable g c =
     let all = map saved_of rows in
     let last = c.append_all.ensures.last ∙ ap (λ n. if is_ok c.append_all.result then c.self.inside.table.last + n else c.self.inside.table.last) (sym (length-map rows saved_of)) in
     let is : all ≡ map saved_batch batches = ap (map saved_of) c.as_slice.ensures.value ∙ c.in_ok-rows.ensures.save in
-    rw (← c.self.view_is) (λ log ready keeps follow.
-    let next = save_all log batches all is c.in_ok-rows.ensures.back follow in
+    rw (← c.self.view_is) (λ history ready keeps follow.
+    let next = save_all history batches all is c.in_ok-rows.ensures.back follow in
     let survives = c.append_all.ensures.crash ready.serves in
-    lasts_committed g.S.Store c.self.inside.table c.append_all.new.self (c.self.inside.table.last + 1) all c.append_all.result (log ++ batches)
+    let old = state g.S.Store c.self.inside.table.connection in
+    lasts_committed g.S.Store c.self.inside.table c.append_all.new.self (checkpoints_in old) (rows_in old ++ stored_from (c.self.inside.table.last + 1) all) c.append_all.result (with_batches history batches)
     (λ clean. c.append_all.ensures.ok clean ready.serves) (λ clean. c.append_all.ensures.durable clean ready.serves)
     (λ works. committed g.S.Store c.self.inside.table c.append_all.new.self all c.append_all.result (c.append_all.ensures.serves ready.serves)
     (λ clean. c.append_all.ensures.ok clean ready.serves) (λ clean. c.append_all.ensures.err clean ready.serves) last
-    log batches next survives ready works
+    history batches next survives ready works
     (keeps (worked g.S.Store c.self.inside.table c.append_all.new.self all c.append_all.result (c.append_all.ensures.serves ready.serves)
     (λ clean. c.append_all.ensures.ok clean ready.serves) (λ clean. c.append_all.ensures.err clean ready.serves) last survives works))))
 
 pub returns-clause-outlasts : goal.returns-clause-outlasts
-returns-clause-outlasts g c = rw (← c.self.view_is) (λ log ready lasts.
-    outlasts_more g.S.Store c.self.inside.table c.append_all.new.self (c.append_all.ensures.crash ready.serves) (λ clean. c.append_all.ensures.outlasts clean ready.serves) log lasts)
+returns-clause-outlasts g c = rw (← c.self.view_is) (λ history ready lasts.
+    outlasts_more g.S.Store c.self.inside.table c.append_all.new.self (c.self.inside.table.last + 1) (map saved_of c.as_slice.result.now) (c.append_all.ensures.crash ready.serves) (λ clean. c.append_all.ensures.stays clean ready.serves) history lasts)

@@ -1,4 +1,4 @@
 use Rattle.pres_saved.proofs.watch.WatchedKeeper.server.Goals as goal
 
 pub returns-clause-outlasts : goal.returns-clause-outlasts
-returns-clause-outlasts g c = rw (← c.self.view_is) (λ log ready lasts. c.server.ensures.outlasts log ready lasts)
+returns-clause-outlasts g c = rw (← c.self.view_is) (λ history ready lasts. c.server.ensures.outlasts history ready lasts)
