@@ -77,9 +77,17 @@ word_line word given =
     else (if is_word word (codes "restart-client") then client_start_line given
     else (if is_word word (codes "restart-server") then server_start_line given else None))))))))
 
+-- a word that is given nothing
+abbrev pub lone_line : Text → Option Scripted
+lone_line word = if is_word word (codes "checkpoint") then Some (happens event.Checkpoint) else None
+
+abbrev pub line_of_halves : Text → Option (Text × Text) → Option Scripted
+line_of_halves text None = lone_line text
+line_of_halves text (Some h) = word_line h.0 h.1
+
 -- what a line says: none where it is no line of a script after the first
 abbrev pub script_line : Text → Option Scripted
-script_line text = option_and_then (λ h. word_line h.0 h.1) (halves text)
+script_line text = line_of_halves text (halves text)
 
 abbrev pub script_bytes : List ℕ → Option Scripted
 script_bytes bytes = if is_utf8 bytes then script_line bytes else None

@@ -3,7 +3,7 @@
 ghost use Rattle.std.specs.Prelude.{◌≡◌, IfOk, option_map};
 ghost use Rattle.pres_ids.specs.Forms.{client_in};
 ghost use Rattle.pres_script.specs.Lines.{whole_in};
-ghost use Rattle.pres_sim.specs.Scripts.{scripted, moment_in, call_line, arrival_line, delivery_line, loss_line, tick_line, client_start_line, server_start_line, word_line, script_line, script_bytes};
+ghost use Rattle.pres_sim.specs.Scripts.{scripted, moment_in, call_line, arrival_line, delivery_line, loss_line, tick_line, client_start_line, server_start_line, lone_line, word_line, script_line, script_bytes};
 
 use pres_ids::{ClientId, IdFault};
 use pres_script::{Line, line_of, number_of};
@@ -35,7 +35,17 @@ fn step_of(alloc: Global, text: &str) -> Result<Option<ScriptStep>, AllocError>
 {
     match text.split_once(' ') {
         Some((word, given)) => step_with(alloc, word, given),
-        None => Ok(None),
+        None => Ok(step_alone(text)),
+    }
+}
+
+// The step of a word that is given nothing.
+fn step_alone(word: &str) -> Option<ScriptStep>
+    ensures { option_map scripted result ≡ lone_line word.now }
+{
+    match word {
+        "checkpoint" => Some(ScriptStep::Event(Event::Checkpoint)),
+        _ => None,
     }
 }
 

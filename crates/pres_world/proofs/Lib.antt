@@ -1,14 +1,14 @@
 pub mod Asked
 pub mod Backed
+pub mod Bases
 pub mod Cancelled
 pub mod Ended
 pub mod Faith
 pub mod Follow
 pub mod Found
-pub mod Held
 pub mod Hears
+pub mod Held
 pub mod Known
-pub mod Legal
 pub mod Lists
 pub mod Lost
 pub mod Numbered
@@ -23,6 +23,7 @@ pub mod Stands
 pub mod Stays
 pub mod Transcripts
 pub mod Twice
+pub mod Unseen
 pub mod Whole
 pub mod Writes
 pub mod Written

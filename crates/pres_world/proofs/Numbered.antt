@@ -1,5 +1,5 @@
 -- What each client of a world sent, and shows, in a world as a whole, and that the world goes on so.
-use Rattle.std.proofs.Common.{if◌then◌else◌, ◌&&◌, not, refl, sym, ◌∙◌, ap, subst, ◌≡◌, ◌+◌, ◌≤◌, ℕ, Bool, true, false, cond, List, [], ◌∷◌, ◌++◌, slice_get, ◌⊎◌, inl, inr, Option, Some, None, true≢false, arith, unwrap_or, is_eq, Ordering, Less, Equal, Greater, length, take}
+use Rattle.std.proofs.Common.{if◌then◌else◌, ◌&&◌, not, refl, sym, ◌∙◌, ap, subst, ◌≡◌, ◌≤◌, ℕ, Bool, true, false, cond, List, [], ◌∷◌, ◌++◌, slice_get, ◌⊎◌, inl, inr, Option, Some, None, true≢false, arith, unwrap_or, is_eq, Ordering, Less, Equal, Greater, length, take}
 use Rattle.std.specs.Prelude.{fold}
 use Rattle.std.specs.List.{AllByRecursion, Contains}
 use Rattle.std.specs.Ordering.{eq_by_cmp}
@@ -38,7 +38,6 @@ use Rattle.pres_world.proofs.Faith.{stream_longer}
 use Rattle.pres_world.proofs.Follow.{Faith, faith_front}
 use Rattle.pres_world.proofs.Writes.{nth_once}
 use Rattle.pres_world.proofs.Written.{SomeWritten, Written, none_written, not_older, written_front}
-use Rattle.pres_client.specs.Sends.{opening}
 use Rattle.pres_world.specs.WorldClients.{acknowledged, handed_out, is_fault, started_again}
 use Rattle.pres_world.proofs.Backed.{Backed, IsWrite, all_into, item_front}
 use Rattle.pres_world.specs.Worlds.{World, Clients, joined, new_world, becomes, IsClient}

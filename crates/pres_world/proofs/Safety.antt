@@ -32,7 +32,7 @@ use Rattle.pres_world.specs.declared.fault.WorldFault.{WorldFault}
 use Rattle.pres_world.specs.declared.fault.WorldFault.TheVariants as fault
 use Rattle.pres_world.specs.WorldClients.{acknowledged, is_fault}
 use Rattle.pres_world.specs.Safe.{CameFromMessage}
-use Rattle.pres_world.specs.ServerSides.{ServerSideState, fault_for, turned, served, served_by, lost, EndsAll, IsRestarted}
+use Rattle.pres_world.specs.ServerSides.{ServerSideState, fault_for, turned, served, served_by, lost, checkpointed, EndsAll, IsRestarted}
 use Rattle.pres_world.specs.Worlds.{World, IsStep, IsStop, IsRefused, becomes, new_world}
 use Rattle.pres_world.proofs.Backed.{all_front, all_into, all_at, sure}
 use Rattle.pres_world.proofs.Transcripts.{Vouched, vouched_front, answers_vouched}
@@ -94,12 +94,12 @@ none_some s e = grind arith
 its : (s t : ServerState) → Some s ≡ Some t → t.log ≡ s.log
 its s t e = sym (ap (λ o. (unwrap_or o t).log) e)
 
-turned_grows : (ups : List Up) (w : ServerSideState) (s : ServerState) (i : Input) (now : ℕ) (e : Ending) → ComesFrom ups i → Sound w → s.log ≡ w.history → Grows ups w (turned e w.downs (turn s i now) s (moment_of s.log now) i)
+turned_grows : (ups : List Up) (w : ServerSideState) (s : ServerState) (i : Input) (now : ℕ) (e : Ending) → ComesFrom ups i → Sound w → s.log ≡ w.history → Grows ups w (turned e w.base w.downs (turn s i now) s (moment_of s.log now) i)
 turned_grows ups w s i now e from h is = by (turn s i now) refl e where
   m : ℕ
   m = moment_of s.log now
 
-  by : (d : Decision) → turn s i now ≡ d → (e : Ending) → Grows ups w (turned e w.downs d s m i)
+  by : (d : Decision) → turn s i now ≡ d → (e : Ending) → Grows ups w (turned e w.base w.downs d s m i)
   by (makes es) k ending.Answered = made (answers (entries s.log) es) (λ t x. its (state_after s m es) t x) refl backed where
     follows : MayFollow w.history (batch_of w.history m es)
     follows = subst (λ l. MayFollow l (batch_of l m es)) is (may_follow s i now es (subst IsLegal (sym is) h.legal) k)
@@ -107,7 +107,7 @@ turned_grows ups w s i now e from h is = by (turn s i now) refl e where
     backed : AllByRecursion (Vouched (entries w.history ++ es)) (answers (entries s.log) es)
     backed = subst (λ l. AllByRecursion (Vouched (entries w.history ++ es)) (answers (entries l) es)) (sym is) (answers_vouched (entries w.history) m es (sure w.history h.legal) follows.allowed)
 
-    made : (out : List Down) → ((t : ServerState) → Some (state_after s m es) ≡ Some t → t.log ≡ (state_after s m es).log) → w.downs ++ out ≡ w.downs ++ out → AllByRecursion (Vouched (entries w.history ++ es)) out → Grows ups w (record { server = Some (state_after s m es); history = (state_after s m es).log; downs = w.downs ++ out })
+    made : (out : List Down) → ((t : ServerState) → Some (state_after s m es) ≡ Some t → t.log ≡ (state_after s m es).log) → w.downs ++ out ≡ w.downs ++ out → AllByRecursion (Vouched (entries w.history ++ es)) out → Grows ups w (record { server = Some (state_after s m es); base = w.base; history = (state_after s m es).log; downs = w.downs ++ out })
     made out log sent b = grows ups w _ m es out (made_sent ups s i now es from k) h follows (ap (λ l. l ++ batch_of l m es ∷ []) is) log sent b
   by (makes es) k ending.Stopped = grows ups w _ m es [] (made_sent ups s i now es from k) h follows (ap (λ l. l ++ batch_of l m es ∷ []) is) (λ t x. absurd (none_some t x)) (sym (append-nil w.downs)) tt where
     follows : MayFollow w.history (batch_of w.history m es)
@@ -148,17 +148,21 @@ ended_longer ups now (c ∷ cs) s t legal h =
 
 pub restarted_grows : (ups : List Up) (w v : ServerSideState) (now : ℕ) → Sound w → IsRestarted w now v → Grows ups w v
 restarted_grows ups w v now h k =
-    let longer = ended_longer ups now k.0 (made_from w.history) k.1 h.legal k.2 in
-    subst (Grows ups w) (sym k.3) (record {
+    let longer = ended_longer ups now k.1 (made_from w.history) k.2 h.legal k.3 in
+    subst (Grows ups w) (sym k.4) (record {
       sound = record {
         legal = longer.legal;
-        its_log = λ t x. its k.1 t x;
+        its_log = λ t x. its k.2 t x;
         downs = subst (λ l. AllByRecursion (Vouched l) w.downs) (sym longer.grown) (all_into (Vouched (entries w.history)) (Vouched (entries w.history ++ longer.more)) w.downs (vouched_front (entries w.history) longer.more) h.downs);
       };
       more = longer.more;
       grown = longer.grown;
       sent = longer.sent;
     })
+
+-- a base is kept
+pub checkpointed_grows : (ups : List Up) (w : ServerSideState) → Sound w → Grows ups w (checkpointed w)
+checkpointed_grows ups w h = stays ups w (checkpointed w) [] h refl h.its_log (sym (append-nil w.downs)) tt
 
 -- ---- worlds
 
@@ -208,6 +212,7 @@ step_honest w (event.Loss id now) v h is = subst Honest (sym is.1) (honest_by w 
 step_honest w (event.Tick now) v h is = subst Honest (sym is) (honest_by w _ h (served_grows w.ups w.serving input.Tick now ending.Answered tt h.sound))
 step_honest w (event.RestartClient id) v h is = subst Honest (sym is.after) (record { sound = h.sound; acks = h.acks; sent = h.sent })
 step_honest w (event.RestartServer now) v h is = subst Honest (sym is.2) (honest_by w is.0 h (restarted_grows w.ups w.serving is.0 now h.sound is.1))
+step_honest w event.Checkpoint v h is = subst Honest (sym is) (honest_by w _ h (checkpointed_grows w.ups w.serving h.sound))
 
 pub stop_honest : (w : World) (e : Event) (v : World) → Honest w → IsStop w e v → Honest v
 stop_honest w (event.Call id k) v h is = absurd is
@@ -217,6 +222,7 @@ stop_honest w (event.Loss id now) v h is = subst Honest (sym is.1) (honest_by w 
 stop_honest w (event.Tick now) v h is = subst Honest (sym is) (honest_by w _ h (served_grows w.ups w.serving input.Tick now ending.Stopped tt h.sound))
 stop_honest w (event.RestartClient id) v h is = absurd is
 stop_honest w (event.RestartServer now) v h is = absurd is
+stop_honest w event.Checkpoint v h is = absurd is
 
 pub refused_honest : (w : World) (e : Event) (v : World) (f : WorldFault) → Honest w → IsRefused w e v f → Honest v
 refused_honest w e v fault.Memory h (inl is) = subst Honest (sym is) h

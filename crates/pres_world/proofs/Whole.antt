@@ -29,7 +29,7 @@ use Rattle.pres_world.proofs.Orderly.{place, writes_stand, sessions_stand, ends_
 use Rattle.pres_client.specs.Steps.{calls, receives, IsMessage}
 use Rattle.std.specs.Option.{is_none}
 use Rattle.pres_client.specs.Steps.{after}
-use Rattle.pres_world.proofs.Safety.{served_grows, lost_grows, restarted_grows, Honest, item_backed, item_sent, step_honest, refused_honest, new_honest}
+use Rattle.pres_world.proofs.Safety.{served_grows, lost_grows, restarted_grows, checkpointed_grows, Honest, item_backed, item_sent, step_honest, refused_honest, new_honest}
 use Rattle.pres_world.proofs.Stays.{Moves, call_stays, receive_stays}
 use Rattle.pres_world.proofs.Snaps.{streamed}
 use Rattle.pres_wire.specs.declared.down.Down.TheVariants as down
@@ -76,6 +76,7 @@ step_numbered w (event.Loss id now) v h is = let g = lost_grows w.ups _ w.servin
 step_numbered w (event.Tick now) v h is = let g = served_grows w.ups w.serving input.Tick now ending.Answered tt h.honest.sound in subst Numbered (sym is) (grown_numbered w _ g.more g.grown h.numbered)
 step_numbered w (event.RestartClient id) v h is = subst Numbered (sym is.after) (again_numbered w id is.client h.numbered is.there)
 step_numbered w (event.RestartServer now) v h is = let g = restarted_grows w.ups w.serving is.0 now h.honest.sound is.1 in subst Numbered (sym is.2) (grown_numbered w is.0 g.more g.grown h.numbered)
+step_numbered w event.Checkpoint v h is = let g = checkpointed_grows w.ups w.serving h.honest.sound in subst Numbered (sym is) (grown_numbered w _ g.more g.grown h.numbered)
 
 stop_numbered : (w : World) (e : Event) (v : World) → Whole w → IsStop w e v → Numbered v
 stop_numbered w (event.Call id k) v h is = absurd is
@@ -85,6 +86,7 @@ stop_numbered w (event.Loss id now) v h is = let g = lost_grows w.ups _ w.servin
 stop_numbered w (event.Tick now) v h is = let g = served_grows w.ups w.serving input.Tick now ending.Stopped tt h.honest.sound in subst Numbered (sym is) (grown_numbered w _ g.more g.grown h.numbered)
 stop_numbered w (event.RestartClient id) v h is = absurd is
 stop_numbered w (event.RestartServer now) v h is = absurd is
+stop_numbered w event.Checkpoint v h is = absurd is
 
 refused_numbered : (w : World) (e : Event) (v : World) (f : WorldFault) → Whole w → IsRefused w e v f → Numbered v
 refused_numbered w e v fault.Memory h (inl is) = subst Numbered (sym is) h.numbered

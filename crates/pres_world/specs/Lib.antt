@@ -5,3 +5,4 @@ pub mod Orderly
 pub mod Safe
 pub mod ServerSides
 pub mod Worlds
+pub mod Unseen

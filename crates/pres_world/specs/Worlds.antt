@@ -8,6 +8,7 @@ use Rattle.pres_wire.specs.declared.up.Up.{Up}
 use Rattle.pres_wire.specs.declared.down.Down.{Down}
 use Rattle.pres_wire.specs.Messages.{session_for}
 use Rattle.pres_log.specs.Logs.{item_at}
+use Rattle.pres_server.specs.Sums.{nothing}
 use Rattle.pres_server.specs.declared.input.Input.TheVariants as input
 use Rattle.pres_history.specs.ServerStates.{blank}
 use Rattle.pres_client.specs.declared.call.Call.{Call}
@@ -22,7 +23,7 @@ use Rattle.pres_world.specs.declared.event.Ending.TheVariants as ending
 use Rattle.pres_world.specs.declared.fault.WorldFault.{WorldFault}
 use Rattle.pres_world.specs.declared.fault.WorldFault.TheVariants as fault
 use Rattle.pres_world.specs.WorldClients.{handed_out, acknowledged, started_again}
-use Rattle.pres_world.specs.ServerSides.{ServerSideState, served, lost, open_on, IsRestarted}
+use Rattle.pres_world.specs.ServerSides.{ServerSideState, served, lost, open_on, checkpointed, IsRestarted}
 
 -- the clients with their ids, in byte order
 abbrev pub Clients : Type 0
@@ -41,7 +42,7 @@ joined clients id = put client_cmp id (start id 1) clients
 
 -- nothing happened so far
 abbrev pub new_world : List ClientId → World
-new_world ids = record { serving = record { server = Some blank; history = []; downs = [] }; clients = fold joined [] ids; ups = []; acks = [] }
+new_world ids = record { serving = record { server = Some blank; base = nothing; history = []; downs = [] }; clients = fold joined [] ids; ups = []; acks = [] }
 
 -- the client with the id is this one
 abbrev pub IsClient : World → ClientId → Client → Type 0
@@ -95,6 +96,7 @@ IsStep w (event.Loss id now) v = IsLoss w id now ending.Answered v
 IsStep w (event.Tick now) v = v ≡ record w { serving = served w.serving input.Tick now ending.Answered }
 IsStep w (event.RestartClient id) v = IsStart w id v
 IsStep w (event.RestartServer now) v = IsRestart w now v
+IsStep w event.Checkpoint v = v ≡ record w { serving = checkpointed w.serving }
 
 -- there is no such packet or client
 abbrev pub Lacks : World → Event → Type 0
@@ -105,6 +107,7 @@ Lacks w (event.Loss id now) = find client_cmp id w.clients ≡ None
 Lacks w (event.Tick now) = ⊥
 Lacks w (event.RestartClient id) = find client_cmp id w.clients ≡ None
 Lacks w (event.RestartServer now) = ⊥
+Lacks w event.Checkpoint = ⊥
 
 -- the client refuses the call
 abbrev pub Refuses : World → Event → ClientFault → Type 0

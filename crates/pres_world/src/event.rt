@@ -46,8 +46,11 @@ pub enum Event {
     RestartClient {
         client: ClientId,
     },
-    /// The server starts again, over the batches that were committed.
+    /// The server starts again, from the base that was kept last and the batches that were committed
+    /// since.
     RestartServer {
         now: Moment,
     },
+    /// The base of the server is kept, where it runs. Nothing else is changed, and nobody is told.
+    Checkpoint,
 }

@@ -6,7 +6,10 @@ ghost use Rattle.pres_log.specs.Logs.{Log};
 ghost use Rattle.pres_history.specs.LegalLog.{IsLegal};
 ghost use Rattle.pres_world.specs.Orderly.{CancelsStand, EndsStand, SessionsStand, WritesStand};
 ghost use Rattle.pres_world.specs.Safe.{Occurrence, StaysSafe};
+ghost use Rattle.pres_world.specs.ServerSides.{ServerSideState, ResumesItsHistory};
+ghost use Rattle.pres_world.specs.Unseen.{CheckpointsAreUnseen};
 ghost use Rattle.pres_world.specs.Worlds.{World};
+ghost use Rattle.pres_world.specs.declared.event.Event.{Event};
 
 /// In a legal log each write of a client stands once, in the order of the writes' numbers; the
 /// entries of a client stand in the order of its sessions; each session ends once, with all that is
@@ -26,4 +29,17 @@ pub fn legal_logs_are_orderly()
 pub fn worlds_stay_safe()
     ensures { (ids : List ClientId) (occurrences : List Occurrence) (v : World)
         → StaysSafe ids occurrences v }
+{}
+
+/// A server that is made from the base that was kept last and from the batches after it is that of
+/// all batches that were ever committed.
+pub fn servers_resume_their_history()
+    ensures { (w : ServerSideState) → ResumesItsHistory w }
+{}
+
+/// Checkpoints are never seen: events with checkpoints among them make the world that they make
+/// without these, but for the base that is kept.
+pub fn checkpoints_are_unseen()
+    ensures { (ids : List ClientId) (events : List Event) (v : World)
+        → CheckpointsAreUnseen ids events v }
 {}

@@ -1,54 +1,58 @@
 //! The server's part of a world.
 
-ghost use Rattle.std.specs.Prelude.{◌≡◌, ◌<◌, ◌⊎◌, ◌+◌, ◌++◌, ◌∷◌, [], ℕ, true, false, List, Some, None, IfOk, IfErr, OnOk, IfSome, IfNone, MatchOption, option_copied, option_map};
+ghost use Rattle.std.specs.Prelude.{◌≡◌, ◌<◌, ◌≤◌, ◌⊎◌, ◌+◌, ◌++◌, ◌∷◌, [], ℕ, true, false, List, length, Some, None, IfOk, IfErr, OnOk, IfSome, IfNone, MatchOption, option_copied, option_map};
 ghost use Rattle.pres_ids.specs.Ids.{ClientId};
 ghost use Rattle.pres_history.specs.ServerStates.{ServerState, blank};
 ghost use Rattle.pres_server.specs.ServerStates.{heard_from, first_client};
 ghost use Rattle.pres_history.specs.LegalLog.{IsLegal};
 ghost use Rattle.pres_server.specs.InternalParts.{session_with};
+ghost use Rattle.pres_server.specs.BaseSums.{sum_for};
 ghost use Rattle.pres_server.specs.Replays.{resumed};
-ghost use Rattle.pres_server.specs.Sums.{has_open_in, sum_of};
+ghost use Rattle.pres_server.specs.Sums.{has_open_in, nothing, sum_from, sum_of};
 ghost use Rattle.pres_server.specs.SumAnswers.{answers_by};
-ghost use Rattle.pres_server.specs.SumTurns.{after_commit};
+ghost use Rattle.pres_server.specs.SumTurns.{FollowAll, after_commit};
 ghost use Rattle.pres_server.specs.Turns.{makes, quiet};
 ghost use Rattle.pres_history.specs.Turns.{state_heard};
 ghost use Rattle.pres_server.specs.declared.input.Input.{Input};
 ghost use Rattle.pres_server.specs.declared.input.Input.TheVariants as input;
-ghost use Rattle.pres_world.specs.ServerSides.{ServerSideInvariant, HasLog, of_log, by_sum, fault_for, turned, served, lost, log_with, open_on, EndsAll, IsEndOf, IsRestarted};
+ghost use Rattle.pres_world.specs.ServerSides.{ServerSideInvariant, HasLog, of_log, by_sum, fault_for, turned, served, lost, log_with, open_on, checkpointed, resumed_in, EndsAll, IsEndOf, IsRestarted};
 ghost use Rattle.pres_world.specs.declared.fault.WorldFault.TheVariants.{Memory};
 
 use crate::event::Ending;
 use crate::fault::WorldFault;
 use pres_server::{
-    Batch, Busy, ClientId, Code, Down, Fault, Input, Moment, ReplayFault, Server, SessionId, Stamp,
-    Turn,
+    Base, Batch, Busy, ClientId, Code, Down, Fault, Input, Moment, Replay, ReplayFault, Server,
+    SessionId, Stamp, Turn,
 };
 use std::alloc::{AllocError, Global};
 use std::marker::Model;
 
-/// The server while it runs, the batches that were committed, and what went out. The server holds
-/// no batch: contracts see it as that of the batches here, of which it holds the sum.
+/// The server while it runs, the base that was kept last, all batches that were committed, and what
+/// went out. The server holds no batch: contracts see it as that of the batches here, of which it
+/// holds the sum. The base is that of the first batches.
 #[derive(Drop)]
 pub(crate) struct ServerSide {
     alloc: Global,
     server: Option<Server>,
+    base: Option<Base>,
     history: Vec<Batch>,
     downs: Vec<Down>,
 }
 
 impl Model for ServerSide {
     ghost use Rattle.std.specs.Prelude.{option_map};
-    ghost use Rattle.pres_world.specs.ServerSides.{ServerSideState, HoldsSum, of_log};
+    ghost use Rattle.pres_world.specs.ServerSides.{ServerSideState, HoldsSum, of_log, base_sum};
 
     ghost Value = { ServerSideState };
 
     ghost view = { λ s. record {
       server = option_map (of_log s.history.items) s.server;
+      base = base_sum s.base;
       history = s.history.items;
       downs = s.downs.items;
     } };
 
-    ghost invariant = { λ s. HoldsSum s.history.items s.server };
+    ghost invariant = { λ s. HoldsSum s.history.items (base_sum s.base) s.server };
 }
 
 // The session whose message the input is.
@@ -141,14 +145,50 @@ fn end_all(alloc: Global, server: Server, now: Moment) -> Result<(Server, Vec<Ba
     Ok((server, ended))
 }
 
+// A replay that begins at the base.
+fn begun_at(alloc: Global, base: &Base) -> Result<Replay, WorldFault>
+    ensures sum { IfOk result (λ replay. replay ≡ sum_for base.now) }
+    ensures refused { IfErr result (λ e. e ≡ Memory) }
+{
+    match Replay::resume(alloc, base.copy(alloc)?) {
+        Ok(replay) => Ok(replay),
+        Err(_) => Err(WorldFault::Memory),
+    }
+}
+
+// The server of the batches, which may follow those of the replay.
+fn finished(alloc: Global, mut replay: Replay, batches: &[Batch]) -> Result<Server, WorldFault>
+    requires { FollowAll replay batches.now }
+    ensures made { IfOk result (λ server. server ≡ resumed (sum_from replay batches.now)) }
+    ensures refused { IfErr result (λ e. e ≡ Memory) }
+{
+    for batch in batches {
+        let Ok(batch) = batch.copy(alloc) else {
+            drop(replay);
+            return Err(WorldFault::Memory);
+        };
+        match replay.add(batch) {
+            Ok(()) => {}
+            Err(ReplayFault::Memory) => {
+                drop(replay);
+                return Err(WorldFault::Memory);
+            }
+            Err(ReplayFault::NotLegal(_)) => unreachable!(),
+        }
+    }
+    Ok(replay.finish())
+}
+
 impl ServerSide {
     /// A server without batches.
     pub(crate) fn new(alloc: Global) -> ServerSide
-        ensures { result ≡ record { server = Some blank; history = []; downs = [] } }
+        ensures { result ≡ record
+            { server = Some blank; base = nothing; history = []; downs = [] } }
     {
         ServerSide {
             alloc,
             server: Some(Server::new(alloc)),
+            base: None,
             history: Vec::new(alloc),
             downs: Vec::new(alloc),
         }
@@ -183,7 +223,7 @@ impl ServerSide {
         requires sum { server.sum ≡ sum_of self.old.history }
         ensures { (s : ServerState) (moment : ℕ) (i : Input)
             → of_log self.old.history server ≡ state_heard s moment i
-            → self.new ≡ turned ending self.old.downs quiet s moment i }
+            → self.new ≡ turned ending self.old.base self.old.downs quiet s moment i }
     {
         match ending {
             Ending::Stopped => drop(server),
@@ -199,9 +239,8 @@ impl ServerSide {
         code: Code,
     ) -> Result<(), WorldFault>
         requires sum { server.sum ≡ sum_of self.old.history }
-        ensures ok { OnOk result (self.new ≡ record {
+        ensures ok { OnOk result (self.new ≡ record self.old {
           server = Some (of_log self.old.history server);
-          history = self.old.history;
           downs = self.old.downs ++ fault_for session code;
         }) }
         ensures err { IfErr result (λ e. (e ≡ Memory)
@@ -218,10 +257,9 @@ impl ServerSide {
     fn finish(&mut self, busy: Busy) -> Result<(), WorldFault>
         requires sum { (after_commit busy.state busy.moment busy.made).sum
             ≡ sum_of self.old.history }
-        ensures ok { OnOk result (self.new ≡ record {
+        ensures ok { OnOk result (self.new ≡ record self.old {
           server = Some (of_log self.old.history
               (after_commit busy.state busy.moment busy.made));
-          history = self.old.history;
           downs = self.old.downs ++ answers_by busy.state.sum busy.made;
         }) }
         ensures err { IfErr result (λ e. (e ≡ Memory) × (self.new ≡ self.old)) }
@@ -249,7 +287,7 @@ impl ServerSide {
         requires waits { self.old.server ≡ None }
         requires sum { busy.state.sum ≡ sum_of self.old.history }
         ensures ok { OnOk result ((i : Input) → session ≡ heard_from i → self.new
-            ≡ turned ending self.old.downs (makes busy.made)
+            ≡ turned ending self.old.base self.old.downs (makes busy.made)
             (of_log self.old.history busy.state) busy.moment i) }
         ensures err { IfErr result (λ e. (e ≡ Memory)
             × ((self.new ≡ record self.old
@@ -339,25 +377,60 @@ impl ServerSide {
         self.turn(Input::Lost(session), now, Ending::Answered)
     }
 
-    // The server that the committed batches make.
-    fn replayed(&self) -> Result<Server, WorldFault>
-        ensures made { IfOk result (λ server. server ≡ resumed (sum_of self.now.history)) }
+    /// The base of the server is kept, while it runs. Memory is the one refusal, and then nothing is
+    /// changed.
+    pub(crate) fn checkpoint(&mut self) -> Result<(), WorldFault>
+        ensures ok { OnOk result (self.new ≡ checkpointed self.old) }
+        ensures err { IfErr result (λ e. (e ≡ Memory) × (self.new ≡ self.old)) }
+    {
+        let Some(server) = &self.server else {
+            return Ok(());
+        };
+        let Ok(base) = server.base() else {
+            return Err(WorldFault::Memory);
+        };
+        drop(self.base.replace(base));
+        Ok(())
+    }
+
+    // A replay of the batches up to the kept base.
+    fn begun(&self) -> Result<Replay, WorldFault>
+        ensures sum { IfOk result (λ replay. replay ≡ self.now.base) }
         ensures refused { IfErr result (λ e. e ≡ Memory) }
     {
-        match Server::replay(self.alloc, self.history.as_slice()) {
-            Ok(server) => Ok(server),
-            Err(ReplayFault::Memory) => Err(WorldFault::Memory),
-            Err(ReplayFault::NotLegal(_)) => unreachable!(),
+        match &self.base {
+            None => Ok(Replay::new(self.alloc)),
+            Some(base) => begun_at(self.alloc, base),
         }
     }
 
-    /// The server starts again over the committed batches, and ends the sessions that are open.
-    /// Memory is the one refusal, and then nothing is changed.
+    // How many batches the kept base has.
+    fn base_count(&self) -> usize
+        ensures count { result ≡ self.now.base.batches }
+        ensures within { result ≤ length self.now.history }
+    {
+        match &self.base {
+            None => 0,
+            Some(base) => base.parts().batches.get() as usize,
+        }
+    }
+
+    // The server that the kept base and the batches after it make.
+    fn resumed(&self) -> Result<Server, WorldFault>
+        ensures made { IfOk result (λ server. server ≡ resumed_in self.now) }
+        ensures refused { IfErr result (λ e. e ≡ Memory) }
+    {
+        let replay = self.begun()?;
+        finished(self.alloc, replay, &self.history[self.base_count()..])
+    }
+
+    /// The server starts again from the kept base and the batches after it, and ends the sessions
+    /// that are open. Memory is the one refusal, and then nothing is changed.
     pub(crate) fn restart(&mut self, now: Moment) -> Result<(), WorldFault>
         ensures ok { OnOk result (IsRestarted self.old now self.new) }
         ensures err { IfErr result (λ e. (e ≡ Memory) × (self.new ≡ self.old)) }
     {
-        let server = self.replayed()?;
+        let server = self.resumed()?;
         let (server, mut ended) = end_all(self.alloc, server, now)?;
         if self.history.append(&mut ended).is_err() {
             drop(server);

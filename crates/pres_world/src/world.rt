@@ -201,6 +201,7 @@ impl World {
             Event::Tick { now } => self.serving.turn(Input::Tick, now, Ending::Answered),
             Event::RestartClient { client } => self.members.start_again(&client),
             Event::RestartServer { now } => self.serving.restart(now),
+            Event::Checkpoint => self.serving.checkpoint(),
         }
     }
 

@@ -1,4 +1,4 @@
-use Rattle.std.proofs.Common.{◌≡◌, ◌++◌, Some, map, ap, ◌∙◌, append-nil}
+use Rattle.std.proofs.Common.{◌++◌, Some, map, ap, ◌∙◌, append-nil}
 use Rattle.std.proofs.lemmas.List.{drop_all}
 use Rattle.pres_script.specs.Lines.{first_bad}
 use Rattle.pres_sim.specs.Scripts.{script_bytes, scripted}
