@@ -9,33 +9,33 @@ use Rattle.pres_wire.specs.declared.down.Down.{Down}
 use Rattle.pres_wire.specs.Messages.{session_for}
 use Rattle.pres_log.specs.declared.entry.Batch.{Batch}
 use Rattle.pres_log.specs.declared.entry.Entry.{Entry}
-use Rattle.pres_log.specs.Logs.{Log, entries}
-use Rattle.pres_log.proofs.Entries.{entries-push}
 use Rattle.pres_server.specs.declared.input.Input.TheVariants as input
-use Rattle.pres_history.specs.LegalLog.{IsLegal}
-use Rattle.pres_history.specs.Sessions.{opens, is_open}
-use Rattle.pres_history.specs.Streams.{answers}
 use Rattle.pres_server.specs.Turns.{Decision, refused, quiet, makes}
+use Rattle.pres_server.specs.Sums.{Sum, is_open_in, sum_with}
 use Rattle.pres_server.specs.SumStates.{SumState}
 use Rattle.pres_server.specs.SumAnswers.{answers_by}
-use Rattle.pres_server.specs.SumTurns.{turn_by, moment_by, batch_by, after_commit}
+use Rattle.pres_server.specs.SumTurns.{FollowsSum, turn_by, moment_by, batch_by, after_commit}
+use Rattle.pres_server.specs.Histories.{IsSum, History, with_batch}
 use Rattle.pres_server.proofs.Clients.{session_itself, session_same}
-use Rattle.pres_ring.specs.Transcripts.{transcript, names, those_for, is_gone, is_gone_for, BeginsTranscript, IsWelcome}
+use Rattle.pres_history.specs.Sessions.{opens}
+use Rattle.pres_history.proofs.Histories.{history_holds}
+use Rattle.pres_ring.specs.Transcripts.{names, those_for, is_gone, is_gone_for, IsWelcome}
+use Rattle.pres_ring.specs.HistoryTranscripts.{transcript_in, BeginsTranscriptIn}
 use Rattle.pres_ring.specs.RingEnds.{FeedState, OutboxState}
-use Rattle.pres_ring.specs.Laws.{IsWelcomed}
+use Rattle.pres_ring.specs.LawsByTheSum.{IsWelcomedIn}
 use Rattle.pres_ring.proofs.ForSession.{those-append}
-use Rattle.pres_ring.proofs.Answered.{answers_are_told}
-use Rattle.pres_ring.proofs.OpenAfter.{open_after}
-use Rattle.pres_ring.proofs.Turns.{only_hello_opens, hello_is_not_quiet}
-use Rattle.pres_ring.proofs.Welcomed.{hello_is_welcomed}
+use Rattle.pres_ring.proofs.BeginsIn.{told_front}
+use Rattle.pres_ring.proofs.HistoriesTell.{answers_extend, open_after}
+use Rattle.pres_ring.proofs.TurnsBy.{only_hello_opens, hello_is_not_quiet}
+use Rattle.pres_ring.proofs.WelcomedBy.{hello_is_welcomed}
 use Rattle.pres_ring.specs.Lines.{SessionLine, Lines, line_at, fed, kept_or_blank, ChangesAt}
 use Rattle.pres_ring.specs.Deliveries.{FitsTranscript, IsPut, LeavesOrIsPut, LineAfter, LineFits}
-use Rattle.pres_keeper.specs.Keepers.{MakesSum}
 use Rattle.pres_keeper.specs.Engines.{Runs}
-use Rattle.pres_keeper.specs.EngineTurns.{IsDone, IsTurnDone, log_made, log_turned}
-use Rattle.pres_dispatch.specs.Dispatches.{DispatcherState, CarriesTranscript, CarryTranscripts, StandsBehind, SomeStands, LastIsFor, LinesJoined, IsJoined}
-use Rattle.pres_dispatch.proofs.Behind.{of_log, legal_by, turns_by, made_by, leads_by, answers_are}
-use Rattle.pres_dispatch.proofs.Answered.{line_with, line_told, still_open}
+use Rattle.pres_keeper.specs.EngineTurns.{IsDone, IsTurnDone, history_made, history_turned}
+use Rattle.pres_dispatch.specs.Dispatches.{DispatcherState, Histories, CarriesTranscript, CarryTranscripts, StandsBehind, SomeStands, LastIsFor, LinesJoined, IsJoined}
+use Rattle.pres_dispatch.proofs.Behind.{follows_by, leads_by}
+use Rattle.pres_dispatch.proofs.Answered.{Told, fits_made, line_told}
+use Rattle.pres_dispatch.proofs.Standing.{told_by}
 
 and_false : (x : Bool) → (x && false) ≡ false
 and_false true = refl
@@ -91,22 +91,14 @@ fits_before t s ms w line after is other fits =
 
 -- ---- what is sent with further messages is sent without them
 
-part_told : (s : SessionId) (xs ys : List Down) → BeginsTranscript s (xs ++ ys) → BeginsTranscript s xs
-part_told s xs ys h = record {
-  log = h.log;
-  legal = h.legal;
-  opened = h.opened;
-  within = (ys ++ h.within.0, sym (append_assoc xs ys h.within.0) ∙ h.within.1);
-}
-
 pub told_before : (s : SessionId) (ms : List Down) (w : Down) (line : Option SessionLine) → FitsTranscript s (ms ++ w ∷ []) line → FitsTranscript s ms line
 told_before s ms w None h = tt
 told_before s ms w (Some l) h = by l.sent h where
-  by : (x : Option (List Down)) → IfSome x (λ sent. BeginsTranscript s (sent ++ those_for s (ms ++ w ∷ []))) → IfSome x (λ sent. BeginsTranscript s (sent ++ those_for s ms))
+  by : (x : Option (List Down)) → IfSome x (λ sent. BeginsTranscriptIn s (sent ++ those_for s (ms ++ w ∷ []))) → IfSome x (λ sent. BeginsTranscriptIn s (sent ++ those_for s ms))
   by None k = tt
   by (Some xs) k =
-      part_told s (xs ++ those_for s ms) (those_for s (w ∷ []))
-      (subst (BeginsTranscript s) (ap (λ l. xs ++ l) (those-append s ms (w ∷ [])) ∙ sym (append_assoc xs (those_for s ms) (those_for s (w ∷ [])))) k)
+      told_front s (xs ++ those_for s ms) (those_for s (w ∷ []))
+      (subst (BeginsTranscriptIn s) (ap (λ l. xs ++ l) (those-append s ms (w ∷ [])) ∙ sym (append_assoc xs (those_for s ms) (those_for s (w ∷ [])))) k)
 
 -- ---- the last of a list
 
@@ -137,84 +129,70 @@ same_parts (a ∷ xs) (b ∷ ys) x y e =
 
 -- ---- a Hello
 
-module _ (log : Log) (state : SumState) (leads : MakesSum log state.sum) (s : SessionId) (now : ℕ) (es : List Entry) (made_now : turn_by state (input.Up (up.Hello s)) now ≡ makes es) where
+module _ (history : History) (state : SumState) (lines : Lines) (told : Told history lines state) (s : SessionId) (now : ℕ) (es : List Entry) (made_now : turn_by state (input.Up (up.Hello s)) now ≡ makes es) where
   abbrev made_batch : Batch
   made_batch = batch_by state.sum (moment_by state.sum now) es
 
-  abbrev after_log : Log
-  after_log = log ++ made_batch ∷ []
+  abbrev later : History
+  later = with_batch history made_batch
+
+  abbrev sum_after : Sum
+  sum_after = sum_with state.sum made_batch
 
   abbrev said : List Down
   said = answers_by state.sum es
 
-  legal_after : IsLegal after_log
-  legal_after = legal_by after_log (after_commit state (moment_by state.sum now) es) (leads_by log state leads (input.Up (up.Hello s)) now es made_now)
+  summed : IsSum state.sum
+  summed = history_holds history state.sum told.leads
 
-  said_is : said ≡ answers (entries log) es
-  said_is = answers_are log state leads (input.Up (up.Hello s)) now es made_now
+  follows : FollowsSum state.sum made_batch
+  follows = follows_by state summed (input.Up (up.Hello s)) now es made_now
 
-  pub is_welcomed : IsWelcomed s (entries log) es
-  is_welcomed = hello_is_welcomed (of_log log state) s now es (legal_by log state leads) (made_by log state leads (input.Up (up.Hello s)) now es made_now)
+  pub is_welcomed : IsWelcomedIn s history state.sum made_batch
+  is_welcomed = hello_is_welcomed history state s now es told.closed told.leads made_now
 
   opened_now : (t : SessionId) → list_any (opens t) es ≡ same_session t s
-  opened_now t = only_hello_opens t (of_log log state) (input.Up (up.Hello s)) now es (made_by log state leads (input.Up (up.Hello s)) now es made_now)
-
-  told_whole : transcript s (entries after_log) ≡ is_welcomed.last ∷ []
-  told_whole = ap (transcript s) (entries-push log made_batch) ∙ is_welcomed.told_now
-
-  opened_after : list_any (opens s) (entries after_log) ≡ true
-  opened_after =
-      ap (list_any (opens s)) (entries-push log made_batch)
-      ∙ list_any-append (opens s) (entries log) es
-      ∙ ap (λ b. list_any (opens s) (entries log) || b) (opened_now s ∙ session_itself s)
-      ∙ or_true (list_any (opens s) (entries log))
+  opened_now t = only_hello_opens t state (input.Up (up.Hello s)) now es made_now
 
   pub last_is_for : LastIsFor s said
   last_is_for =
       let w = is_welcomed in
-      record {
-        others = w.others;
-        last = w.last;
-        parted = said_is ∙ w.answered;
-        welcome = w.welcome;
-        silent = w.silent;
-        told = record { log = after_log; legal = legal_after; opened = opened_after; within = ([], append-nil (w.last ∷ []) ∙ sym told_whole) };
-      }
+      record { others = w.others; last = w.last; parted = w.answered; welcome = w.welcome; silent = w.silent; told = w.begins }
 
-  told_other : (t : SessionId) → transcript t (entries after_log) ≡ transcript t (entries log) ++ those_for t said
-  told_other t = answers_are_told t log made_batch legal_after ∙ ap (λ ms. transcript t (entries log) ++ those_for t ms) (sym said_is)
+  told_other : (t : SessionId) → transcript_in t later ≡ transcript_in t history ++ those_for t said
+  told_other t = answers_extend t history state.sum made_batch told.leads follows
 
   -- no line was there for s, and there is a place for it now
-  pub told_with_place : (lines placed : Lines) → CarryTranscripts (entries log) lines → ChangesAt s kept_or_blank lines placed → (t : SessionId) → FitsTranscript t said (line_at t placed)
-  told_with_place lines placed told_before change t = by (same_session t s) refl (change t) where
+  pub told_with_place : (placed : Lines) → ChangesAt s kept_or_blank lines placed → (t : SessionId) → FitsTranscript t said (line_at t placed)
+  told_with_place placed change t = by (same_session t s) refl (change t) where
     by : (b : Bool) → same_session t s ≡ b → line_at t placed ≡ cond b (kept_or_blank (line_at t lines)) (line_at t lines) → FitsTranscript t said (line_at t placed)
-    by true k e = subst (FitsTranscript t said) (sym e) (own (line_at t lines) (told_before t)) where
-      own : (line : Option SessionLine) → CarriesTranscript (entries log) t line → FitsTranscript t said (kept_or_blank line)
+    by true k e = subst (FitsTranscript t said) (sym e) (own (line_at t lines) (told.carried t)) where
+      own : (line : Option SessionLine) → CarriesTranscript history state.sum t line → FitsTranscript t said (kept_or_blank line)
       own None h = tt
-      own (Some l) h = absurd (cc (h.0, ap (λ u. is_open u (entries log)) (session_same t s k), is_welcomed.closed))
-    by false k e =
-        subst (FitsTranscript t said) (sym e)
-        (line_with t (entries log) after_log said (line_at t lines) legal_after (told_other t) (still_open t log made_batch) (told_before t))
+      own (Some l) h = absurd (cc (h.0, ap (λ u. is_open_in u state.sum) (session_same t s k), is_welcomed.closed))
+    by false k e = subst (FitsTranscript t said) (sym e) (fits_made t history state.sum made_batch (line_at t lines) told.closed told.leads follows (told.carried t))
 
-  open_now : (t : SessionId) → is_open t (entries after_log) ≡ ((is_open t (entries log) && not (list_any (is_gone_for t) said)) || same_session t s)
-  open_now t = open_after t log made_batch legal_after ∙ (λ i. (is_open t (entries log) && not (list_any (is_gone_for t) (sym said_is i))) || opened_now t i)
+  open_now : (t : SessionId) → is_open_in t sum_after ≡ ((is_open_in t state.sum && not (list_any (is_gone_for t) said)) || same_session t s)
+  open_now t = open_after t state.sum made_batch summed follows ∙ ap (λ b. (is_open_in t state.sum && not (list_any (is_gone_for t) said)) || b) (opened_now t)
 
-  -- after the delivery, and with its own line, each line holds a beginning of a transcript
-  pub told_when_joined : (lines placed after : Lines) (end : OutboxState) → CarryTranscripts (entries log) lines → ChangesAt s kept_or_blank lines placed → LinesJoined s said placed after end → CarryTranscripts (entries after_log) after
-  told_when_joined lines placed after end told_before change joined t = by (same_session t s) refl (change t) where
+  -- after the delivery, and with its own line, each line holds a transcript
+  pub told_when_joined : (placed after : Lines) (end : OutboxState) → ChangesAt s kept_or_blank lines placed → LinesJoined s said placed after end → Told later after (after_commit state (moment_by state.sum now) es)
+  told_when_joined placed after end change joined = record { closed = told.closed; leads = leads_by history state told.leads (input.Up (up.Hello s)) now es made_now; carried = carried } where
     same : joined.last ≡ is_welcomed.last
-    same = (same_parts joined.earlier is_welcomed.others joined.last is_welcomed.last (sym joined.parted ∙ said_is ∙ is_welcomed.answered)).1
+    same = (same_parts joined.earlier is_welcomed.others joined.last is_welcomed.last (sym joined.parted ∙ is_welcomed.answered)).1
 
-    by : (b : Bool) → same_session t s ≡ b → line_at t placed ≡ cond b (kept_or_blank (line_at t lines)) (line_at t lines) → CarriesTranscript (entries after_log) t (line_at t after)
-    by true k e =
-        let is : t ≡ s = session_same t s k in
-        subst (λ u. CarriesTranscript (entries after_log) u (line_at u after)) (sym is)
-        (subst (CarriesTranscript (entries after_log) s) (sym joined.own)
-        (open_now s ∙ ap (λ b. (is_open s (entries log) && not (list_any (is_gone_for s) said)) || b) (session_itself s) ∙ or_true _, ap (λ m. m ∷ []) same ∙ sym told_whole))
-    by false k e =
-        line_told t (entries log) (entries after_log) said (line_at t lines) (line_at t after) (told_other t)
-        (open_now t ∙ ap (λ b. (is_open t (entries log) && not (list_any (is_gone_for t) said)) || b) k ∙ or_false _)
-        (told_before t) (subst (λ line. LineAfter t said line (line_at t after)) e (joined.others t k))
+    carried : CarryTranscripts later sum_after after
+    carried t = by (same_session t s) refl (change t) where
+      by : (b : Bool) → same_session t s ≡ b → line_at t placed ≡ cond b (kept_or_blank (line_at t lines)) (line_at t lines) → CarriesTranscript later sum_after t (line_at t after)
+      by true k e =
+          let is : t ≡ s = session_same t s k in
+          subst (λ u. CarriesTranscript later sum_after u (line_at u after)) (sym is)
+          (subst (CarriesTranscript later sum_after s) (sym joined.own)
+          (open_now s ∙ ap (λ b. (is_open_in s state.sum && not (list_any (is_gone_for s) said)) || b) (session_itself s) ∙ or_true _, ap (λ m. m ∷ []) same ∙ sym is_welcomed.told_now))
+      by false k e =
+          line_told t history later state.sum sum_after said (line_at t lines) (line_at t after) (told_other t)
+          (open_now t ∙ ap (λ b. (is_open_in t state.sum && not (list_any (is_gone_for t) said)) || b) k ∙ or_false _)
+          (told.carried t) (subst (λ line. LineAfter t said line (line_at t after)) e (joined.others t k))
 
 -- ---- the line that the session gets
 
@@ -243,42 +221,38 @@ record IsMade (old new : Option SumState) (s : SessionId) (now : ℕ) (outs : Li
   runs : new ≡ Some (after_commit state (moment_by state.sum now) es)
   answered : outs ≡ answers_by state.sum es
 
--- some log leads to the sum and explains the lines
-abbrev IsTold : Lines → SumState → Type 0
-IsTold lines state = (log : Log) × MakesSum log state.sum × CarryTranscripts (entries log) lines
+-- some history since a start leads to the sum, and the lines were put what it sends
+abbrev SomeTold : Lines → SumState → Type 0
+SomeTold lines state = (history : History) × Told history lines state
 
-is_told : {A : Type 0} (works : A → Type 0) (keeps : A → Log → Type 0) (held : DispatcherState A) (state : SumState) → held.run.server ≡ Some state → SomeStands works keeps held → IsTold held.lines state
-is_told works keeps held state ran stands =
-    let h = subst (Runs (λ st. (log : Log) × StandsBehind works keeps held st log)) ran stands in
-    (h.0, h.1.makes, h.1.told)
+some_told : {A : Type 0} (works : A → Type 0) (keeps : A → History → Type 0) (held : DispatcherState A) (state : SumState) → held.run.server ≡ Some state → SomeStands works keeps held → SomeTold held.lines state
+some_told works keeps held state ran stands =
+    let h = subst (Runs (λ st. (histories : Histories) × StandsBehind works keeps held st histories)) ran stands in
+    (h.0.since_start, told_by works keeps held state h.0 h.1)
 
--- it isn't passed over
-loud : (log : Log) (state : SumState) → MakesSum log state.sum → (s : SessionId) (now : ℕ) → turn_by state (input.Up (up.Hello s)) now ≡ quiet → ⊥
-loud log state leads s now k = hello_is_not_quiet (of_log log state) s now (sym (turns_by log state leads (input.Up (up.Hello s)) now) ∙ k)
-
-module _ {A : Type 0} (works : A → Type 0) (keeps : A → Log → Type 0) (held : DispatcherState A) (stands : SomeStands works keeps held) (new : Option SumState) (s : SessionId) (now : ℕ) (outs : List Down)
+module _ {A : Type 0} (works : A → Type 0) (keeps : A → History → Type 0) (held : DispatcherState A) (stands : SomeStands works keeps held) (new : Option SumState) (s : SessionId) (now : ℕ) (outs : List Down)
     (turned : IsTurnDone held.run.server (input.Up (up.Hello s)) now new outs) where
   made_here : IsMade held.run.server new s now outs
-  made_here = by held.run.server stands turned where
-    by : (o : Option SumState) → Runs (λ st. (log : Log) × StandsBehind works keeps held st log) o → IsTurnDone o (input.Up (up.Hello s)) now new outs → IsMade o new s now outs
-    by None h turned = absurd turned
-    by (Some state) h turned = on (turn_by state (input.Up (up.Hello s)) now) refl turned where
+  made_here = by held.run.server turned where
+    by : (o : Option SumState) → IsTurnDone o (input.Up (up.Hello s)) now new outs → IsMade o new s now outs
+    by None turned = absurd turned
+    by (Some state) turned = on (turn_by state (input.Up (up.Hello s)) now) refl turned where
       on : (d : Decision) → turn_by state (input.Up (up.Hello s)) now ≡ d → IsDone d state (moment_by state.sum now) (input.Up (up.Hello s)) new outs → IsMade (Some state) new s now outs
       on (refused f) k done = absurd done
-      on quiet k done = absurd (loud h.0 state h.1.makes s now k)
+      on quiet k done = absurd (hello_is_not_quiet state s now k)
       on (makes es) k done = record { state = state; es = es; ran = refl; turned = k; runs = done.0; answered = done.1 }
 
-  told_here : IsTold held.lines made_here.state
-  told_here = is_told works keeps held made_here.state made_here.ran stands
+  told_here : SomeTold held.lines made_here.state
+  told_here = some_told works keeps held made_here.state made_here.ran stands
 
   pub last_at : (opening : SessionId) → opening ≡ s → LastIsFor opening outs
   last_at opening is =
       subst (λ u. LastIsFor u outs) (sym is)
-      (subst (LastIsFor s) (sym made_here.answered) (last_is_for told_here.0 made_here.state told_here.1 s now made_here.es made_here.turned))
+      (subst (LastIsFor s) (sym made_here.answered) (last_is_for told_here.0 made_here.state held.lines told_here.1 s now made_here.es made_here.turned))
 
   module _ (placed : Lines) (change : ChangesAt s kept_or_blank held.lines placed) where
     pub told_at : (t : SessionId) → FitsTranscript t outs (line_at t placed)
-    told_at t = subst (λ ms. FitsTranscript t ms (line_at t placed)) (sym made_here.answered) (told_with_place told_here.0 made_here.state told_here.1 s now made_here.es made_here.turned held.lines placed told_here.2 change t)
+    told_at t = subst (λ ms. FitsTranscript t ms (line_at t placed)) (sym made_here.answered) (told_with_place told_here.0 made_here.state held.lines told_here.1 s now made_here.es made_here.turned placed change t)
 
     others_here : (t : SessionId) → same_session t s ≡ false → line_at t placed ≡ line_at t held.lines
     others_here t k = change t ∙ ap (λ b. cond b (kept_or_blank (line_at t held.lines)) (line_at t held.lines)) k
@@ -287,13 +261,14 @@ module _ {A : Type 0} (works : A → Type 0) (keeps : A → Log → Type 0) (hel
     joined_here : (opening : SessionId) → opening ≡ s → (after : Lines) (end : OutboxState) → LinesJoined opening outs placed after end → LinesJoined s (answers_by made_here.state.sum made_here.es) placed after end
     joined_here opening is after end joined = subst (λ ms. LinesJoined s ms placed after end) made_here.answered (subst (λ u. LinesJoined u outs placed after end) is joined)
 
-    -- if a log that stands explains them, so does the log with the batch of the Hello
-    pub kept_at : (log : Log) (opening : SessionId) → opening ≡ s → (after : Lines) (end : OutboxState) → LinesJoined opening outs placed after end
-        → Runs (λ st. StandsBehind works keeps held st log → CarryTranscripts (entries (log_turned log held.run.server (input.Up (up.Hello s)) now)) after) held.run.server
-    kept_at log opening is after end joined =
-        subst (λ o. Runs (λ st. StandsBehind works keeps held st log → CarryTranscripts (entries (log_turned log o (input.Up (up.Hello s)) now)) after) o) (sym made_here.ran)
-        (λ b. subst (λ d. CarryTranscripts (entries (log_made log made_here.state.sum (moment_by made_here.state.sum now) d)) after) (sym made_here.turned)
-        (told_when_joined log made_here.state b.makes s now made_here.es made_here.turned held.lines placed after end b.told change (joined_here opening is after end joined)))
+    -- if histories that stand explain them, so do those with the batch of the Hello
+    pub kept_at : (histories : Histories) (opening : SessionId) → opening ≡ s → (after : Lines) (end : OutboxState) → LinesJoined opening outs placed after end
+        → Runs (λ st. StandsBehind works keeps held st histories → Runs (Told (history_turned histories.since_start held.run.server (input.Up (up.Hello s)) now) after) new) held.run.server
+    kept_at histories opening is after end joined =
+        subst (λ o. Runs (λ st. StandsBehind works keeps held st histories → Runs (Told (history_turned histories.since_start o (input.Up (up.Hello s)) now) after) new) o) (sym made_here.ran)
+        (λ b. subst (Runs (Told (history_turned histories.since_start (Some made_here.state) (input.Up (up.Hello s)) now) after)) (sym made_here.runs)
+        (subst (λ d. Told (history_made histories.since_start made_here.state.sum (moment_by made_here.state.sum now) d) after (after_commit made_here.state (moment_by made_here.state.sum now) made_here.es)) (sym made_here.turned)
+        (told_when_joined histories.since_start made_here.state held.lines (told_by works keeps held made_here.state histories b) s now made_here.es made_here.turned placed after end change (joined_here opening is after end joined))))
 
     pub joined_at : (opening : SessionId) → opening ≡ s → (after : Lines) (end : OutboxState) → LinesJoined opening outs placed after end → IsJoined s now held.run.server new held.lines after end
     joined_at opening is after end joined =

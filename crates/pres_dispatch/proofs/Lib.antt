@@ -9,3 +9,4 @@ pub mod Growing
 pub mod Since
 pub mod Started
 pub mod Several
+pub mod WholeLogs

@@ -1,28 +1,20 @@
 -- Several turns, whose answers are put on the lines one turn after another.
-use Rattle.std.proofs.Common.{refl, sym, ◌∙◌, ap, subst, ◌≡◌, ℕ, ◌+◌, ◌<◌, ◌⊎◌, List, [], ◌∷◌, ◌++◌, length, length-append, map, suc, false, arith, Option, Some, None, Result, Ok, Err, OnOk}
+use Rattle.std.proofs.Common.{refl, sym, ◌∙◌, ap, subst, ◌≡◌, ℕ, ◌<◌, ◌⊎◌, List, [], ◌∷◌, ◌++◌, length, length-append, map, suc, false, arith, Option, Some, None, Ok, Err}
 use Rattle.std.specs.List.{flat_map, All}
-use Rattle.pres_ids.specs.declared.id.SessionId.{SessionId}
-use Rattle.pres_wire.specs.declared.down.Down.{Down}
-use Rattle.pres_log.specs.declared.entry.Entry.{Entry}
-use Rattle.pres_log.specs.Logs.{Log, entries}
 use Rattle.pres_server.specs.declared.input.Input.{Input}
-use Rattle.pres_server.specs.Turns.{Decision, refused, quiet, makes}
 use Rattle.pres_server.specs.SumStates.{SumState}
-use Rattle.pres_server.specs.Sums.{sum_with}
-use Rattle.pres_server.specs.SumTurns.{turn_by, moment_by, batch_by}
+use Rattle.pres_server.specs.Histories.{History, with_batches}
 use Rattle.pres_ring.specs.Lines.{Lines, line_at}
-use Rattle.pres_ring.specs.Deliveries.{LineAfter}
 use Rattle.pres_faults.specs.declared.engine_fault.EngineFault.{EngineFault}
 use Rattle.pres_faults.specs.declared.engine_fault.EngineFault.TheVariants as fault
-use Rattle.pres_keeper.specs.Keepers.{MakesSum}
-use Rattle.pres_keeper.specs.Engines.{EngineState, Runs, IsLogOf}
-use Rattle.pres_keeper.specs.EngineTurns.{IsDone, IsTurnDone, IsTurnRefused, log_made, log_turned, log_left}
-use Rattle.pres_keeper.specs.EngineGroups.{TurnResult, TurnPart, alone, unkept, gone, inputs_in, results_in, all_refused, IsTurnResult, IsPart, AreParts, AreTurns, KeepsOn, TurnsLead}
-use Rattle.pres_dispatch.specs.Dispatches.{DispatcherState, is_hello, CarryTranscripts, StandsBehind, Stands, SomeStands, StayMarked}
-use Rattle.pres_dispatch.specs.Groups.{ArePut, AreDelivered, MayDeliver, IsPartPut, ArePartsPut, AreTurned, log_part, log_parts, log_all, TurnsStand, turned_of}
-use Rattle.pres_dispatch.proofs.Behind.{legal_by, number_by, leads_by}
-use Rattle.pres_dispatch.proofs.Answered.{with_told, told_after}
-use Rattle.pres_dispatch.proofs.Standing.{some_there}
+use Rattle.pres_keeper.proofs.Nulls.{number_made}
+use Rattle.pres_keeper.specs.Engines.{EngineState, Runs, IsHistoryOf}
+use Rattle.pres_keeper.specs.EngineTurns.{IsTurnRefused, history_left}
+use Rattle.pres_keeper.specs.EngineGroups.{TurnResult, TurnPart, alone, unkept, gone, inputs_in, results_in, all_refused, IsPart, AreParts, AreTurns, KeepsOn, TurnsLead}
+use Rattle.pres_dispatch.specs.Dispatches.{DispatcherState, Histories, is_hello, StandsBehind, Stands, SomeStands, StayMarked}
+use Rattle.pres_dispatch.specs.Groups.{ArePut, AreDelivered, MayDeliver, IsPartPut, ArePartsPut, AreTurned, history_part, history_parts, history_all, histories_all, TurnsStand, turned_of}
+use Rattle.pres_dispatch.proofs.Answered.{Told, with_told, told_after}
+use Rattle.pres_dispatch.proofs.Standing.{told_by, some_there, from_some}
 use Rattle.pres_dispatch.proofs.Marks.{stay_same, stay_twice, stays_put}
 
 -- ---- what is put on the lines
@@ -79,83 +71,66 @@ plain_rest : (xs ys : List Input) → ArePlain (xs ++ ys) → ArePlain ys
 plain_rest [] ys plain = plain
 plain_rest (i ∷ xs) ys plain = plain_rest xs ys plain.1
 
--- ---- a log that leads to the sum, and explains the lines
-
-abbrev pub Told : Log → Lines → SumState → Type 0
-Told log lines s = MakesSum log s.sum × CarryTranscripts (entries log) lines
-
-done_told : (s : SumState) (b : Option SumState) (i : Input) (now : ℕ) (outs : List Down) (log : Log) (before after : Lines) → is_hello i ≡ false → Told log before s → IsTurnDone (Some s) i now b outs → ArePut outs before after
-    → Runs (Told (log_turned log (Some s) i now) after) b
-done_told s b i now outs log before after plain t done put = by (turn_by s i now) refl done where
-  later : Log
-  later = log_turned log (Some s) i now
-
-  told : CarryTranscripts (entries later) after
-  told = told_after log s t.0 now i plain b outs before t.1 done after put.0
-
-  by : (d : Decision) → turn_by s i now ≡ d → IsDone d s (moment_by s.sum now) i b outs → Runs (Told later after) b
-  by (refused f) k d = absurd d
-  by quiet k d = subst (Runs (Told later after)) (sym d.0) (subst (λ l. MakesSum l s.sum) (sym (ap (log_made log s.sum (moment_by s.sum now)) k)) t.0, told)
-  by (makes es) k d = subst (Runs (Told later after)) (sym d.0) (subst (λ l. MakesSum l (sum_with s.sum (batch_by s.sum (moment_by s.sum now) es))) (sym (ap (log_made log s.sum (moment_by s.sum now)) k)) (leads_by log s t.0 i now es k), told)
-
-refused_told : (a b : Option SumState) (i : Input) (now : ℕ) (f : EngineFault) (log : Log) (lines : Lines) → IsTurnRefused a i now b f → Runs (Told log lines) a → Runs (Told (log_left log a i now f) lines) b
-refused_told a b i now (fault.Refused f) log lines is t = subst (Runs (Told log lines)) (sym is.0) t
-refused_told a b i now fault.Memory log lines is t = subst (Runs (Told log lines)) (sym is.0) t
-refused_told a b i now (fault.Keeper f) log lines is t = subst (Runs (Told log lines)) (sym is.0) t
-refused_told a b i now fault.Down log lines is t = subst (Runs (Told (log_left log a i now fault.Down) lines)) (sym is.0) tt
-
 -- ---- a part
 
-part_may : (p : TurnPart) (now : ℕ) (a b : Option SumState) (log end : Log) (lines : Lines) → ArePlain (inputs_in p) → IsPart p now a log b end → Runs (Told log lines) a → MayDeliver (results_in p) lines
-part_may (alone i (Ok outs)) now None b log end lines plain is t = absurd is.0
-part_may (alone i (Ok outs)) now (Some s) b log end lines plain is t = (λ u. with_told log s t.0 now i plain.0 b outs lines t.1 is.0 u, λ after put. tt)
-part_may (alone i (Err f)) now a b log end lines plain is t = tt
-part_may (unkept inputs f) now a b log end lines plain is t = may_refused (fault.Keeper f) inputs lines
-part_may (gone inputs) now a b log end lines plain is t = may_refused fault.Down inputs lines
+refused_told : (a b : Option SumState) (i : Input) (now : ℕ) (f : EngineFault) (history : History) (lines : Lines) → IsTurnRefused a i now b f → Runs (Told history lines) a → Runs (Told (history_left history a i now f) lines) b
+refused_told a b i now (fault.Refused f) history lines is t = subst (Runs (Told history lines)) (sym is.0) t
+refused_told a b i now fault.Memory history lines is t = subst (Runs (Told history lines)) (sym is.0) t
+refused_told a b i now (fault.Keeper f) history lines is t = subst (Runs (Told history lines)) (sym is.0) t
+refused_told a b i now fault.Down history lines is t = subst (Runs (Told (history_left history a i now fault.Down) lines)) (sym is.0) tt
 
-part_told : (p : TurnPart) (now : ℕ) (a b : Option SumState) (log end : Log) (before after : Lines) → ArePlain (inputs_in p) → IsPart p now a log b end → Runs (Told log before) a → AreDelivered (results_in p) before after → Runs (Told end after) b
-part_told (alone i (Ok outs)) now None b log end before after plain is t d = absurd is.0
-part_told (alone i (Ok outs)) now (Some s) b log end before after plain is t d =
-    subst (λ l. Runs (Told l after) b) (sym is.1) (done_told s b i now outs log before after plain.0 t is.0 (subst (ArePut outs before) (sym d.2) d.1))
-part_told (alone i (Err f)) now a b log end before after plain is t d =
-    subst (λ l. Runs (Told l after) b) (sym is.1) (subst (λ x. Runs (Told (log_left log a i now f) x) b) (sym d) (refused_told a b i now f log before is.0 t))
-part_told (unkept inputs f) now a b log end before after plain is t d =
-    subst (λ l. Runs (Told l after) b) (sym is.4) (subst (Runs (Told log after)) (sym is.3) (subst (λ x. Runs (Told log x) a) (sym (same_refused (fault.Keeper f) inputs before after d)) t))
-part_told (gone inputs) now a b log end before after plain is t d = subst (Runs (Told end after)) (sym is.2) tt
+-- the answers of a part continue what was put on the lines
+part_may : (p : TurnPart) (now : ℕ) (a b : Option SumState) (kept end history : History) (lines : Lines) → ArePlain (inputs_in p) → IsPart p now a kept b end → Runs (Told history lines) a → MayDeliver (results_in p) lines
+part_may (alone i (Ok outs)) now None b kept end history lines plain is t = absurd is.0
+part_may (alone i (Ok outs)) now (Some s) b kept end history lines plain is t = (λ u. with_told history s lines t now i plain.0 b outs is.0 u, λ after put. tt)
+part_may (alone i (Err f)) now a b kept end history lines plain is t = tt
+part_may (unkept inputs f) now a b kept end history lines plain is t = may_refused (fault.Keeper f) inputs lines
+part_may (gone inputs) now a b kept end history lines plain is t = may_refused fault.Down inputs lines
 
-part_put : (p : TurnPart) (now : ℕ) (a b : Option SumState) (log end : Log) (before after : Lines) → IsPart p now a log b end → AreDelivered (results_in p) before after
-    → (put : IsPartPut p now a b before after) × (log_part log p now a b before after put ≡ end)
-part_put (alone i (Ok outs)) now a b log end before after is d = ((is.0, subst (ArePut outs before) (sym d.2) d.1), sym is.1)
-part_put (alone i (Err f)) now a b log end before after is d = ((is.0, d), sym is.1)
-part_put (unkept inputs f) now a b log end before after is d = ((is.0, is.1, is.2, is.3, same_refused (fault.Keeper f) inputs before after d), sym is.4)
-part_put (gone inputs) now a b log end before after is d = ((is.0, is.1, is.2, same_refused fault.Down inputs before after d), sym is.3)
+-- once they are put, the part did this to the server and the lines, and the kept history is the one after it
+part_put : (p : TurnPart) (now : ℕ) (a b : Option SumState) (kept end : History) (before after : Lines) → IsPart p now a kept b end → AreDelivered (results_in p) before after
+    → (put : IsPartPut p now a b before after) × (history_part kept p now a b before after put ≡ end)
+part_put (alone i (Ok outs)) now a b kept end before after is d = ((is.0, subst (ArePut outs before) (sym d.2) d.1), sym is.1)
+part_put (alone i (Err f)) now a b kept end before after is d = ((is.0, d), sym is.1)
+part_put (unkept inputs f) now a b kept end before after is d = ((is.0, is.1, is.2, is.3, same_refused (fault.Keeper f) inputs before after d), sym is.4)
+part_put (gone inputs) now a b kept end before after is d = ((is.0, is.1, is.2, same_refused fault.Down inputs before after d), sym is.3)
+
+-- and the history since the start tells the lines after it
+part_told : (p : TurnPart) (now : ℕ) (a b : Option SumState) (history : History) (before after : Lines) → ArePlain (inputs_in p) → (put : IsPartPut p now a b before after) → Runs (Told history before) a
+    → Runs (Told (history_part history p now a b before after put) after) b
+part_told (alone i (Ok outs)) now None b history before after plain put t = absurd put.0
+part_told (alone i (Ok outs)) now (Some s) b history before after plain put t = told_after history s before t now i plain.0 b outs put.0 after put.1.0
+part_told (alone i (Err f)) now a b history before after plain put t = subst (λ x. Runs (Told (history_left history a i now f) x) b) (sym put.1) (refused_told a b i now f history before put.0 t)
+part_told (unkept inputs f) now a b history before after plain put t = subst (Runs (Told history after)) (sym put.3) (subst (λ x. Runs (Told history x) a) (sym put.4) t)
+part_told (gone inputs) now a b history before after plain put t = subst (Runs (Told (with_batches history put.0) after)) (sym put.2) tt
 
 -- ---- one after another
 
-pub parts_may : (ps : List TurnPart) (now : ℕ) (a b : Option SumState) (log end : Log) (lines : Lines) → ArePlain (flat_map inputs_in ps) → AreParts ps now a log b end → Runs (Told log lines) a → MayDeliver (flat_map results_in ps) lines
-parts_may [] now a b log end lines plain lead t = tt
-parts_may (p ∷ ps) now a b log end lines plain lead t =
+pub parts_may : (ps : List TurnPart) (now : ℕ) (a b : Option SumState) (kept end history : History) (lines : Lines) → ArePlain (flat_map inputs_in ps) → AreParts ps now a kept b end → Runs (Told history lines) a → MayDeliver (flat_map results_in ps) lines
+parts_may [] now a b kept end history lines plain lead t = tt
+parts_may (p ∷ ps) now a b kept end history lines plain lead t =
     let first = plain_first (inputs_in p) (flat_map inputs_in ps) plain in
-    may_then (results_in p) (flat_map results_in ps) lines (part_may p now a lead.0 log lead.1 lines first lead.2 t)
-    (λ after d. parts_may ps now lead.0 b lead.1 end after (plain_rest (inputs_in p) (flat_map inputs_in ps) plain) lead.3 (part_told p now a lead.0 log lead.1 lines after first lead.2 t d))
+    may_then (results_in p) (flat_map results_in ps) lines (part_may p now a lead.0 kept lead.1 history lines first lead.2 t)
+    (λ after d.
+    let x = part_put p now a lead.0 kept lead.1 lines after lead.2 d in
+    parts_may ps now lead.0 b lead.1 end (history_part history p now a lead.0 lines after x.0) after (plain_rest (inputs_in p) (flat_map inputs_in ps) plain) lead.3
+    (part_told p now a lead.0 history lines after first x.0 t))
 
-pub parts_told : (ps : List TurnPart) (now : ℕ) (a b : Option SumState) (log end : Log) (before after : Lines) → ArePlain (flat_map inputs_in ps) → AreParts ps now a log b end → Runs (Told log before) a → AreDelivered (flat_map results_in ps) before after
-    → Runs (Told end after) b
-parts_told [] now a b log end before after plain lead t d =
-    subst (λ o. Runs (Told end after) o) (sym lead.0) (subst (λ l. Runs (Told l after) a) (sym lead.1) (subst (λ x. Runs (Told log x) a) (sym d) t))
-parts_told (p ∷ ps) now a b log end before after plain lead t d =
+pub parts_put : (ps : List TurnPart) (now : ℕ) (a b : Option SumState) (kept end : History) (before after : Lines) → AreParts ps now a kept b end → AreDelivered (flat_map results_in ps) before after
+    → (put : ArePartsPut ps now a b before after) × (history_parts kept ps now a b before after put ≡ end)
+parts_put [] now a b kept end before after lead d = ((lead.0, d), sym lead.1)
+parts_put (p ∷ ps) now a b kept end before after lead d =
     let k = delivered_parts (results_in p) (flat_map results_in ps) before after d in
-    parts_told ps now lead.0 b lead.1 end k.0 after (plain_rest (inputs_in p) (flat_map inputs_in ps) plain) lead.3
-    (part_told p now a lead.0 log lead.1 before k.0 (plain_first (inputs_in p) (flat_map inputs_in ps) plain) lead.2 t k.1) k.2
-
-pub parts_put : (ps : List TurnPart) (now : ℕ) (a b : Option SumState) (log end : Log) (before after : Lines) → AreParts ps now a log b end → AreDelivered (flat_map results_in ps) before after
-    → (put : ArePartsPut ps now a b before after) × (log_parts log ps now a b before after put ≡ end)
-parts_put [] now a b log end before after lead d = ((lead.0, d), sym lead.1)
-parts_put (p ∷ ps) now a b log end before after lead d =
-    let k = delivered_parts (results_in p) (flat_map results_in ps) before after d in
-    let x = part_put p now a lead.0 log lead.1 before k.0 lead.2 k.1 in
+    let x = part_put p now a lead.0 kept lead.1 before k.0 lead.2 k.1 in
     let y = parts_put ps now lead.0 b lead.1 end k.0 after lead.3 k.2 in
-    ((lead.0, k.0, x.0, y.0), ap (λ l. log_parts l ps now lead.0 b k.0 after y.0) x.1 ∙ y.1)
+    ((lead.0, k.0, x.0, y.0), ap (λ l. history_parts l ps now lead.0 b k.0 after y.0) x.1 ∙ y.1)
+
+pub parts_told : (ps : List TurnPart) (now : ℕ) (a b : Option SumState) (history : History) (before after : Lines) → ArePlain (flat_map inputs_in ps) → (put : ArePartsPut ps now a b before after) → Runs (Told history before) a
+    → Runs (Told (history_parts history ps now a b before after put) after) b
+parts_told [] now a b history before after plain put t = subst (Runs (Told history after)) (sym put.0) (subst (λ x. Runs (Told history x) a) (sym put.1) t)
+parts_told (p ∷ ps) now a b history before after plain put t =
+    parts_told ps now put.0 b (history_part history p now a put.0 before put.1 put.2) put.1 after (plain_rest (inputs_in p) (flat_map inputs_in ps) plain) put.3
+    (part_told p now a put.0 history before put.1 (plain_first (inputs_in p) (flat_map inputs_in ps) plain) put.2 t)
 
 -- ---- a server that is down stays down
 
@@ -196,94 +171,88 @@ parts_many (p ∷ ps) =
     let b = length-append (inputs_in p) (flat_map inputs_in ps) in
     omega arith
 
-pub turns_many : (inputs : List Input) (results : List TurnResult) (now : ℕ) (a b : Option SumState) (log end : Log) → AreTurns inputs results now a log b end → length results ≡ length inputs
-turns_many inputs results now a b log end turns = ap length turns.each ∙ parts_many turns.parts ∙ sym (ap length turns.in_order)
+pub turns_many : (inputs : List Input) (results : List TurnResult) (now : ℕ) (a b : Option SumState) (history end : History) → AreTurns inputs results now a history b end → length results ≡ length inputs
+turns_many inputs results now a b history end turns = ap length turns.each ∙ parts_many turns.parts ∙ sym (ap length turns.in_order)
 
 -- ---- the turns of an engine, whose answers were put on the lines
 
-module _ {A : Type 0} (works : A → Type 0) (keeps : A → Log → Type 0) (outlasts : A → Log → Type 0) (old : DispatcherState A) (engine : EngineState A) (inputs : List Input) (now : ℕ) (results : List TurnResult) (plain : ArePlain inputs)
-    (led : (log : Log) → IsLogOf log old.run.server → TurnsLead (KeepsOn works keeps outlasts old.run.keeper engine.keeper engine.server log) old.run.server log inputs now engine.server results) where
-  told_of : (log : Log) → Stands works keeps log old → Runs (Told log old.lines) old.run.server
-  told_of log stands = by old.run.server stands where
-    by : (o : Option SumState) → Runs (λ s. StandsBehind works keeps old s log) o → Runs (Told log old.lines) o
+module _ {A : Type 0} (works : A → Type 0) (keeps : A → History → Type 0) (outlasts : A → History → Type 0) (old : DispatcherState A) (engine : EngineState A) (inputs : List Input) (now : ℕ) (results : List TurnResult) (plain : ArePlain inputs)
+    (led : (history : History) → IsHistoryOf history old.run.server → TurnsLead (KeepsOn works keeps outlasts old.run.keeper engine.keeper engine.server history) old.run.server history inputs now engine.server results) where
+  told_of : (histories : Histories) → Stands works keeps histories old → Runs (Told histories.since_start old.lines) old.run.server
+  told_of histories stands = by old.run.server stands where
+    by : (o : Option SumState) → Runs (λ s. StandsBehind works keeps old s histories) o → Runs (Told histories.since_start old.lines) o
     by None h = tt
-    by (Some s) h = (h.makes, h.told)
+    by (Some s) h = told_by works keeps old s histories h
 
-  leads_of : (log : Log) → Stands works keeps log old → IsLogOf log old.run.server
-  leads_of log stands = by old.run.server stands where
-    by : (o : Option SumState) → Runs (λ s. StandsBehind works keeps old s log) o → IsLogOf log o
+  leads_of : (histories : Histories) → Stands works keeps histories old → IsHistoryOf histories.kept old.run.server
+  leads_of histories stands = by old.run.server stands where
+    by : (o : Option SumState) → Runs (λ s. StandsBehind works keeps old s histories) o → IsHistoryOf histories.kept o
     by None h = tt
-    by (Some s) h = h.makes
+    by (Some s) h = h.explains.kept
 
-  -- what follows from one log that stands
-  from_some : (P : Type 0) → ((log : Log) → Stands works keeps log old → P) → SomeStands works keeps old → P
-  from_some P f some = by old.run.server some f where
-    by : (o : Option SumState) → Runs (λ s. (log : Log) × StandsBehind works keeps old s log) o → ((log : Log) → Runs (λ s. StandsBehind works keeps old s log) o → P) → P
-    by None h f = f [] tt
-    by (Some s) h f = f h.0 h.1
-
-  plain_parts : (log : Log) (stands : Stands works keeps log old) → ArePlain (flat_map inputs_in (led log (leads_of log stands)).turns.parts)
-  plain_parts log stands = subst ArePlain (led log (leads_of log stands)).turns.in_order plain
+  lead_of : (histories : Histories) → Stands works keeps histories old
+      → TurnsLead (KeepsOn works keeps outlasts old.run.keeper engine.keeper engine.server histories.kept) old.run.server histories.kept inputs now engine.server results
+  lead_of histories stands = led histories.kept (leads_of histories stands)
 
   pub may_deliver : SomeStands works keeps old → MayDeliver results old.lines
-  may_deliver some = from_some (MayDeliver results old.lines) (λ log stands.
-      let l = led log (leads_of log stands) in
+  may_deliver some = from_some works keeps old (MayDeliver results old.lines) (λ histories stands.
+      let l = lead_of histories stands in
       subst (λ rs. MayDeliver rs old.lines) (sym l.turns.each)
-      (parts_may l.turns.parts now old.run.server engine.server log l.end old.lines (plain_parts log stands) l.turns.lead (told_of log stands))) some
+      (parts_may l.turns.parts now old.run.server engine.server histories.kept l.end histories.since_start old.lines (subst ArePlain l.turns.in_order plain) l.turns.lead (told_of histories stands))) some
 
   pub as_many : SomeStands works keeps old → length results ≡ length inputs
-  as_many some = from_some (length results ≡ length inputs) (λ log stands.
-      let l = led log (leads_of log stands) in
-      turns_many inputs results now old.run.server engine.server log l.end l.turns) some
+  as_many some = from_some works keeps old (length results ≡ length inputs) (λ histories stands.
+      let l = lead_of histories stands in
+      turns_many inputs results now old.run.server engine.server histories.kept l.end l.turns) some
 
   module _ (after : Lines) (delivered : AreDelivered results old.lines after) where
-    spread : (log : Log) (stands : Stands works keeps log old) → AreDelivered (flat_map results_in (led log (leads_of log stands)).turns.parts) old.lines after
-    spread log stands = subst (λ rs. AreDelivered rs old.lines after) (led log (leads_of log stands)).turns.each delivered
+    abbrev Turned : Type 0
+    Turned = AreTurned inputs (map turned_of results) now old.run.server engine.server old.lines after
 
-    turned_with : (log : Log) (stands : Stands works keeps log old)
-        → (all : AreTurned inputs (map turned_of results) now old.run.server engine.server old.lines after) × (log_all log all ≡ (led log (leads_of log stands)).end)
-    turned_with log stands =
-        let l = led log (leads_of log stands) in
-        let put = parts_put l.turns.parts now old.run.server engine.server log l.end old.lines after l.turns.lead (spread log stands) in
-        (record { parts = l.turns.parts; in_order = l.turns.in_order; each = ap (map turned_of) l.turns.each; put = put.0 }, put.1)
+    turned_with : (history end : History) → AreTurns inputs results now old.run.server history engine.server end → (all : Turned) × (history_all history all ≡ end)
+    turned_with history end turns =
+        let put = parts_put turns.parts now old.run.server engine.server history end old.lines after turns.lead (subst (λ rs. AreDelivered rs old.lines after) turns.each delivered) in
+        (record { parts = turns.parts; in_order = turns.in_order; each = ap (map turned_of) turns.each; put = put.0 }, put.1)
 
-    pub are_turned : SomeStands works keeps old → AreTurned inputs (map turned_of results) now old.run.server engine.server old.lines after
-    are_turned some = from_some (AreTurned inputs (map turned_of results) now old.run.server engine.server old.lines after) (λ log stands. (turned_with log stands).0) some
+    pub are_turned : SomeStands works keeps old → Turned
+    are_turned some = from_some works keeps old Turned (λ histories stands. let l = lead_of histories stands in (turned_with histories.kept l.end l.turns).0) some
 
     module _ (worked : works engine.keeper → works old.run.keeper) (counted : Runs (λ s. engine.number ≡ s.sum.number) engine.server) where
       abbrev pub turned_to : DispatcherState A
       turned_to = record { run = engine; lines = after }
 
-      pub turns_stand : (log : Log) → Stands works keeps log old → TurnsStand works keeps outlasts inputs now old turned_to log (map turned_of results)
-      turns_stand log stands = record {
+      pub turns_stand : (histories : Histories) → Stands works keeps histories old → TurnsStand works keeps outlasts inputs now old turned_to histories (map turned_of results)
+      turns_stand histories stands = record {
         all = t.0;
-        stands = subst (λ e. Stands works keeps e turned_to) (sym t.1) (over old.run.server engine.server stands told l.leads (none_parts t.0.parts now old.run.server engine.server old.lines after t.0.put) counted);
-        durable = subst (λ e. outlasts old.run.keeper log ⊎ (length log < length e) → Runs (λ _. outlasts engine.keeper e) engine.server) (sym t.1) (lasts old.run.server stands (none_parts t.0.parts now old.run.server engine.server old.lines after t.0.put));
+        stands = subst (λ e. Stands works keeps (record { kept = e; since_start = history_all histories.since_start t.0 }) turned_to) (sym t.1) (over old.run.server engine.server stands told l.leads down counted);
+        durable = subst (λ (e : History). outlasts old.run.keeper histories.kept ⊎ (length histories.kept.log < length e.log) → Runs (λ _. outlasts engine.keeper e) engine.server) (sym t.1) (lasts old.run.server stands down);
       } where
-        l : TurnsLead (KeepsOn works keeps outlasts old.run.keeper engine.keeper engine.server log) old.run.server log inputs now engine.server results
-        l = led log (leads_of log stands)
+        l : TurnsLead (KeepsOn works keeps outlasts old.run.keeper engine.keeper engine.server histories.kept) old.run.server histories.kept inputs now engine.server results
+        l = lead_of histories stands
 
-        t : (all : AreTurned inputs (map turned_of results) now old.run.server engine.server old.lines after) × (log_all log all ≡ l.end)
-        t = turned_with log stands
+        t : (all : Turned) × (history_all histories.kept all ≡ l.end)
+        t = turned_with histories.kept l.end l.turns
 
-        told : Runs (Told l.end after) engine.server
-        told = parts_told l.turns.parts now old.run.server engine.server log l.end old.lines after (plain_parts log stands) l.turns.lead (told_of log stands) (spread log stands)
+        told : Runs (Told (history_all histories.since_start t.0) after) engine.server
+        told = parts_told t.0.parts now old.run.server engine.server histories.since_start old.lines after (subst ArePlain t.0.in_order plain) t.0.put (told_of histories stands)
 
-        over : (o n : Option SumState) → Runs (λ s. StandsBehind works keeps old s log) o → Runs (Told l.end after) n → IsLogOf l.end n → (o ≡ None → n ≡ None) → Runs (λ s. engine.number ≡ s.sum.number) n
-            → Runs (λ s. StandsBehind works keeps turned_to s l.end) n
+        down : old.run.server ≡ None → engine.server ≡ None
+        down = none_parts t.0.parts now old.run.server engine.server old.lines after t.0.put
+
+        over : (o n : Option SumState) → Runs (λ s. StandsBehind works keeps old s histories) o → Runs (Told (history_all histories.since_start t.0) after) n → IsHistoryOf l.end n → (o ≡ None → n ≡ None)
+            → Runs (λ s. engine.number ≡ s.sum.number) n → Runs (λ s. StandsBehind works keeps turned_to s (record { kept = l.end; since_start = history_all histories.since_start t.0 })) n
         over o None h x leads down c = tt
         over None (Some s) h x leads down c = absurd (cc (down refl))
         over (Some s) (Some y) h x leads down c = record {
-          legal = legal_by l.end y leads;
-          makes = leads;
-          kept = λ w. l.held.kept w (h.kept (worked w));
-          counted = c ∙ number_by l.end y leads;
-          told = x.1;
+          explains = record { kept = leads; since_start = x.leads; closed = x.closed };
+          kept = record { held = λ w. l.held.kept w (h.kept.held (worked w)); counted = c ∙ number_made l.end y.sum leads };
+          told = x.carried;
         }
 
-        lasts : (o : Option SumState) → Runs (λ s. StandsBehind works keeps old s log) o → (o ≡ None → engine.server ≡ None) → outlasts old.run.keeper log ⊎ (length log < length l.end) → Runs (λ _. outlasts engine.keeper l.end) engine.server
+        lasts : (o : Option SumState) → Runs (λ s. StandsBehind works keeps old s histories) o → (o ≡ None → engine.server ≡ None) → outlasts old.run.keeper histories.kept ⊎ (length histories.kept.log < length l.end.log)
+            → Runs (λ _. outlasts engine.keeper l.end) engine.server
         lasts None h down k = subst (Runs (λ _. outlasts engine.keeper l.end)) (sym (down refl)) tt
-        lasts (Some s) h down k = l.held.durable h.kept k
+        lasts (Some s) h down k = l.held.durable h.kept.held k
 
       pub some_turned : SomeStands works keeps old → SomeStands works keeps turned_to
-      some_turned some = from_some (SomeStands works keeps turned_to) (λ log stands. some_there works keeps (log_all log (turns_stand log stands).all) turned_to (turns_stand log stands).stands) some
+      some_turned some = from_some works keeps old (SomeStands works keeps turned_to) (λ histories stands. let t = turns_stand histories stands in some_there works keeps (histories_all histories t.all) turned_to t.stands) some

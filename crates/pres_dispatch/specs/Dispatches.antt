@@ -6,27 +6,27 @@ use Rattle.pres_ids.specs.declared.id.Why.TheVariants as why
 use Rattle.pres_wire.specs.declared.up.Up.TheVariants as up
 use Rattle.pres_wire.specs.declared.down.Down.{Down}
 use Rattle.pres_log.specs.declared.entry.Entry.{Entry}
-use Rattle.pres_log.specs.Logs.{Log, entries, number}
+use Rattle.pres_log.specs.Logs.{Log}
 use Rattle.pres_server.specs.declared.input.Input.{Input}
 use Rattle.pres_server.specs.declared.input.Input.TheVariants as input
 use Rattle.pres_server.specs.ServerStates.{first_client}
-use Rattle.pres_history.specs.Sessions.{is_open}
-use Rattle.pres_history.specs.LegalLog.{IsLegal}
 use Rattle.pres_server.specs.Replays.{resumed}
 use Rattle.pres_server.specs.Turns.{makes}
-use Rattle.pres_server.specs.Sums.{is_open_in, sum_of}
+use Rattle.pres_server.specs.Sums.{Sum, is_open_in, sum_from}
+use Rattle.pres_server.specs.Histories.{History, LeadsTo, begun_at, with_batches}
 use Rattle.pres_server.specs.SumStates.{SumState}
 use Rattle.pres_server.specs.SumAnswers.{answers_by}
 use Rattle.pres_server.specs.SumTurns.{turn_by, moment_by, after_commit}
 use Rattle.pres_ids.specs.Ids.{ClientId, same_session}
 use Rattle.pres_ring.specs.RingEnds.{OutboxState}
-use Rattle.pres_ring.specs.Transcripts.{transcript, those_for, BeginsTranscript, IsWelcome}
+use Rattle.pres_ring.specs.Transcripts.{those_for, IsWelcome}
+use Rattle.pres_ring.specs.HistoryTranscripts.{IsClosed, transcript_in, BeginsTranscriptIn}
 use Rattle.pres_ring.specs.Lines.{SessionLine, Lines, line_at, is_slow, marked, IsFirstSlow, ChangesAt}
 use Rattle.pres_ring.specs.Deliveries.{LineAfter, LineFits}
 use Rattle.pres_faults.specs.declared.saved_fault.SavedFault.{SavedFault}
-use Rattle.pres_keeper.specs.Keepers.{Readable, IsNoServer, MakesSum}
+use Rattle.pres_keeper.specs.Keepers.{Readable, IsNoServer, number_in}
 use Rattle.pres_keeper.specs.Engines.{EngineState, Runs}
-use Rattle.pres_keeper.specs.EngineTurns.{IsTurnDone, IsTurnRefused, log_turned, log_left}
+use Rattle.pres_keeper.specs.EngineTurns.{IsTurnDone, IsTurnRefused, history_turned, history_left, history_checkpointed}
 use Rattle.pres_faults.specs.declared.engine_fault.EngineFault.{EngineFault}
 use Rattle.pres_faults.specs.declared.engine_fault.EngineFault.TheVariants as refusal
 
@@ -35,32 +35,74 @@ pub record DispatcherState (A : Type 0) : Type 0 where
   pub run : EngineState A
   pub lines : Lines
 
--- a line is an open session's, and what was put on it is a beginning of that session's transcript
-abbrev pub CarriesTranscript : List Entry → SessionId → Option SessionLine → Type 0
-CarriesTranscript es s None = is_open s es ≡ false
-CarriesTranscript es s (Some l) = (is_open s es ≡ true) × IfSome l.sent (λ sent. sent ≡ transcript s es)
+-- ---- where a server's sum comes from
+
+-- the history that the keeper keeps, and the one since the dispatcher's start, by which the transcripts of sessions are
+-- told
+pub record Histories : Type 0 where
+  pub kept : History
+  pub since_start : History
+
+-- both are changed so
+abbrev pub both : (History → History) → Histories → Histories
+both change histories = record { kept = change histories.kept; since_start = change histories.since_start }
+
+-- both with these batches more
+abbrev pub both_with : Histories → Log → Histories
+both_with histories later = both (λ history. with_batches history later) histories
+
+-- both lead to the sum, and at the start no session was open
+pub record Explains (histories : Histories) (sum : Sum) : Type 0 where
+  pub kept : LeadsTo histories.kept sum
+  pub since_start : LeadsTo histories.since_start sum
+  pub closed : IsClosed histories.since_start
+
+-- the sum to which a history's batches lead
+abbrev pub last_sum : History → Sum
+last_sum history = sum_from history.base history.log
+
+-- at a start the keeper keeps this history, and there are no batches since
+abbrev pub started_with : History → Histories
+started_with history = record { kept = history; since_start = begun_at (last_sum history) }
+
+-- with the batch of the turn that the input asks for
+abbrev pub histories_turned : Histories → Option SumState → Input → ℕ → Histories
+histories_turned histories old input now = both (λ history. history_turned history old input now) histories
+
+-- A checkpoint changes what is kept alone.
+abbrev pub histories_checkpointed : Histories → Option SumState → Option ℕ → Histories
+histories_checkpointed histories server number = record { kept = history_checkpointed histories.kept server number; since_start = histories.since_start }
+
+-- ---- a server and its lines
+
+-- a line is an open session's, and what was put on it is that session's transcript
+abbrev pub CarriesTranscript : History → Sum → SessionId → Option SessionLine → Type 0
+CarriesTranscript history sum s None = is_open_in s sum ≡ false
+CarriesTranscript history sum s (Some l) = (is_open_in s sum ≡ true) × IfSome l.sent (λ sent. sent ≡ transcript_in s history)
 
 -- the lines are those of the open sessions
-abbrev pub CarryTranscripts : List Entry → Lines → Type 0
-CarryTranscripts es lines = (s : SessionId) → CarriesTranscript es s (line_at s lines)
+abbrev pub CarryTranscripts : History → Sum → Lines → Type 0
+CarryTranscripts history sum lines = (s : SessionId) → CarriesTranscript history sum s (line_at s lines)
 
--- The log that explains a server and its lines: it is legal and leads to the server's sum, the keeper holds it as long
--- as the keeper works, it has as many entries as were answered, and what was put on each line is what it sends to that
--- line's session.
-pub record StandsBehind {A : Type 0} (works : A → Type 0) (keeps : A → Log → Type 0) (held : DispatcherState A) (s : SumState) (log : Log) : Type 0 where
-  pub legal : IsLegal log
-  pub makes : MakesSum log s.sum
-  pub kept : works held.run.keeper → keeps held.run.keeper log
-  pub counted : held.run.number ≡ number log
-  pub told : CarryTranscripts (entries log) held.lines
+-- the keeper keeps the history as long as it works, which has as many entries as were answered
+pub record IsKept {A : Type 0} (works : A → Type 0) (keeps : A → History → Type 0) (run : EngineState A) (history : History) : Type 0 where
+  pub held : works run.keeper → keeps run.keeper history
+  pub counted : run.number ≡ number_in history
 
--- while the server runs, this log does
-abbrev pub Stands : {A : Type 0} → (A → Type 0) → (A → Log → Type 0) → Log → DispatcherState A → Type 0
-Stands works keeps log held = Runs (λ s. StandsBehind works keeps held s log) held.run.server
+-- The histories that explain a server and its lines: both lead to the server's sum, the keeper keeps the one as long as it
+-- works, and what was put on each line is what the other sends to that line's session.
+pub record StandsBehind {A : Type 0} (works : A → Type 0) (keeps : A → History → Type 0) (held : DispatcherState A) (s : SumState) (histories : Histories) : Type 0 where
+  pub explains : Explains histories s.sum
+  pub kept : IsKept works keeps held.run histories.kept
+  pub told : CarryTranscripts histories.since_start s.sum held.lines
 
--- while it runs, some log does
-abbrev pub SomeStands : {A : Type 0} → (A → Type 0) → (A → Log → Type 0) → DispatcherState A → Type 0
-SomeStands works keeps held = Runs (λ s. (log : Log) × StandsBehind works keeps held s log) held.run.server
+-- while the server runs, these histories do
+abbrev pub Stands : {A : Type 0} → (A → Type 0) → (A → History → Type 0) → Histories → DispatcherState A → Type 0
+Stands works keeps histories held = Runs (λ s. StandsBehind works keeps held s histories) held.run.server
+
+-- while it runs, some do
+abbrev pub SomeStands : {A : Type 0} → (A → Type 0) → (A → History → Type 0) → DispatcherState A → Type 0
+SomeStands works keeps held = Runs (λ s. (histories : Histories) × StandsBehind works keeps held s histories) held.run.server
 
 -- each line whose messages were given up is marked
 abbrev pub NoneSlow : Lines → Type 0
@@ -103,7 +145,7 @@ pub record LastIsFor (s : SessionId) (ms : List Down) : Type 0 where
   pub parted : ms ≡ others ++ last ∷ []
   pub welcome : IsWelcome s last
   pub silent : those_for s others ≡ []
-  pub told : BeginsTranscript s (last ∷ [])
+  pub told : BeginsTranscriptIn s (last ∷ [])
 
 -- the line of s has the last of these messages, which the outbox gives first, and the other lines were put theirs
 pub record LinesJoined (s : SessionId) (ms : List Down) (before after : Lines) (end : OutboxState) : Type 0 where
@@ -150,19 +192,22 @@ pub record AreEnded (now : ℕ) (old new : Option SumState) (before after : Line
   pub sessions : List SessionId
   pub ends : EndsSlow now sessions old new before after
 
--- the log after an end that is answered, or after one that isn't
-abbrev pub log_if : {A B : Type 0} → A ⊎ B → Log → Log → Log
-log_if (inl answered) made same = made
-log_if (inr unanswered) made same = same
+-- the history after an end that is answered, or after one that isn't
+abbrev pub history_if : {A B : Type 0} → A ⊎ B → History → History → History
+history_if (inl answered) made same = made
+history_if (inr unanswered) made same = same
 
--- the log after these ends, one after the other
-abbrev pub log_slow : Log → (now : ℕ) (ss : List SessionId) (old new : Option SumState) (before after : Lines) → EndsSlow now ss old new before after → Log
-log_slow log now [] old new before after ends = log
-log_slow log now (s ∷ ss) old new before after ends =
-    log_slow (log_if ends.2.ended (log_turned log old (input.Slow s) now) log) now ss ends.0 new ends.1 after ends.3
+-- the history after these ends, one after the other
+abbrev pub history_slow : History → (now : ℕ) (ss : List SessionId) (old new : Option SumState) (before after : Lines) → EndsSlow now ss old new before after → History
+history_slow history now [] old new before after ends = history
+history_slow history now (s ∷ ss) old new before after ends =
+    history_slow (history_if ends.2.ended (history_turned history old (input.Slow s) now) history) now ss ends.0 new ends.1 after ends.3
 
-abbrev pub log_ended : {now : ℕ} {old new : Option SumState} {before after : Lines} → Log → AreEnded now old new before after → Log
-log_ended {now} {old} {new} {before} {after} log ended = log_slow log now ended.sessions old new before after ended.ends
+abbrev pub history_ended : {now : ℕ} {old new : Option SumState} {before after : Lines} → History → AreEnded now old new before after → History
+history_ended {now} {old} {new} {before} {after} history ended = history_slow history now ended.sessions old new before after ended.ends
+
+abbrev pub histories_ended : {now : ℕ} {old new : Option SumState} {before after : Lines} → Histories → AreEnded now old new before after → Histories
+histories_ended histories ended = both (λ history. history_ended history ended) histories
 
 -- ---- the start
 
@@ -178,35 +223,35 @@ pub record AreRestarted (now : ℕ) (old new : Option SumState) : Type 0 where
   pub clients : List ClientId
   pub ends : EndsAtStart now clients old new
 
--- the log after these ends
-abbrev pub log_at_start : Log → (now : ℕ) (cs : List ClientId) (old new : Option SumState) → EndsAtStart now cs old new → Log
-log_at_start log now [] old new ends = log
-log_at_start log now (c ∷ cs) None new ends = log
-log_at_start log now (c ∷ cs) (Some s) new ends =
-    log_at_start (log_turned log (Some s) (input.Restart c) now) now cs (Some (after_commit s (moment_by s.sum now) ends.1)) new ends.3
+-- the history after these ends
+abbrev pub history_at_start : History → (now : ℕ) (cs : List ClientId) (old new : Option SumState) → EndsAtStart now cs old new → History
+history_at_start history now [] old new ends = history
+history_at_start history now (c ∷ cs) None new ends = history
+history_at_start history now (c ∷ cs) (Some s) new ends =
+    history_at_start (history_turned history (Some s) (input.Restart c) now) now cs (Some (after_commit s (moment_by s.sum now) ends.1)) new ends.3
 
-abbrev pub log_restarted : {now : ℕ} {old new : Option SumState} → Log → AreRestarted now old new → Log
-log_restarted {now} {old} {new} log ended = log_at_start log now ended.clients old new ended.ends
+abbrev pub history_restarted : {now : ℕ} {old new : Option SumState} → History → AreRestarted now old new → History
+history_restarted {now} {old} {new} history ended = history_at_start history now ended.clients old new ended.ends
 
 -- no client is handed out: there is no server, or memory is refused for the first one that has a session open
 abbrev pub IsNoClient : Option SumState → EngineFault → Type 0
 IsNoClient None e = e ≡ refusal.Down
 IsNoClient (Some s) e = (e ≡ refusal.Memory) × (c : ClientId) × (first_client s.heard ≡ Some c)
 
--- A start over this log stops at the first client in byte order that has a session open, whose end isn't answered. The
+-- A start over this history stops at the first client in byte order that has a session open, whose end isn't answered. The
 -- ends before it stand and are kept, and so is this one where the server went down after its commit.
-pub record StopsAtStart (keeps : Log → Type 0) (now : ℕ) (log : Log) (old : Option SumState) (e : EngineFault) : Type 0 where
+pub record StopsAtStart (keeps : History → Type 0) (now : ℕ) (history : History) (old : Option SumState) (e : EngineFault) : Type 0 where
   pub middle : Option SumState
   pub ended : AreRestarted now old middle
   pub client : ClientId
   pub first : Runs (λ s. first_client s.heard ≡ Some client) middle
   pub new : Option SumState
   pub refused : IsNotAnswered middle (input.Restart client) now new e
-  pub kept : keeps (log_left (log_restarted log ended) middle (input.Restart client) now e)
+  pub kept : keeps (history_left (history_restarted history ended) middle (input.Restart client) now e)
 
--- A start is refused: no server is made of what can be read of the keeper, which keeps its log, if it holds one; or one is
--- made of the sum of that log, and the start stops at a client.
-abbrev pub IsNotStarted : Readable → (Log → Type 0) → (Log → Type 0) → ℕ → EngineFault → Type 0
+-- A start is refused: no server is made of what can be read of the keeper, which keeps its history, if it holds one; or one
+-- is made of the sum of that history, and the start stops at a client.
+abbrev pub IsNotStarted : Readable → (History → Type 0) → (History → Type 0) → ℕ → EngineFault → Type 0
 IsNotStarted held kept keeps now e =
-    ((f : SavedFault) × (e ≡ refusal.Keeper f) × IsNoServer held f × ((log : Log) → kept log → keeps log))
-    ⊎ ((log : Log) × ((other : Log) → kept other → log ≡ other) × StopsAtStart keeps now log (Some (resumed (sum_of log))) e)
+    ((f : SavedFault) × (e ≡ refusal.Keeper f) × IsNoServer held f × ((history : History) → kept history → keeps history))
+    ⊎ ((history : History) × ((other : History) → kept other → history ≡ other) × StopsAtStart keeps now history (Some (resumed (last_sum history))) e)

@@ -1,10 +1,11 @@
 -- What the turns of several inputs do to a server and its lines, one after another.
-use Rattle.std.specs.Prelude.{◌≡◌, ◌⊎◌, ◌<◌, ℕ, Bool, true, false, List, [], ◌∷◌, ◌++◌, map, length, Option, None, Result, Ok, Err}
+use Rattle.std.specs.Prelude.{◌≡◌, ◌⊎◌, ◌<◌, ℕ, Bool, true, false, List, [], ◌∷◌, map, length, Option, None, Result, Ok, Err}
 use Rattle.std.specs.List.{flat_map}
 use Rattle.pres_ids.specs.declared.id.SessionId.{SessionId}
 use Rattle.pres_wire.specs.declared.down.Down.{Down}
 use Rattle.pres_log.specs.Logs.{Log}
 use Rattle.pres_server.specs.declared.input.Input.{Input}
+use Rattle.pres_server.specs.Histories.{History, with_batches}
 use Rattle.pres_server.specs.SumStates.{SumState}
 use Rattle.pres_ring.specs.Lines.{Lines, line_at}
 use Rattle.pres_ring.specs.Deliveries.{FitsTranscript, LineAfter, LineFits}
@@ -12,8 +13,8 @@ use Rattle.pres_faults.specs.declared.engine_fault.EngineFault.{EngineFault}
 use Rattle.pres_keeper.specs.Keepers.{IsOfStore}
 use Rattle.pres_keeper.specs.Engines.{Runs}
 use Rattle.pres_keeper.specs.EngineTurns.{IsTurnDone, IsTurnRefused}
-use Rattle.pres_keeper.specs.EngineGroups.{TurnResult, TurnPart, alone, unkept, gone, inputs_in, results_in, log_after, WouldMake}
-use Rattle.pres_dispatch.specs.Dispatches.{DispatcherState, Stands}
+use Rattle.pres_keeper.specs.EngineGroups.{TurnResult, TurnPart, alone, unkept, gone, inputs_in, results_in, history_after, WouldMake}
+use Rattle.pres_dispatch.specs.Dispatches.{DispatcherState, Histories, both, Stands}
 
 -- whether a turn answers anything, or why it isn't done
 abbrev pub Turned : Type 0
@@ -71,26 +72,29 @@ pub record AreTurned (inputs : List Input) (turned : List Turned) (now : ℕ) (o
   pub each : turned ≡ map turned_of (flat_map results_in parts)
   pub put : ArePartsPut parts now old new before after
 
--- ---- the log after them
+-- ---- the history after them
 
-abbrev pub log_part : Log → (part : TurnPart) (now : ℕ) (old new : Option SumState) (before after : Lines) → IsPartPut part now old new before after → Log
-log_part log (alone input (Ok outs)) now old new before after put = log_after log old input now (Ok outs)
-log_part log (alone input (Err f)) now old new before after put = log_after log old input now (Err f)
-log_part log (unkept inputs fault) now old new before after put = log
-log_part log (gone inputs) now old new before after put = log ++ put.0
+abbrev pub history_part : History → (part : TurnPart) (now : ℕ) (old new : Option SumState) (before after : Lines) → IsPartPut part now old new before after → History
+history_part history (alone input (Ok outs)) now old new before after put = history_after history old input now (Ok outs)
+history_part history (alone input (Err f)) now old new before after put = history_after history old input now (Err f)
+history_part history (unkept inputs fault) now old new before after put = history
+history_part history (gone inputs) now old new before after put = with_batches history put.0
 
-abbrev pub log_parts : Log → (parts : List TurnPart) (now : ℕ) (old new : Option SumState) (before after : Lines) → ArePartsPut parts now old new before after → Log
-log_parts log [] now old new before after put = log
-log_parts log (part ∷ later) now old new before after put =
-    log_parts (log_part log part now old put.0 before put.1 put.2) later now put.0 new put.1 after put.3
+abbrev pub history_parts : History → (parts : List TurnPart) (now : ℕ) (old new : Option SumState) (before after : Lines) → ArePartsPut parts now old new before after → History
+history_parts history [] now old new before after put = history
+history_parts history (part ∷ later) now old new before after put =
+    history_parts (history_part history part now old put.0 before put.1 put.2) later now put.0 new put.1 after put.3
 
--- the log after a turn each: with the batches of those that are kept
-abbrev pub log_all : {inputs : List Input} {turned : List Turned} {now : ℕ} {old new : Option SumState} {before after : Lines} → Log → AreTurned inputs turned now old new before after → Log
-log_all {inputs} {turned} {now} {old} {new} {before} {after} log all = log_parts log all.parts now old new before after all.put
+-- the history after a turn each: with the batches of those that are kept
+abbrev pub history_all : {inputs : List Input} {turned : List Turned} {now : ℕ} {old new : Option SumState} {before after : Lines} → History → AreTurned inputs turned now old new before after → History
+history_all {inputs} {turned} {now} {old} {new} {before} {after} history all = history_parts history all.parts now old new before after all.put
 
--- The log after the turns stands. What it was that a crash leaves, or what was made since, outlasts the next crash, but
--- for a server that went down.
-pub record TurnsStand {A : Type 0} (works : A → Type 0) (keeps : A → Log → Type 0) (outlasts : A → Log → Type 0) (inputs : List Input) (now : ℕ) (old new : DispatcherState A) (log : Log) (turned : List Turned) : Type 0 where
+abbrev pub histories_all : {inputs : List Input} {turned : List Turned} {now : ℕ} {old new : Option SumState} {before after : Lines} → Histories → AreTurned inputs turned now old new before after → Histories
+histories_all histories all = both (λ history. history_all history all) histories
+
+-- The histories after the turns stand. What it was that a crash leaves, or what was made since, outlasts the next crash,
+-- but for a server that went down.
+pub record TurnsStand {A : Type 0} (works : A → Type 0) (keeps : A → History → Type 0) (outlasts : A → History → Type 0) (inputs : List Input) (now : ℕ) (old new : DispatcherState A) (histories : Histories) (turned : List Turned) : Type 0 where
   pub all : AreTurned inputs turned now old.run.server new.run.server old.lines new.lines
-  pub stands : Stands works keeps (log_all log all) new
-  pub durable : outlasts old.run.keeper log ⊎ (length log < length (log_all log all)) → Runs (λ _. outlasts new.run.keeper (log_all log all)) new.run.server
+  pub stands : Stands works keeps (histories_all histories all) new
+  pub durable : outlasts old.run.keeper histories.kept ⊎ (length histories.kept.log < length (history_all histories.kept all).log) → Runs (λ _. outlasts new.run.keeper (history_all histories.kept all)) new.run.server

@@ -1,2 +1,3 @@
 pub mod Dispatches
 pub mod Groups
+pub mod Laws

@@ -1,22 +1,21 @@
 //! An engine with the lines of its sessions.
 
-ghost use Rattle.std.specs.Prelude.{◌≡◌, ◌≤◌, ◌<◌, ◌+◌, ◌++◌, ◌∷◌, [], map, length, All, vec_len, vec_capacity, true, false, is_some, Some, None, IfOk, IfErr, IfSome, IfNone, OnOk, OnErr, MatchResult, option_copied, option_map};
+ghost use Rattle.std.specs.Prelude.{◌≡◌, ◌⊎◌, ◌≤◌, ◌<◌, ◌+◌, ◌++◌, ◌∷◌, [], map, length, All, vec_len, vec_capacity, true, false, is_some, Some, None, IfOk, IfErr, IfSome, IfNone, OnOk, OnErr, MatchResult, option_copied, option_map};
 ghost use Rattle.pres_ids.specs.declared.id.SessionId.{SessionId};
-ghost use Rattle.pres_log.specs.Logs.{Log};
 ghost use Rattle.pres_server.specs.declared.input.Input.TheVariants.{Up as Message};
 ghost use Rattle.pres_wire.specs.declared.up.Up.TheVariants.{Hello};
 ghost use Rattle.pres_server.specs.Replays.{resumed};
-ghost use Rattle.pres_server.specs.Histories.{IsSum};
-ghost use Rattle.pres_server.specs.Sums.{is_open_in, has_open_in, sum_of};
+ghost use Rattle.pres_server.specs.Histories.{IsSum, History, begun_at};
+ghost use Rattle.pres_server.specs.Sums.{is_open_in, has_open_in};
 ghost use Rattle.pres_server.specs.ServerStates.{first_client};
 ghost use Rattle.pres_ids.specs.declared.id.Why.TheVariants.{Slow};
 ghost use Rattle.pres_ring.specs.Lines.{line_at, has_line, unmarked, first_slow, first_marked, marked, struck, IsFirstSlow, IsFirstMarked, ChangesAt};
 ghost use Rattle.pres_ring.specs.Deliveries.{FitsTranscript};
-ghost use Rattle.pres_keeper.specs.Keepers.{SomeLog};
-ghost use Rattle.pres_keeper.specs.Engines.{Runs, IsLogOf};
-ghost use Rattle.pres_keeper.specs.EngineTurns.{IsTurnRefused, MakesBatch, log_turned};
+ghost use Rattle.pres_keeper.specs.Keepers.{Readable, whole};
+ghost use Rattle.pres_keeper.specs.Engines.{Runs, IsHistoryOf};
+ghost use Rattle.pres_keeper.specs.EngineTurns.{IsTurnRefused, MakesBatch, IsCheckpointed, IsNotCheckpointed, history_turned};
 ghost use Rattle.pres_dispatch.specs.Groups.{MayDeliver, AreDelivered, AreTurned, TurnsStand, turned_of};
-ghost use Rattle.pres_dispatch.specs.Dispatches.{is_hello, StayMarked, Stands, SomeStands, IsAnswered, IsJoined, IsNotJoined, LastIsFor, LinesJoined, NoneSlow, AreEnded, log_ended, AreRestarted, log_restarted, IsNoClient, StopsAtStart, IsNotStarted};
+ghost use Rattle.pres_dispatch.specs.Dispatches.{is_hello, Histories, StayMarked, Stands, SomeStands, IsAnswered, IsJoined, IsNotJoined, LastIsFor, LinesJoined, NoneSlow, AreEnded, AreRestarted, IsNoClient, StopsAtStart, IsNotStarted, last_sum, started_with, history_restarted, histories_turned, histories_ended, histories_checkpointed};
 
 use crate::bells::{Bell, Bells};
 use pres_faults::EngineFault;
@@ -121,9 +120,6 @@ fn first_open<K: Keeper + Drop>(
     ensures none { IfOk result (λ found. IfNone found
         (Runs (λ s. (t : SessionId) → is_open_in t s.sum ≡ false) engine.now.server)) }
     ensures refused { IfErr result (IsNoClient engine.now.server) }
-    ensures kept { Runs (λ s. SomeLog
-        (λ log. K.works engine.now.keeper → K.keeps engine.now.keeper log) s.sum)
-        engine.now.server }
     ensures counted { Runs (λ s. engine.now.number ≡ s.sum.number) engine.now.server }
 {
     // it ensures what the number counts
@@ -147,15 +143,16 @@ fn end_all<K: Keeper + Drop>(
     ensures closed { OnOk result
         (Runs (λ s. (t : SessionId) → is_open_in t s.sum ≡ false) engine.new.server) }
     ensures ended { OnOk result (AreRestarted now engine.old.server engine.new.server) }
-    ensures kept { (log : Log) → IsLogOf log engine.old.server → K.works engine.new.keeper
-        → K.keeps engine.old.keeper log → OnOk result
+    ensures kept { (history : History) → IsHistoryOf history engine.old.server
+        → K.works engine.new.keeper → K.keeps engine.old.keeper history → OnOk result
         ((ended : AreRestarted now engine.old.server engine.new.server)
-        × IsLogOf (log_restarted log ended) engine.new.server
-        × K.keeps engine.new.keeper (log_restarted log ended)) }
-    ensures stopped { (log : Log) → IsLogOf log engine.old.server → K.works engine.new.keeper
-        → K.keeps engine.old.keeper log
-        → IfErr result (StopsAtStart (K.keeps engine.new.keeper) now log engine.old.server) }
+        × IsHistoryOf (history_restarted history ended) engine.new.server
+        × K.keeps engine.new.keeper (history_restarted history ended)) }
+    ensures stopped { (history : History) → IsHistoryOf history engine.old.server
+        → K.works engine.new.keeper → K.keeps engine.old.keeper history
+        → IfErr result (StopsAtStart (K.keeps engine.new.keeper) now history engine.old.server) }
     ensures worked { K.works engine.new.keeper → K.works engine.old.keeper }
+    ensures base { engine.new.base_number ≡ engine.old.base_number }
 {
     while let Some(client) = first_open(alloc, engine)? {
         let turned = engine.turn(Input::Restart(client), now);
@@ -171,11 +168,11 @@ impl<K: Keeper + Drop, B: Bell + Clone + Drop> Dispatcher<K, B> {
     fn of(alloc: Global, engine: Engine<K>) -> Dispatcher<K, B>
         requires { Runs (λ s. (t : SessionId) → is_open_in t s.sum ≡ false) engine.server }
         ensures dispatcher { result ≡ record { run = engine; lines = [] } }
-        ensures stands { (log : Log) → IsLogOf log engine.server
-            → (K.works engine.keeper → K.keeps engine.keeper log)
-            → Stands K.works K.keeps log result }
+        ensures stands { (history : History) → IsHistoryOf history engine.server
+            → (K.works engine.keeper → K.keeps engine.keeper history)
+            → Stands K.works K.keeps (started_with history) result }
     {
-        // it ensures that some log leads to the server's sum, and is kept
+        // it ensures that some history leads to the server's sum, and is kept
         let _ = engine.number();
         Dispatcher {
             engine,
@@ -196,9 +193,12 @@ impl<K: Keeper + Drop, B: Bell + Clone + Drop> Dispatcher<K, B> {
         ensures runs { IfOk result (λ e. is_some e.run.server ≡ true) }
         ensures closed { IfOk result (λ e.
             Runs (λ s. (t : SessionId) → is_open_in t s.sum ≡ false) e.run.server) }
-        ensures ended { IfOk result (λ e. (log : Log) → K.works e.run.keeper → K.keeps keeper log
-            → (ended : AreRestarted now (Some (resumed (sum_of log))) e.run.server)
-            × Stands K.works K.keeps (log_restarted log ended) e) }
+        ensures ended { IfOk result (λ e. (history : History) → K.works e.run.keeper
+            → K.keeps keeper history
+            → (ended : AreRestarted now (Some (resumed (last_sum history))) e.run.server)
+            × Stands K.works K.keeps (started_with (history_restarted history ended)) e) }
+        ensures base { IfOk result (λ e. (history : History) → K.works e.run.keeper
+            → K.keeps keeper history → e.run.base_number ≡ history.base.number) }
         ensures lines { IfOk result (λ e. e.lines ≡ []) }
         ensures refused { IfErr result (λ e. K.works e.1
             → IsNotStarted (K.readable keeper) (K.keeps keeper) (K.keeps e.1) now e.0) }
@@ -228,9 +228,9 @@ impl<K: Keeper + Drop, B: Bell + Clone + Drop> Dispatcher<K, B> {
         self.engine.number()
     }
 
-    /// Does what the input asks for, and puts its answers on the lines. A log that explains the
-    /// server and its lines does so after the turn, with the turn's batch appended, and whatever a
-    /// crash leaves from then on begins with it.
+    /// Does what the input asks for, and puts its answers on the lines. Histories that explain the
+    /// server and its lines do so after the turn, with the turn's batch appended, and whatever a
+    /// crash leaves from then on begins with the one that is kept.
     pub fn turn(&mut self, input: Input, now: Moment) -> Result<(), EngineFault>
         requires { is_hello input ≡ false }
         ensures answered { IfOk result (λ _. IsAnswered self.old.run.server input now
@@ -242,15 +242,17 @@ impl<K: Keeper + Drop, B: Bell + Clone + Drop> Dispatcher<K, B> {
         ensures stays { OnErr result (self.new.run.number ≡ self.old.run.number) }
         ensures rises { self.old.run.number ≤ self.new.run.number }
         ensures fewer { unmarked self.new.lines ≤ unmarked self.old.lines }
+        ensures base { self.new.run.base_number ≡ self.old.run.base_number }
         ensures worked { K.works self.new.run.keeper → K.works self.old.run.keeper }
-        ensures stands { (log : Log) → Stands K.works K.keeps log self.old → MatchResult result
-            (λ _. Stands K.works K.keeps (log_turned log self.old.run.server input now) self.new)
-            (λ _. Stands K.works K.keeps log self.new) }
-        ensures durable { (log : Log) → Stands K.works K.keeps log self.old
-            → MakesBatch self.old.run.server input now → OnOk result
-            (K.outlasts self.new.run.keeper (log_turned log self.old.run.server input now)) }
-        ensures outlasts { (log : Log) → K.outlasts self.old.run.keeper log
-            → K.outlasts self.new.run.keeper log }
+        ensures stands { (histories : Histories) → Stands K.works K.keeps histories self.old
+            → MatchResult result (λ _. Stands K.works K.keeps
+            (histories_turned histories self.old.run.server input now) self.new)
+            (λ _. Stands K.works K.keeps histories self.new) }
+        ensures durable { (histories : Histories) → Stands K.works K.keeps histories self.old
+            → MakesBatch self.old.run.server input now → OnOk result (K.outlasts
+            self.new.run.keeper (history_turned histories.kept self.old.run.server input now)) }
+        ensures outlasts { (history : History) → K.outlasts self.old.run.keeper history
+            → K.outlasts self.new.run.keeper history }
     {
         let answers = self.engine.turn(input, now)?;
         // it ensures what the number counts
@@ -275,16 +277,18 @@ impl<K: Keeper + Drop, B: Bell + Clone + Drop> Dispatcher<K, B> {
         requires { All (λ input. is_hello input ≡ false) inputs.items }
         ensures turned { IfOk result (λ turned. AreTurned inputs.items turned now
             self.old.run.server self.new.run.server self.old.lines self.new.lines) }
-        ensures stands { (log : Log) → Stands K.works K.keeps log self.old → IfOk result
-            (TurnsStand K.works K.keeps K.outlasts inputs.items now self.old self.new log) }
+        ensures stands { (histories : Histories) → Stands K.works K.keeps histories self.old
+            → IfOk result (TurnsStand K.works K.keeps K.outlasts inputs.items now self.old
+            self.new histories) }
         ensures back { IfErr result (λ back. back.items ≡ inputs.items) }
         ensures unchanged { OnErr result (self.new ≡ self.old) }
         ensures marks { StayMarked self.old.lines self.new.lines }
         ensures rises { self.old.run.number ≤ self.new.run.number }
         ensures fewer { unmarked self.new.lines ≤ unmarked self.old.lines }
+        ensures base { self.new.run.base_number ≡ self.old.run.base_number }
         ensures worked { K.works self.new.run.keeper → K.works self.old.run.keeper }
-        ensures outlasts { (log : Log) → K.outlasts self.old.run.keeper log
-            → K.outlasts self.new.run.keeper log }
+        ensures outlasts { (history : History) → K.outlasts self.old.run.keeper history
+            → K.outlasts self.new.run.keeper history }
     {
         let Ok(mut turned) = Vec::with_capacity(alloc, inputs.len()) else {
             return Err(inputs);
@@ -317,11 +321,12 @@ impl<K: Keeper + Drop, B: Bell + Clone + Drop> Dispatcher<K, B> {
             ((t : SessionId) → line_at t self.new.lines ≡ line_at t self.old.lines) }
         ensures stays { OnErr result (self.new.run.number ≡ self.old.run.number) }
         ensures rises { self.old.run.number ≤ self.new.run.number }
+        ensures base { self.new.run.base_number ≡ self.old.run.base_number }
         ensures worked { K.works self.new.run.keeper → K.works self.old.run.keeper }
-        ensures stands { (log : Log) → Stands K.works K.keeps log self.old → MatchResult result
-            (λ _. Stands K.works K.keeps
-            (log_turned log self.old.run.server (Message (Hello session.now)) now) self.new)
-            (λ _. Stands K.works K.keeps log self.new) }
+        ensures stands { (histories : Histories) → Stands K.works K.keeps histories self.old
+            → MatchResult result (λ _. Stands K.works K.keeps
+            (histories_turned histories self.old.run.server (Message (Hello session.now)) now)
+            self.new) (λ _. Stands K.works K.keeps histories self.new) }
     {
         let opening = pres_ring::open(alloc, session)?;
         let hello = Up::Hello {
@@ -357,8 +362,8 @@ impl<K: Keeper + Drop, B: Bell + Clone + Drop> Dispatcher<K, B> {
             (λ s. ChangesAt s (option_map (marked Slow)) self.old.lines self.new.lines) }
         ensures fewer { IfSome result (λ r. unmarked self.new.lines < unmarked self.old.lines) }
         ensures marks { StayMarked self.old.lines self.new.lines }
-        ensures stands { (log : Log) → Stands K.works K.keeps log self.old
-            → Stands K.works K.keeps log self.new }
+        ensures stands { (histories : Histories) → Stands K.works K.keeps histories self.old
+            → Stands K.works K.keeps histories self.new }
         ensures none { IfNone result (self.new ≡ self.old) }
         ensures none_slow { IfNone result (NoneSlow self.new.lines) }
     {
@@ -370,11 +375,12 @@ impl<K: Keeper + Drop, B: Bell + Clone + Drop> Dispatcher<K, B> {
     pub fn end_slow(&mut self, alloc: Global, now: Moment)
         ensures ended { AreEnded now self.old.run.server self.new.run.server
             self.old.lines self.new.lines }
-        ensures stands { (log : Log) → Stands K.works K.keeps log self.old
+        ensures stands { (histories : Histories) → Stands K.works K.keeps histories self.old
             → (ended : AreEnded now self.old.run.server self.new.run.server
             self.old.lines self.new.lines)
-            × Stands K.works K.keeps (log_ended log ended) self.new }
+            × Stands K.works K.keeps (histories_ended histories ended) self.new }
         ensures rises { self.old.run.number ≤ self.new.run.number }
+        ensures base { self.new.run.base_number ≡ self.old.run.base_number }
         ensures marks { StayMarked self.old.lines self.new.lines }
         ensures none_slow { NoneSlow self.new.lines }
     {
@@ -404,10 +410,43 @@ impl<K: Keeper + Drop, B: Bell + Clone + Drop> Dispatcher<K, B> {
     pub fn strike(&mut self, session: &SessionId, why: Why)
         ensures run { self.new.run ≡ self.old.run }
         ensures line { ChangesAt session.now (option_map (struck why)) self.old.lines self.new.lines }
-        ensures stands { (log : Log) → Stands K.works K.keeps log self.old
-            → Stands K.works K.keeps log self.new }
+        ensures stands { (histories : Histories) → Stands K.works K.keeps histories self.old
+            → Stands K.works K.keeps histories self.new }
     {
         self.lines.strike(session, why);
+    }
+
+    /// Has the keeper keep the server's base in place of what it keeps, where at least `rise` entries
+    /// were answered since the last time, or since what the start found: the number of the last one,
+    /// none where it isn't due. Keeper: it isn't kept. Down: there is no server. The server and the
+    /// lines are as they were, and nothing is put on a line.
+    ///
+    /// Histories that explain the server and its lines do so after it, of which the one that is kept
+    /// gives way to the one that begins at the server's sum. Whatever a crash leaves from then on
+    /// begins there, or at a later sum.
+    pub fn checkpoint(&mut self, rise: u64) -> Result<Option<u64>, EngineFault>
+        ensures done { IfOk result (IsCheckpointed self.old.run rise self.new.run) }
+        ensures refused { IfErr result (IsNotCheckpointed self.old.run.server) }
+        ensures left { OnErr result (self.new.run.base_number ≡ self.old.run.base_number) }
+        ensures server { self.new.run.server ≡ self.old.run.server }
+        ensures number { self.new.run.number ≡ self.old.run.number }
+        ensures lines { self.new.lines ≡ self.old.lines }
+        ensures worked { K.works self.new.run.keeper → K.works self.old.run.keeper }
+        ensures stands { (histories : Histories) → Stands K.works K.keeps histories self.old
+            → MatchResult result (λ done. Stands K.works K.keeps
+            (histories_checkpointed histories self.old.run.server done) self.new)
+            (λ _. Stands K.works K.keeps histories self.new) }
+        ensures durable { (histories : Histories) → Stands K.works K.keeps histories self.old
+            → IfOk result (λ done. IfSome done (λ _. Runs
+            (λ s. K.outlasts self.new.run.keeper (begun_at s.sum)) self.old.run.server)) }
+        ensures found { (histories : Histories) → Stands K.works K.keeps histories self.old
+            → (held : Readable) → K.may_find self.new.run.keeper held
+            → K.may_find self.old.run.keeper held
+            ⊎ Runs (λ s. held ≡ whole (begun_at s.sum)) self.old.run.server }
+        ensures outlasts { (history : History) → K.outlasts self.old.run.keeper history
+            → K.outlasts self.new.run.keeper history }
+    {
+        self.engine.checkpoint(rise)
     }
 
     /// From now on the bell is due when something is put for the session, or given up.

@@ -4,6 +4,7 @@
 
 mod bells;
 mod dispatcher;
+pub mod laws;
 
 pub use bells::{Bell, NoBell};
 pub use dispatcher::{Dispatcher, Turned};

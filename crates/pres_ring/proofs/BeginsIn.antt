@@ -5,7 +5,9 @@ use Rattle.pres_wire.specs.declared.down.Down.{Down}
 use Rattle.pres_ring.specs.Transcripts.{IsWelcome, StartsWithWelcome}
 use Rattle.pres_ring.specs.HistoryTranscripts.{BeginsTranscriptIn, MayPutIn}
 use Rattle.pres_ring.proofs.Begins.{one_welcome}
-use Rattle.pres_ring.proofs.HistoriesTell.{transcripts_begin}
+use Rattle.pres_ring.specs.TakenMessages.{AreNumbered, TakenInOrder}
+use Rattle.pres_ring.proofs.Numbers.{after_first, numbered_front}
+use Rattle.pres_ring.proofs.HistoriesTell.{transcripts_begin, transcript_numbered}
 
 -- a beginning of a beginning
 pub told_front : (s : SessionId) (xs ys : List Down) → BeginsTranscriptIn s (xs ++ ys) → BeginsTranscriptIn s xs
@@ -22,3 +24,11 @@ whose s t (x ∷ xs) new m b k = one_welcome s t x b (first_told t x (xs ++ m �
 
 pub told_taken : (s : SessionId) (xs new : List Down) (m : Down) → StartsWithWelcome s ((xs ++ m ∷ []) ++ new) → MayPutIn xs m → BeginsTranscriptIn s (xs ++ m ∷ [])
 told_taken s xs new m b k = subst (λ t. BeginsTranscriptIn t (xs ++ m ∷ [])) (whose s k.0 xs new m b k.1) k.1
+
+-- and what follows it is numbered from 1
+pub taken_in_order : (s : SessionId) (xs : List Down) → TakenInOrder s xs
+taken_in_order s [] k = tt
+taken_in_order s (m ∷ more) k = (
+  first_told s m more k,
+  numbered_front 1 more k.within.0 (subst (λ ms. AreNumbered 1 (after_first ms)) (sym k.within.1) (transcript_numbered s k.history k.sum k.closed k.leads)),
+)

@@ -1,5 +1,5 @@
 -- What a history tells a session, from its opening to its end.
-use Rattle.std.proofs.Common.{refl, sym, ◌∙◌, ap, subst, ◌≡◌, ℕ, ◌+◌, List, [], ◌∷◌, ◌++◌, length, Bool, true, false, not, ◌||◌, ◌&&◌, true≢false, append_assoc, append-nil, ◌⊎◌, inl, inr}
+use Rattle.std.proofs.Common.{refl, sym, ◌∙◌, ap, subst, ◌≡◌, ℕ, ◌+◌, List, [], ◌∷◌, ◌++◌, length, Bool, true, false, not, ◌||◌, ◌&&◌, true≢false, append_assoc, append-nil, ◌⊎◌, inl, inr, Some}
 use Rattle.std.specs.List.{list_any}
 use Rattle.std.proofs.lemmas.List.Folds.{list_any-append}
 use Rattle.pres_ids.specs.declared.id.SessionId.{SessionId}
@@ -10,20 +10,22 @@ use Rattle.pres_log.specs.declared.entry.Entry.TheVariants as entry
 use Rattle.pres_log.specs.Logs.{Log, entries}
 use Rattle.pres_log.proofs.Entries.{entries-push}
 use Rattle.pres_server.specs.InternalSums.{MayEnter, MayEnterAll}
-use Rattle.pres_server.specs.Sums.{Sum, part_in, is_open_in, sum_after, sum_after_all, sum_with, sum_from}
+use Rattle.pres_server.specs.Sums.{Sum, part_in, is_open_in, sent_by, sum_after, sum_after_all, sum_with, sum_from}
 use Rattle.pres_server.specs.SumAnswers.{answers_to_by, answers_by}
 use Rattle.pres_server.specs.SumTurns.{FollowAll}
-use Rattle.pres_server.specs.Histories.{Keeps, IsSum, History, LeadsTo, with_batch, answers_from}
+use Rattle.pres_server.specs.Histories.{Keeps, IsSum, History, LeadsTo, with_batch, answers_from, with_batches}
 use Rattle.pres_server.proofs.KeptSums.{kept_after, enters, sum_holds}
 use Rattle.pres_history.specs.Sessions.{opens, ends}
 use Rattle.pres_history.proofs.Histories.{history_holds, history_grows}
 use Rattle.pres_ring.specs.Transcripts.{those_for, is_gone, StartsWithWelcome}
-use Rattle.pres_ring.specs.HistoryTranscripts.{was_opened_in, transcript_in, with_batches}
+use Rattle.pres_ring.specs.HistoryTranscripts.{IsClosed, was_opened_in, transcript_in}
+use Rattle.pres_ring.specs.TakenMessages.{AreNumbered}
 use Rattle.pres_ring.specs.LawsByTheSum.{AnswersExtendTranscriptsIn, OpenBegins, AnswersBegin, OthersAreSilentIn, TranscriptsBegin, GoneIsLastIn, GoneTellsIn, OpenAfterIn, OpenWasOpened, OpenedOnce}
 use Rattle.pres_ring.proofs.ForSession.{those-append}
 use Rattle.pres_ring.proofs.GoneLast.{gone_prefix, has_gone_first}
 use Rattle.pres_ring.proofs.OpenSteps.{IsPast, open_entry, closed_entry, ends_opens, opening_is, past_open, past_unopened, past_entry, open_batch}
 use Rattle.pres_ring.proofs.SentSteps.{welcome_by, opening_told, entry_silent, entry_tells, gone_for, end_told, all_silent, all_tell}
+use Rattle.pres_ring.proofs.Numbers.{AreSent, after_first, entry_numbers, numbered_on, counted_on, none_sent}
 
 -- ---- one batch
 
@@ -53,6 +55,8 @@ record IsBeingTold (s : SessionId) (sum : Sum) (ms : List Down) : Type 0 where
   starts : StartsWithWelcome s ms
   going : list_any is_gone ms ≡ false
   opened : is_open_in s sum ≡ true
+  numbered : AreNumbered 1 (after_first ms)
+  sent : sent_by s.client sum.sessions ≡ Some (length (after_first ms))
 
 -- it has ended, was told so last, and isn't opened again
 record IsTold (s : SessionId) (sum : Sum) (ms : List Down) : Type 0 where
@@ -63,6 +67,7 @@ record IsTold (s : SessionId) (sum : Sum) (ms : List Down) : Type 0 where
   going : list_any is_gone front ≡ false
   closed : is_open_in s sum ≡ false
   past : IsPast s sum
+  numbered : AreNumbered 1 (after_first ms)
 
 -- whether it was opened so far, and what it was told
 abbrev Tells : Bool → SessionId → Sum → List Down → Type 0
@@ -95,15 +100,24 @@ module _ (s : SessionId) (sum : Sum) (m : ℕ) (e : Entry) (k : Keeps sum) (f : 
       let is : e ≡ entry.Open s = opening_is s e n in
       let all : ms ++ told ≡ welcome_by s sum ∷ [] = (λ i. u.none i ++ those_for s (answers_to_by sum (is i))) ∙ opening_told s sum k u.closed in
       let opened : is_open_in s after ≡ true = open_by false false true u.closed (ap (ends s) is) n in
-      subst (λ l. IsBeingTold s after l ⊎ IsTold s after l) (sym all) (inl (record { starts = (sum.number + 1, length (part_in sum s.client).rows, refl); going = refl; opened = opened }))
+      subst (λ l. IsBeingTold s after l ⊎ IsTold s after l) (sym all) (inl (record { starts = (sum.number + 1, length (part_in sum s.client).rows, refl); going = refl; opened = opened; numbered = tt; sent = ap (λ (x : Entry). sent_by s.client (sum_after x sum).sessions) is ∙ none_sent s sum }))
+
+  -- what one that is open is sent is numbered on
+  counted : (ms : List Down) → IsBeingTold s sum ms → AreSent s (length (after_first ms)) told after
+  counted ms u = entry_numbers s sum m e k f u.opened (past_unopened sum m e f s (past_open sum s u.opened)) (length (after_first ms)) u.sent
 
   -- one that is open
   open_told : (ms : List Down) → IsBeingTold s sum ms → (b : Bool) → ends s e ≡ b → IsBeingTold s after (ms ++ told) ⊎ IsTold s after (ms ++ told)
-  open_told ms u false n = inl (record {
-    starts = starts_more s ms told u.starts;
-    going = none_in_pair ms told u.going (gone_for s (answers_to_by sum e) ∙ entry_tells s sum m e k f ∙ n);
-    opened = open_by true false (opens s e) u.opened n refl;
-  })
+  open_told ms u false n =
+      let opened : is_open_in s after ≡ true = open_by true false (opens s e) u.opened n refl in
+      let counts = counted ms u in
+      inl (record {
+        starts = starts_more s ms told u.starts;
+        going = none_in_pair ms told u.going (gone_for s (answers_to_by sum e) ∙ entry_tells s sum m e k f ∙ n);
+        opened = opened;
+        numbered = numbered_on s ms told u.starts u.numbered counts.0;
+        sent = counts.1 opened ∙ ap Some (counted_on s ms told u.starts);
+      })
   open_told ms u true n =
       let end = end_told s sum m e k f n in
       inr (record {
@@ -114,6 +128,7 @@ module _ (s : SessionId) (sum : Sum) (m : ℕ) (e : Entry) (k : Keeps sum) (f : 
         going = none_in_pair ms end.front u.going end.going;
         closed = open_by true true false u.opened n (ends_opens s e n);
         past = past_entry sum m e k f s (past_open sum s u.opened);
+        numbered = numbered_on s ms told u.starts u.numbered (counted ms u).0;
       })
 
   -- one that has ended
@@ -128,6 +143,7 @@ module _ (s : SessionId) (sum : Sum) (m : ℕ) (e : Entry) (k : Keeps sum) (f : 
         going = u.going;
         closed = closed_entry sum m e k f s u.closed n;
         past = past_entry sum m e k f s u.past;
+        numbered = u.numbered;
       })
 
   told_entry : (b : Bool) (ms : List Down) → Tells b s sum ms → Tells (b || opens s e) s after (ms ++ told)
@@ -162,8 +178,8 @@ told_all s (e ∷ xs) sum m b ms k f t =
 -- the count of batches and the moment make no difference
 with_told : (s : SessionId) (sum : Sum) (batch : Batch) (b : Bool) (ms : List Down) → Tells b s (sum_after_all batch.entries sum) ms → Tells b s (sum_with sum batch) ms
 with_told s sum batch false ms t = record { closed = t.closed; none = t.none }
-with_told s sum batch true ms (inl t) = inl (record { starts = t.starts; going = t.going; opened = t.opened })
-with_told s sum batch true ms (inr t) = inr (record { starts = t.starts; front = t.front; last = t.last; parted = t.parted; going = t.going; closed = t.closed; past = t.past })
+with_told s sum batch true ms (inl t) = inl (record { starts = t.starts; going = t.going; opened = t.opened; numbered = t.numbered; sent = t.sent })
+with_told s sum batch true ms (inr t) = inr (record { starts = t.starts; front = t.front; last = t.last; parted = t.parted; going = t.going; closed = t.closed; past = t.past; numbered = t.numbered })
 
 told_from : (s : SessionId) (log : Log) (sum : Sum) (b : Bool) (ms : List Down) → IsSum sum → FollowAll sum log → Tells b s sum ms → Tells (b || list_any (opens s) (entries log)) s (sum_from sum log) (ms ++ those_for s (answers_from sum log))
 told_from s [] sum b ms k f t = re_told s sum b (b || false) ms (ms ++ []) (or_none b) (sym (append-nil ms)) t
@@ -216,6 +232,13 @@ transcripts_begin s h sum closed l = record {
 } where
   tells : Tells (was_opened_in s h) s sum (transcript_in s h)
   tells = history_tells s h sum (closed s) l
+
+pub transcript_numbered : (s : SessionId) (h : History) (sum : Sum) → IsClosed h → LeadsTo h sum → AreNumbered 1 (after_first (transcript_in s h))
+transcript_numbered s h sum closed l = by (was_opened_in s h) (history_tells s h sum (closed s) l) where
+  by : (b : Bool) → Tells b s sum (transcript_in s h) → AreNumbered 1 (after_first (transcript_in s h))
+  by false t = subst (λ ms. AreNumbered 1 (after_first ms)) (sym t.none) tt
+  by true (inl t) = t.numbered
+  by true (inr t) = t.numbered
 
 -- a session that may be opened wasn't opened since the base
 pub untold_by : (s : SessionId) (h : History) (sum : Sum) → is_open_in s h.base ≡ false → LeadsTo h sum → (IsPast s sum → ⊥) → transcript_in s h ≡ []

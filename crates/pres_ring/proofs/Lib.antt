@@ -12,6 +12,7 @@ pub mod Sends
 pub mod Firsts
 pub mod OpenSteps
 pub mod SentSteps
+pub mod Numbers
 pub mod HistoriesTell
 pub mod BeginsIn
 pub mod MadeBy
@@ -19,3 +20,4 @@ pub mod TurnsBy
 pub mod WelcomedBy
 pub mod LegalTranscripts
 pub mod AcceptedSince
+pub mod TreeTold

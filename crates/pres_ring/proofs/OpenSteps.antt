@@ -40,7 +40,7 @@ stamp_same a b h =
     λ i. record { incarnation = eqb-true a.incarnation b.incarnation p.0 i; attempt = eqb-true a.attempt b.attempt p.1 i }
 
 -- of a client one session is open
-one_live : (s t : SessionId) (l : Option LivePart) → same_client s.client t.client ≡ true → is_live l (stamp_of s) ≡ true → is_live l (stamp_of t) ≡ true → same_session s t ≡ true
+pub one_live : (s t : SessionId) (l : Option LivePart) → same_client s.client t.client ≡ true → is_live l (stamp_of s) ≡ true → is_live l (stamp_of t) ≡ true → same_session s t ≡ true
 one_live s t None c a b = absurd (true≢false (sym a))
 one_live s t (Some l) c a b = same_by_stamp s t c ∙ ap (same_stamp (stamp_of s)) (stamp_same (stamp_of t) l.stamp b) ∙ a
 

@@ -7,10 +7,12 @@ use Rattle.pres_fan.proofs.Orders.{session_same, session_itself}
 use Rattle.pres_wire.specs.declared.down.Down.{Down}
 use Rattle.pres_wire.specs.Messages.{session_for}
 use Rattle.pres_ring.specs.RingEnds.{FeedState, Puts, Fits}
-use Rattle.pres_ring.specs.Transcripts.{BeginsTranscript, names, those_for, is_gone, is_gone_for}
+use Rattle.pres_ring.specs.Transcripts.{names, those_for, is_gone, is_gone_for}
+use Rattle.pres_ring.specs.HistoryTranscripts.{BeginsTranscriptIn}
 use Rattle.pres_ring.specs.Lines.{SessionLine, Lines, line_at, ChangesAt}
 use Rattle.pres_ring.specs.Deliveries.{FitsTranscript, SentAfter, IsPut, LeavesOrIsPut, LineAfter, LineFits}
 use Rattle.pres_ring.specs.InternalFeeds.{sent_on}
+use Rattle.pres_ring.proofs.BeginsIn.{told_front}
 
 -- ---- one message
 
@@ -126,13 +128,13 @@ module _ (t : SessionId) (m : Down) (old new : Lines) (is : session_for m ≡ So
       by false e = passed_fits s m (line_at s old) (ap (names s) is ∙ e)
 
 -- what a feed needs to be put the message
-pub put_told : (t : SessionId) (m : Down) (feed : Option FeedState) → session_for m ≡ Some t → IfSome (sent_on feed) (λ sent. BeginsTranscript t (sent ++ those_for t (m ∷ []))) → IfSome feed (λ f. f.session ≡ t)
-    → IfSome feed (λ f. IfSome f.sent (λ sent. BeginsTranscript f.session (sent ++ m ∷ [])))
+pub put_told : (t : SessionId) (m : Down) (feed : Option FeedState) → session_for m ≡ Some t → IfSome (sent_on feed) (λ sent. BeginsTranscriptIn t (sent ++ those_for t (m ∷ []))) → IfSome feed (λ f. f.session ≡ t)
+    → IfSome feed (λ f. IfSome f.sent (λ sent. BeginsTranscriptIn f.session (sent ++ m ∷ [])))
 put_told t m None is h own = tt
 put_told t m (Some f) is h own = by f.sent h where
-  by : (o : Option (List Down)) → IfSome o (λ sent. BeginsTranscript t (sent ++ those_for t (m ∷ []))) → IfSome o (λ sent. BeginsTranscript f.session (sent ++ m ∷ []))
+  by : (o : Option (List Down)) → IfSome o (λ sent. BeginsTranscriptIn t (sent ++ those_for t (m ∷ []))) → IfSome o (λ sent. BeginsTranscriptIn f.session (sent ++ m ∷ []))
   by None k = tt
-  by (Some xs) k = subst (λ u. BeginsTranscript u (xs ++ m ∷ [])) (sym own) (subst (λ ms. BeginsTranscript t (xs ++ ms)) (one_for t m (ap (names t) is ∙ session_itself t)) k)
+  by (Some xs) k = subst (λ u. BeginsTranscriptIn u (xs ++ m ∷ [])) (sym own) (subst (λ ms. BeginsTranscriptIn t (xs ++ ms)) (one_for t m (ap (names t) is ∙ session_itself t)) k)
 
 -- ---- messages one after the other
 
@@ -143,25 +145,21 @@ or_or : (a b : Bool) → (a || b) ≡ ((a || false) || b)
 or_or true b = refl
 or_or false b = refl
 
--- a beginning of what is sent is sent
-fewer_told : (s : SessionId) (xs ys : List Down) → BeginsTranscript s (xs ++ ys) → BeginsTranscript s xs
-fewer_told s xs ys h = record { log = h.log; legal = h.legal; opened = h.opened; within = (ys ++ h.within.0, sym (append_assoc xs ys h.within.0) ∙ h.within.1) }
-
 pub first_told : (s : SessionId) (m : Down) (ms : List Down) (line : Option SessionLine) → FitsTranscript s (m ∷ ms) line → FitsTranscript s (m ∷ []) line
 first_told s m ms None h = tt
 first_told s m ms (Some l) h = by l.sent h where
-  by : (o : Option (List Down)) → IfSome o (λ sent. BeginsTranscript s (sent ++ those_for s (m ∷ ms))) → IfSome o (λ sent. BeginsTranscript s (sent ++ those_for s (m ∷ [])))
+  by : (o : Option (List Down)) → IfSome o (λ sent. BeginsTranscriptIn s (sent ++ those_for s (m ∷ ms))) → IfSome o (λ sent. BeginsTranscriptIn s (sent ++ those_for s (m ∷ [])))
   by None k = tt
-  by (Some xs) k = fewer_told s (xs ++ those_for s (m ∷ [])) (those_for s ms) (subst (BeginsTranscript s) (ap (λ ys. xs ++ ys) (those_more s m ms) ∙ sym (append_assoc xs (those_for s (m ∷ [])) (those_for s ms))) k)
+  by (Some xs) k = told_front s (xs ++ those_for s (m ∷ [])) (those_for s ms) (subst (BeginsTranscriptIn s) (ap (λ ys. xs ++ ys) (those_more s m ms) ∙ sym (append_assoc xs (those_for s (m ∷ [])) (those_for s ms))) k)
 
 -- what was put after xs, where all of it is sent, is sent with what is left
 told_put : (s : SessionId) (before after : Option (List Down)) (ms rest all : List Down) → all ≡ ms ++ rest → SentAfter before ms after
-    → IfSome before (λ sent. BeginsTranscript s (sent ++ all)) → IfSome after (λ sent. BeginsTranscript s (sent ++ rest))
+    → IfSome before (λ sent. BeginsTranscriptIn s (sent ++ all)) → IfSome after (λ sent. BeginsTranscriptIn s (sent ++ rest))
 told_put s None None ms rest all e p h = tt
 told_put s None (Some ys) ms rest all e p h = absurd (cc p)
 told_put s (Some xs) None ms rest all e p h = tt
 told_put s (Some xs) (Some ys) ms rest all e p h = elim p [
-  | inl q ↦ subst (λ zs. BeginsTranscript s (zs ++ rest)) (sym (same ys (xs ++ ms) q)) (subst (BeginsTranscript s) (ap (λ zs. xs ++ zs) e ∙ sym (append_assoc xs ms rest)) h)
+  | inl q ↦ subst (λ zs. BeginsTranscriptIn s (zs ++ rest)) (sym (same ys (xs ++ ms) q)) (subst (BeginsTranscriptIn s) (ap (λ zs. xs ++ zs) e ∙ sym (append_assoc xs ms rest)) h)
   | inr q ↦ absurd (cc q)
 ] where
   same : (us vs : List Down) → Some us ≡ Some vs → us ≡ vs

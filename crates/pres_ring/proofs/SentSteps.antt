@@ -38,19 +38,19 @@ use Rattle.pres_ring.proofs.OpenSteps.{open_carried, closed_entry, neither}
 
 -- ---- messages that are all for one session
 
-abbrev AreAllFor : SessionId → List Down → Type 0
+abbrev pub AreAllFor : SessionId → List Down → Type 0
 AreAllFor t [] = Unit {0}
 AreAllFor t (m ∷ ms) = (session_for m ≡ Some t) × AreAllFor t ms
 
-none_of_them : (s t : SessionId) (ms : List Down) → AreAllFor t ms → same_session s t ≡ false → those_for s ms ≡ []
+pub none_of_them : (s t : SessionId) (ms : List Down) → AreAllFor t ms → same_session s t ≡ false → those_for s ms ≡ []
 none_of_them s t [] a d = refl
 none_of_them s t (m ∷ ms) a d = ap (λ b. cond b (m ∷ those_for s ms) (those_for s ms)) (ap (names s) a.0 ∙ d) ∙ none_of_them s t ms a.1 d
 
-all_of_them : (s t : SessionId) (ms : List Down) → AreAllFor t ms → same_session s t ≡ true → those_for s ms ≡ ms
+pub all_of_them : (s t : SessionId) (ms : List Down) → AreAllFor t ms → same_session s t ≡ true → those_for s ms ≡ ms
 all_of_them s t [] a d = refl
 all_of_them s t (m ∷ ms) a d = ap (λ b. cond b (m ∷ those_for s ms) (those_for s ms)) (ap (names s) a.0 ∙ d) ∙ ap (λ l. m ∷ l) (all_of_them s t ms a.1 d)
 
-next_for : (t : SessionId) (sent : Option ℕ) (m : Unnumbered) → ((r : ℕ) → session_for (m r) ≡ Some t) → AreAllFor t (message_next sent m)
+pub next_for : (t : SessionId) (sent : Option ℕ) (m : Unnumbered) → ((r : ℕ) → session_for (m r) ≡ Some t) → AreAllFor t (message_next sent m)
 next_for t None m h = tt
 next_for t (Some n) m h = (h (n + 1), tt)
 

@@ -3,12 +3,13 @@ use Rattle.std.specs.Prelude.{◌≡◌, ◌⊎◌, ◌≤◌, ◌+◌, Bool, tr
 use Rattle.std.specs.List.{list_any}
 use Rattle.pres_ids.specs.declared.id.SessionId.{SessionId}
 use Rattle.pres_wire.specs.declared.down.Down.{Down}
-use Rattle.pres_ring.specs.Transcripts.{BeginsTranscript, those_for, is_gone_for}
+use Rattle.pres_ring.specs.Transcripts.{those_for, is_gone_for}
+use Rattle.pres_ring.specs.HistoryTranscripts.{BeginsTranscriptIn}
 use Rattle.pres_ring.specs.Lines.{SessionLine}
 
--- with the messages that are for s, what was put on its line is a beginning of its transcript
+-- with the messages that are for s, what was put on its line is a beginning of its transcript in some history
 abbrev pub FitsTranscript : SessionId → List Down → Option SessionLine → Type 0
-FitsTranscript s ms line = IfSome line (λ l. IfSome l.sent (λ sent. BeginsTranscript s (sent ++ those_for s ms)))
+FitsTranscript s ms line = IfSome line (λ l. IfSome l.sent (λ sent. BeginsTranscriptIn s (sent ++ those_for s ms)))
 
 -- these messages were appended to what was put, or were given up with all later ones
 abbrev pub SentAfter : Option (List Down) → List Down → Option (List Down) → Type 0

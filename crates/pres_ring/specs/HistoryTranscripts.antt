@@ -7,7 +7,7 @@ use Rattle.pres_ids.specs.declared.id.SessionId.{SessionId}
 use Rattle.pres_wire.specs.declared.down.Down.{Down}
 use Rattle.pres_wire.specs.declared.up.Up.{Up}
 use Rattle.pres_wire.specs.Messages.{session_in, q_in}
-use Rattle.pres_log.specs.Logs.{Log, entries}
+use Rattle.pres_log.specs.Logs.{entries}
 use Rattle.pres_server.specs.Sums.{Sum, is_open_in, accepted_in}
 use Rattle.pres_server.specs.Histories.{History, LeadsTo, answers_in}
 use Rattle.pres_history.specs.Sessions.{opens}
@@ -26,10 +26,6 @@ was_opened_in s history = list_any (opens s) (entries history.log)
 abbrev pub transcript_in : SessionId → History → List Down
 transcript_in s history = those_for s (answers_in history)
 
--- the history with these batches more
-abbrev pub with_batches : History → Log → History
-with_batches history later = record { base = history.base; log = history.log ++ later }
-
 -- a beginning of the transcript of s in some history in which it was opened, and at whose base no session was open
 pub record BeginsTranscriptIn (s : SessionId) (xs : List Down) : Type 0 where
   pub history : History
@@ -39,7 +35,7 @@ pub record BeginsTranscriptIn (s : SessionId) (xs : List Down) : Type 0 where
   pub opened : IsTrue (was_opened_in s history)
   pub within : IsPrefix xs (transcript_in s history)
 
--- what was put, with the message appended, is a beginning of some session's transcript
+-- the rule of every ring: what was put, with the message appended, is a beginning of some session's transcript
 abbrev pub MayPutIn : List Down → Down → Type 0
 MayPutIn before m = (s : SessionId) × BeginsTranscriptIn s (before ++ m ∷ [])
 

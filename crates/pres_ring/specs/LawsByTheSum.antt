@@ -21,14 +21,14 @@ use Rattle.pres_server.specs.Sums.{Sum, part_in, is_open_in, has_open_in, sum_wi
 use Rattle.pres_server.specs.SumStates.{SumState}
 use Rattle.pres_server.specs.SumAnswers.{answers_by}
 use Rattle.pres_server.specs.SumTurns.{FollowsSum, FollowAll, moment_by, turn_by, batch_by}
-use Rattle.pres_server.specs.Histories.{IsSum, History, LeadsTo, whole, with_batch}
+use Rattle.pres_server.specs.Histories.{IsSum, History, LeadsTo, whole, with_batch, with_batches}
 use Rattle.pres_history.specs.LegalLog.{IsLegal}
 use Rattle.pres_history.specs.Sessions.{opens, ends}
 use Rattle.pres_history.specs.SumLaws.{IsReached}
 use Rattle.pres_ring.specs.Transcripts.{transcript, those_for, is_gone, is_gone_for, IsWelcome, StartsWithWelcome, BeginsTranscript}
 use Rattle.pres_ring.specs.AcceptedMessages.{accepted, messages_in, is_hello, is_hello_of}
 use Rattle.pres_ring.specs.Laws.{IsEnding}
-use Rattle.pres_ring.specs.HistoryTranscripts.{IsClosed, was_opened_in, transcript_in, with_batches, BeginsTranscriptIn, IsNextMessageIn, accepted_since}
+use Rattle.pres_ring.specs.HistoryTranscripts.{IsClosed, was_opened_in, transcript_in, BeginsTranscriptIn, IsNextMessageIn, accepted_since}
 
 -- ---- transcripts
 

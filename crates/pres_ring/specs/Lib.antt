@@ -4,6 +4,7 @@ pub mod RingEnds
 pub mod Laws
 pub mod HistoryTranscripts
 pub mod LawsByTheSum
+pub mod TakenMessages
 pub mod Lines
 pub mod Deliveries
 pub mod InternalFeeds

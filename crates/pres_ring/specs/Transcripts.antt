@@ -29,10 +29,6 @@ pub record BeginsTranscript (s : SessionId) (xs : List Down) : Type 0 where
   pub opened : IsTrue (list_any (opens s) (entries log))
   pub within : IsPrefix xs (transcript s (entries log))
 
--- the rule of every ring: what was put, with the message appended, is a beginning of some session's transcript
-abbrev pub MayPut : List Down → Down → Type 0
-MayPut before m = (s : SessionId) × BeginsTranscript s (before ++ m ∷ [])
-
 -- ---- whom a message is for, and the last one
 
 abbrev pub names : SessionId → Option SessionId → Bool

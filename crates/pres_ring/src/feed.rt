@@ -1,7 +1,7 @@
 //! The end on which messages are put.
 
 ghost use Rattle.std.specs.Prelude.{◌≡◌, ◌++◌, ◌∷◌, ◌+◌, ◌≤◌, [], length, not, IfSome, Some, None, is_some};
-ghost use Rattle.pres_ring.specs.Transcripts.{BeginsTranscript};
+ghost use Rattle.pres_ring.specs.HistoryTranscripts.{BeginsTranscriptIn};
 ghost use Rattle.pres_ring.specs.RingEnds.{Puts, Fits};
 ghost use Rattle.rtrb.specs.Ring.{sent, known_free};
 
@@ -63,7 +63,7 @@ impl Feed {
     /// is full. The first `CAPACITY` messages find room.
     pub fn put(&mut self, message: Down)
         requires told { IfSome self.old.sent
-            (λ sent. BeginsTranscript self.old.session (sent ++ message ∷ [])) }
+            (λ sent. BeginsTranscriptIn self.old.session (sent ++ message ∷ [])) }
         ensures session { self.new.session ≡ self.old.session }
         ensures puts { Puts self.old.sent message self.new.sent }
         ensures fits { Fits 256 self.old.sent message self.new.sent }

@@ -3,6 +3,7 @@
 ghost use Rattle.std.specs.Prelude.{List, ℕ};
 ghost use Rattle.pres_ids.specs.declared.id.SessionId.{SessionId};
 ghost use Rattle.pres_ids.specs.Ids.{ClientId};
+ghost use Rattle.pres_tree.specs.Paths.{Path};
 ghost use Rattle.pres_wire.specs.declared.down.Down.{Down};
 ghost use Rattle.pres_wire.specs.declared.up.Up.{Up};
 ghost use Rattle.pres_log.specs.declared.entry.Batch.{Batch};
@@ -15,6 +16,7 @@ ghost use Rattle.pres_server.specs.SumStates.{SumState};
 ghost use Rattle.pres_server.specs.Histories.{History};
 ghost use Rattle.pres_ring.specs.Laws.{AnswersExtendTranscripts, OthersAreSilent, GoneIsLast, GoneTells, OpenAfter, HelloIsWelcomed, HelloIsNotQuiet, OnlyHelloOpens, AcceptsOne, AcceptedAdds, AcceptedIsFew, NextIsNotQuiet, MadeIsNext, LostEnds, SlowEnds, RestartEnds};
 ghost use Rattle.pres_ring.specs.LawsByTheSum.{AnswersExtendTranscriptsIn, OpenBegins, AnswersBegin, OthersAreSilentIn, TranscriptsBegin, FirstIsWelcome, GoneIsLastIn, GoneTellsIn, OpenAfterIn, OpenWasOpened, OpenedOnce, HelloIsWelcomedIn, HelloIsNotQuietBy, OnlyHelloOpensBy, AcceptsOneBy, AcceptedSinceAdds, AcceptedSinceIsFew, NextIsNotQuietBy, MadeIsNextBy, LostEndsBy, SlowEndsBy, RestartEndsBy, LegalTranscripts, ReachedTranscripts, LegalBegins, ReachedBegins};
+ghost use Rattle.pres_ring.specs.TakenMessages.{TakenInOrder, TakenTellsTheTree};
 
 /// A batch extends a session's transcript by those of its answers that are for the session. The
 /// first is its Welcome, where the batch opens it.
@@ -148,6 +150,19 @@ pub fn transcripts_begin()
 pub fn first_is_welcome()
     ensures { (session : SessionId) (message : Down) (more : List Down)
         → FirstIsWelcome session message more }
+{}
+
+/// What begins a session's transcript in a history is its Welcome, and then messages that are
+/// numbered from 1.
+pub fn taken_in_order()
+    ensures { (session : SessionId) (told : List Down) → TakenInOrder session told }
+{}
+
+/// The value that a message tells of a path, where it begins a session's transcript in a history, is
+/// the value there when the server's number was the message's.
+pub fn taken_tells_the_tree()
+    ensures { (session : SessionId) (path : Path) (told : List Down)
+        → TakenTellsTheTree session path told }
 {}
 
 /// Nothing follows Gone: a beginning of a transcript that holds it is the whole transcript,

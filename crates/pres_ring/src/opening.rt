@@ -1,7 +1,7 @@
 //! A ring whose session isn't open yet.
 
 ghost use Rattle.std.specs.Prelude.{◌≡◌, ◌∷◌, [], IfOk, Some};
-ghost use Rattle.pres_ring.specs.Transcripts.{BeginsTranscript};
+ghost use Rattle.pres_ring.specs.HistoryTranscripts.{BeginsTranscriptIn};
 ghost use Rattle.rtrb.specs.Ring.{sent, known_items};
 
 use crate::feed::Feed;
@@ -54,7 +54,7 @@ impl Opening {
     /// Puts the Welcome of the session, whose opening is committed, and hands out the two ends. It
     /// can't fail, and the first `take` gives the Welcome.
     pub fn welcome(self, message: Down) -> (Feed, Outbox)
-        requires { BeginsTranscript self (message ∷ []) }
+        requires { BeginsTranscriptIn self (message ∷ []) }
         ensures feed { result.0 ≡ record { session = self; sent = Some (message ∷ []) } }
         ensures outbox { result.1 ≡ record { session = self; taken = []; ahead = message ∷ [] } }
     {

@@ -3,7 +3,7 @@
 ghost use Rattle.std.specs.Prelude.{◌≡◌, ◌++◌, ◌∷◌, [], Some, None, IfSome};
 ghost use Rattle.pres_ids.specs.declared.id.SessionId.{SessionId};
 ghost use Rattle.pres_ring.specs.RingEnds.{Puts, Fits};
-ghost use Rattle.pres_ring.specs.Transcripts.{BeginsTranscript};
+ghost use Rattle.pres_ring.specs.HistoryTranscripts.{BeginsTranscriptIn};
 ghost use Rattle.pres_ring.specs.Lines.{blank, fed, is_slow, struck};
 ghost use Rattle.pres_ring.specs.InternalFeeds.{line_of, sent_on, IsOwn};
 
@@ -41,7 +41,7 @@ impl SessionFeed {
     /// Puts the message on the feed, where there is one.
     pub(crate) fn put(&mut self, message: Down)
         requires told { IfSome self.old.feed (λ feed. IfSome feed.sent
-            (λ sent. BeginsTranscript feed.session (sent ++ message ∷ []))) }
+            (λ sent. BeginsTranscriptIn feed.session (sent ++ message ∷ []))) }
         ensures puts { Puts (sent_on self.old.feed) message (sent_on self.new.feed) }
         ensures fits { Fits 256 (sent_on self.old.feed) message (sent_on self.new.feed) }
         ensures mark { self.new.mark ≡ self.old.mark }

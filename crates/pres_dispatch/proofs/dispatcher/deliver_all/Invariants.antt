@@ -1,5 +1,5 @@
 -- what is put from now on is put from the beginning on, and what is left of the turns so far is added
-use Rattle.std.proofs.Common.{◌≡◌, ◌+◌, ◌≤◌, ◌++◌, map, length, vec_len, vec_capacity}
+use Rattle.std.proofs.Common.{◌≡◌, ◌+◌, ◌≤◌, ◌++◌, map, vec_len, vec_capacity}
 use Rattle.std.specs.Vec.Iter.{into_iter_items, into_iter_len}
 use Rattle.pres_ring.specs.Lines.{Lines, unmarked}
 use Rattle.pres_dispatch.specs.Groups.{MayDeliver, AreDelivered, turned_of}

@@ -1,11 +1,10 @@
 use Rattle.std.proofs.Common.{sym, ◌∙◌, ap, subst}
-use Rattle.pres_log.specs.Logs.{Log}
 use Rattle.pres_server.specs.declared.input.Input.TheVariants as input
 use Rattle.pres_wire.specs.declared.up.Up.TheVariants as up
-use Rattle.pres_keeper.specs.Engines.{IsLogOf}
-use Rattle.pres_keeper.specs.EngineTurns.{IsTurnDone, log_turned}
+use Rattle.pres_keeper.specs.Engines.{IsHistoryOf}
+use Rattle.pres_keeper.specs.EngineTurns.{IsTurnDone, history_turned}
 use Rattle.pres_ring.specs.Lines.{line_at}
-use Rattle.pres_dispatch.specs.Dispatches.{IsJoined, Stands}
+use Rattle.pres_dispatch.specs.Dispatches.{Histories, IsJoined, Stands, histories_turned}
 use Rattle.pres_dispatch.proofs.Joined.{last_at, told_at, kept_at, joined_at, unplaced, placed_before}
 use Rattle.pres_dispatch.proofs.Standing.{some_goes, stands_turned, stands_refused}
 use Rattle.pres_dispatch.proofs.dispatcher.Dispatcher.join.Goals as goal
@@ -33,32 +32,33 @@ invariant_of-self-in-Ok g c =
     let new = c.turn-turned.new.self in
     let s = c.args.session.now in
     let turned : IsTurnDone old (input.Up (up.Hello s)) c.args.now new.server c.in-Ok.answers = subst (λ u. IsTurnDone old (input.Up (up.Hello u)) c.args.now new.server c.in-Ok.answers) c.in_ok-copy.ensures c.in-Ok.ensures.turned in
-    some_goes g.K.Keeper.works g.K.Keeper.keeps (record { run = c.self.inside.engine; lines = c.self.inside.lines }) (record { run = new; lines = c.welcome.new.lines }) (λ log. log_turned log old (input.Up (up.Hello s)) c.args.now)
-    (λ log stands.
-    stands_turned g.K.Keeper.works g.K.Keeper.keeps (record { run = c.self.inside.engine; lines = c.self.inside.lines }) (record { run = new; lines = c.welcome.new.lines }) c.turn-turned.ensures.worked log (input.Up (up.Hello s)) c.args.now c.in-Ok.answers turned
-    (subst (λ u. IsLogOf log old → IsLogOf (log_turned log old (input.Up (up.Hello u)) c.args.now) new.server) c.in_ok-copy.ensures (c.in-Ok.ensures.leads log))
-    (subst (λ u. IsLogOf log old → g.K.Keeper.works new.keeper → g.K.Keeper.keeps c.self.inside.engine.keeper log → g.K.Keeper.keeps new.keeper (log_turned log old (input.Up (up.Hello u)) c.args.now)) c.in_ok-copy.ensures (c.in-Ok.ensures.kept log))
+    some_goes g.K.Keeper.works g.K.Keeper.keeps (record { run = c.self.inside.engine; lines = c.self.inside.lines }) (record { run = new; lines = c.welcome.new.lines }) (λ histories. histories_turned histories old (input.Up (up.Hello s)) c.args.now)
+    (λ histories stands.
+    stands_turned g.K.Keeper.works g.K.Keeper.keeps (record { run = c.self.inside.engine; lines = c.self.inside.lines }) (record { run = new; lines = c.welcome.new.lines }) c.turn-turned.ensures.worked histories (input.Up (up.Hello s)) c.args.now c.in-Ok.answers turned
+    (subst (λ u. IsHistoryOf histories.kept old → IsHistoryOf (history_turned histories.kept old (input.Up (up.Hello u)) c.args.now) new.server) c.in_ok-copy.ensures (c.in-Ok.ensures.leads histories.kept))
+    (subst (λ u. IsHistoryOf histories.kept old → g.K.Keeper.works new.keeper → g.K.Keeper.keeps c.self.inside.engine.keeper histories.kept
+    → g.K.Keeper.keeps new.keeper (history_turned histories.kept old (input.Up (up.Hello u)) c.args.now)) c.in_ok-copy.ensures (c.in-Ok.ensures.kept histories.kept))
     c.number.ensures.counted
     (kept_at g.K.Keeper.works g.K.Keeper.keeps (record { run = c.self.inside.engine; lines = c.self.inside.lines }) c.self.invariant new.server s c.args.now c.in-Ok.answers turned c.reserve.new.self c.in_ok-is_new.ensures.line
-    log c.in_ok-opening.opening c.in_ok-opening.ensures c.welcome.new.lines c.welcome.result c.welcome.ensures.lines)
+    histories c.in_ok-opening.opening c.in_ok-opening.ensures c.welcome.new.lines c.welcome.result c.welcome.ensures.lines)
     stands)
     c.self.invariant
 
 pub invariant_of-self-then-is_new : goal.invariant_of-self-then-is_new
 invariant_of-self-then-is_new g c =
-    some_goes g.K.Keeper.works g.K.Keeper.keeps (record { run = c.self.inside.engine; lines = c.self.inside.lines }) (record { run = c.turn-turned.new.self; lines = c.remove.new.self }) (λ log. log)
-    (λ log stands.
-    stands_refused g.K.Keeper.works g.K.Keeper.keeps (record { run = c.self.inside.engine; lines = c.self.inside.lines }) (record { run = c.turn-turned.new.self; lines = c.remove.new.self }) c.turn-turned.ensures.worked log _ c.args.now c.in-Err.fault
-    c.in-Err.ensures.refused (c.in-Err.ensures.kept log) c.in-Err.ensures.stays
+    some_goes g.K.Keeper.works g.K.Keeper.keeps (record { run = c.self.inside.engine; lines = c.self.inside.lines }) (record { run = c.turn-turned.new.self; lines = c.remove.new.self }) (λ histories. histories)
+    (λ histories stands.
+    stands_refused g.K.Keeper.works g.K.Keeper.keeps (record { run = c.self.inside.engine; lines = c.self.inside.lines }) (record { run = c.turn-turned.new.self; lines = c.remove.new.self }) c.turn-turned.ensures.worked histories _ c.args.now c.in-Err.fault
+    c.in-Err.ensures.refused (c.in-Err.ensures.kept histories.kept) c.in-Err.ensures.stays
     (unplaced c.args.session.now c.self.inside.lines c.reserve.new.self c.remove.new.self (sym c.in_ok-is_new.ensures.new ∙ c.if-is_new.true) c.in_ok-is_new.ensures.line c.remove.ensures.line) stands)
     c.self.invariant
 
 pub invariant_of-self-else-is_new : goal.invariant_of-self-else-is_new
 invariant_of-self-else-is_new g c =
-    some_goes g.K.Keeper.works g.K.Keeper.keeps (record { run = c.self.inside.engine; lines = c.self.inside.lines }) (record { run = c.turn-turned.new.self; lines = c.reserve.new.self }) (λ log. log)
-    (λ log stands.
-    stands_refused g.K.Keeper.works g.K.Keeper.keeps (record { run = c.self.inside.engine; lines = c.self.inside.lines }) (record { run = c.turn-turned.new.self; lines = c.reserve.new.self }) c.turn-turned.ensures.worked log _ c.args.now c.in-Err.fault
-    c.in-Err.ensures.refused (c.in-Err.ensures.kept log) c.in-Err.ensures.stays
+    some_goes g.K.Keeper.works g.K.Keeper.keeps (record { run = c.self.inside.engine; lines = c.self.inside.lines }) (record { run = c.turn-turned.new.self; lines = c.reserve.new.self }) (λ histories. histories)
+    (λ histories stands.
+    stands_refused g.K.Keeper.works g.K.Keeper.keeps (record { run = c.self.inside.engine; lines = c.self.inside.lines }) (record { run = c.turn-turned.new.self; lines = c.reserve.new.self }) c.turn-turned.ensures.worked histories _ c.args.now c.in-Err.fault
+    c.in-Err.ensures.refused (c.in-Err.ensures.kept histories.kept) c.in-Err.ensures.stays
     (placed_before c.args.session.now c.self.inside.lines c.reserve.new.self (sym c.in_ok-is_new.ensures.new ∙ c.if-is_new.false) c.in_ok-is_new.ensures.line) stands)
     c.self.invariant
 
@@ -78,14 +78,16 @@ returns-in-Ok-clause-stands g c =
     let new = c.turn-turned.new.self in
     let s = c.args.session.now in
     let turned : IsTurnDone old (input.Up (up.Hello s)) c.args.now new.server c.in-Ok.answers = subst (λ u. IsTurnDone old (input.Up (up.Hello u)) c.args.now new.server c.in-Ok.answers) c.in_ok-copy.ensures c.in-Ok.ensures.turned in
-    subst (λ x. (log : Log) → Stands g.K.Keeper.works g.K.Keeper.keeps log x → Stands g.K.Keeper.works g.K.Keeper.keeps (log_turned log x.run.server (input.Up (up.Hello s)) c.args.now) (record { run = new; lines = c.welcome.new.lines })) c.self.view_is
-    (λ log stands.
-    stands_turned g.K.Keeper.works g.K.Keeper.keeps (record { run = c.self.inside.engine; lines = c.self.inside.lines }) (record { run = new; lines = c.welcome.new.lines }) c.turn-turned.ensures.worked log (input.Up (up.Hello s)) c.args.now c.in-Ok.answers turned
-    (subst (λ u. IsLogOf log old → IsLogOf (log_turned log old (input.Up (up.Hello u)) c.args.now) new.server) c.in_ok-copy.ensures (c.in-Ok.ensures.leads log))
-    (subst (λ u. IsLogOf log old → g.K.Keeper.works new.keeper → g.K.Keeper.keeps c.self.inside.engine.keeper log → g.K.Keeper.keeps new.keeper (log_turned log old (input.Up (up.Hello u)) c.args.now)) c.in_ok-copy.ensures (c.in-Ok.ensures.kept log))
+    subst (λ x. (histories : Histories) → Stands g.K.Keeper.works g.K.Keeper.keeps histories x
+    → Stands g.K.Keeper.works g.K.Keeper.keeps (histories_turned histories x.run.server (input.Up (up.Hello s)) c.args.now) (record { run = new; lines = c.welcome.new.lines })) c.self.view_is
+    (λ histories stands.
+    stands_turned g.K.Keeper.works g.K.Keeper.keeps (record { run = c.self.inside.engine; lines = c.self.inside.lines }) (record { run = new; lines = c.welcome.new.lines }) c.turn-turned.ensures.worked histories (input.Up (up.Hello s)) c.args.now c.in-Ok.answers turned
+    (subst (λ u. IsHistoryOf histories.kept old → IsHistoryOf (history_turned histories.kept old (input.Up (up.Hello u)) c.args.now) new.server) c.in_ok-copy.ensures (c.in-Ok.ensures.leads histories.kept))
+    (subst (λ u. IsHistoryOf histories.kept old → g.K.Keeper.works new.keeper → g.K.Keeper.keeps c.self.inside.engine.keeper histories.kept
+    → g.K.Keeper.keeps new.keeper (history_turned histories.kept old (input.Up (up.Hello u)) c.args.now)) c.in_ok-copy.ensures (c.in-Ok.ensures.kept histories.kept))
     c.number.ensures.counted
     (kept_at g.K.Keeper.works g.K.Keeper.keeps (record { run = c.self.inside.engine; lines = c.self.inside.lines }) c.self.invariant new.server s c.args.now c.in-Ok.answers turned c.reserve.new.self c.in_ok-is_new.ensures.line
-    log c.in_ok-opening.opening c.in_ok-opening.ensures c.welcome.new.lines c.welcome.result c.welcome.ensures.lines)
+    histories c.in_ok-opening.opening c.in_ok-opening.ensures c.welcome.new.lines c.welcome.result c.welcome.ensures.lines)
     stands)
 
 pub returns-after-is_new-clause-lines : goal.returns-after-is_new-clause-lines
@@ -102,16 +104,16 @@ returns-after-is_new-clause-lines g c = elim c.if-is_new.branch [
 
 pub returns-after-is_new-clause-stands : goal.returns-after-is_new-clause-stands
 returns-after-is_new-clause-stands g c = elim c.if-is_new.branch [
-  | then-is_new w ↦ λ log stands.
-      subst (Stands g.K.Keeper.works g.K.Keeper.keeps log) (sym w.self-is)
-      (stands_refused g.K.Keeper.works g.K.Keeper.keeps (record { run = c.self.inside.engine; lines = c.self.inside.lines }) (record { run = c.turn-turned.new.self; lines = w.remove.new.self }) c.turn-turned.ensures.worked log _ c.args.now c.in-Err.fault
-      c.in-Err.ensures.refused (c.in-Err.ensures.kept log) c.in-Err.ensures.stays
+  | then-is_new w ↦ λ histories stands.
+      subst (Stands g.K.Keeper.works g.K.Keeper.keeps histories) (sym w.self-is)
+      (stands_refused g.K.Keeper.works g.K.Keeper.keeps (record { run = c.self.inside.engine; lines = c.self.inside.lines }) (record { run = c.turn-turned.new.self; lines = w.remove.new.self }) c.turn-turned.ensures.worked histories _ c.args.now c.in-Err.fault
+      c.in-Err.ensures.refused (c.in-Err.ensures.kept histories.kept) c.in-Err.ensures.stays
       (unplaced c.args.session.now c.self.inside.lines c.reserve.new.self w.remove.new.self (sym c.in_ok-is_new.ensures.new ∙ w.if-is_new.true) c.in_ok-is_new.ensures.line w.remove.ensures.line)
-      (subst (Stands g.K.Keeper.works g.K.Keeper.keeps log) (sym c.self.view_is) stands))
-  | else-is_new w ↦ λ log stands.
-      subst (Stands g.K.Keeper.works g.K.Keeper.keeps log) (sym w.self-is)
-      (stands_refused g.K.Keeper.works g.K.Keeper.keeps (record { run = c.self.inside.engine; lines = c.self.inside.lines }) (record { run = c.turn-turned.new.self; lines = c.reserve.new.self }) c.turn-turned.ensures.worked log _ c.args.now c.in-Err.fault
-      c.in-Err.ensures.refused (c.in-Err.ensures.kept log) c.in-Err.ensures.stays
+      (subst (Stands g.K.Keeper.works g.K.Keeper.keeps histories) (sym c.self.view_is) stands))
+  | else-is_new w ↦ λ histories stands.
+      subst (Stands g.K.Keeper.works g.K.Keeper.keeps histories) (sym w.self-is)
+      (stands_refused g.K.Keeper.works g.K.Keeper.keeps (record { run = c.self.inside.engine; lines = c.self.inside.lines }) (record { run = c.turn-turned.new.self; lines = c.reserve.new.self }) c.turn-turned.ensures.worked histories _ c.args.now c.in-Err.fault
+      c.in-Err.ensures.refused (c.in-Err.ensures.kept histories.kept) c.in-Err.ensures.stays
       (placed_before c.args.session.now c.self.inside.lines c.reserve.new.self (sym c.in_ok-is_new.ensures.new ∙ w.if-is_new.false) c.in_ok-is_new.ensures.line)
-      (subst (Stands g.K.Keeper.works g.K.Keeper.keeps log) (sym c.self.view_is) stands))
+      (subst (Stands g.K.Keeper.works g.K.Keeper.keeps histories) (sym c.self.view_is) stands))
 ]

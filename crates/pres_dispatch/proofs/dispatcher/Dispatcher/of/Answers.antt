@@ -1,5 +1,5 @@
 use Rattle.std.proofs.Common.{sym, subst}
-use Rattle.pres_dispatch.specs.Dispatches.{Stands, SomeStands}
+use Rattle.pres_dispatch.specs.Dispatches.{Stands, SomeStands, started_with}
 use Rattle.pres_dispatch.proofs.Standing.{stands_opened, some_opened}
 use Rattle.pres_dispatch.proofs.dispatcher.Dispatcher.of.Goals as goal
 
@@ -9,6 +9,6 @@ invariant_of-result g c =
     (some_opened g.K.Keeper.works g.K.Keeper.keeps c.args.engine c.requires c.number.ensures.counted c.number.ensures.kept)
 
 pub returns-clause-stands : goal.returns-clause-stands
-returns-clause-stands g c = λ log is kept.
-    subst (λ lines. Stands g.K.Keeper.works g.K.Keeper.keeps log (record { run = c.args.engine; lines = lines })) (sym c.new.ensures)
-    (stands_opened g.K.Keeper.works g.K.Keeper.keeps c.args.engine c.requires c.number.ensures.counted log is kept)
+returns-clause-stands g c = λ history is kept.
+    subst (λ lines. Stands g.K.Keeper.works g.K.Keeper.keeps (started_with history) (record { run = c.args.engine; lines = lines })) (sym c.new.ensures)
+    (stands_opened g.K.Keeper.works g.K.Keeper.keeps c.args.engine c.requires c.number.ensures.counted history is kept)

@@ -1,9 +1,6 @@
-use Rattle.std.proofs.Common.{◌∙◌, ◌++◌, sym, subst, ap, map, [], append-nil, length, arith}
-use Rattle.pres_log.specs.Logs.{Log}
-use Rattle.pres_keeper.specs.EngineGroups.{TurnResult}
-use Rattle.pres_dispatch.specs.Dispatches.{Stands, StayMarked}
-use Rattle.pres_dispatch.specs.Groups.{AreTurned, TurnsStand, log_all, turned_of}
-use Rattle.pres_dispatch.proofs.Standing.{some_goes, some_there}
+use Rattle.std.proofs.Common.{◌∙◌, ◌++◌, sym, subst, ap, map, arith}
+use Rattle.pres_dispatch.specs.Dispatches.{Histories, Stands, StayMarked}
+use Rattle.pres_dispatch.specs.Groups.{AreTurned, TurnsStand, turned_of}
 use Rattle.pres_dispatch.proofs.Several.{all_plain, may_deliver, as_many, are_turned, turns_stand, some_turned, delivered_marks}
 use Rattle.pres_dispatch.proofs.dispatcher.Dispatcher.turn_all.Goals as goal
 
@@ -37,11 +34,11 @@ pub returns-clause-stands : goal.returns-clause-stands
 returns-clause-stands g c =
     let K = g.K.Keeper in
     let is = c.of.ensures ∙ c.deliver_all.ensures.turned ∙ ap (λ l. l ++ map turned_of c.in-Ok-turn_all.results) c.in-Ok.ensures.items in
-    subst (λ x. (log : Log) → Stands K.works K.keeps log x → TurnsStand K.works K.keeps K.outlasts c.args.inputs.items c.args.now x (record { run = c.turn_all.new.self; lines = c.deliver_all.new.lines }) log c.of.result) c.self.view_is
-    (λ log stands.
-    subst (TurnsStand K.works K.keeps K.outlasts c.args.inputs.items c.args.now (record { run = c.self.inside.engine; lines = c.self.inside.lines }) (record { run = c.turn_all.new.self; lines = c.deliver_all.new.lines }) log) (sym is)
+    subst (λ x. (histories : Histories) → Stands K.works K.keeps histories x → TurnsStand K.works K.keeps K.outlasts c.args.inputs.items c.args.now x (record { run = c.turn_all.new.self; lines = c.deliver_all.new.lines }) histories c.of.result) c.self.view_is
+    (λ histories stands.
+    subst (TurnsStand K.works K.keeps K.outlasts c.args.inputs.items c.args.now (record { run = c.self.inside.engine; lines = c.self.inside.lines }) (record { run = c.turn_all.new.self; lines = c.deliver_all.new.lines }) histories) (sym is)
     (turns_stand K.works K.keeps K.outlasts (record { run = c.self.inside.engine; lines = c.self.inside.lines }) c.turn_all.new.self c.args.inputs.items c.args.now c.in-Ok-turn_all.results (all_plain c.args.inputs.items c.requires) c.in-Ok-turn_all.ensures.turned
-    c.deliver_all.new.lines c.deliver_all.ensures.put c.turn_all.ensures.worked c.number.ensures.counted log stands))
+    c.deliver_all.new.lines c.deliver_all.ensures.put c.turn_all.ensures.worked c.number.ensures.counted histories stands))
 
 pub returns-clause-marks : goal.returns-clause-marks
 returns-clause-marks g c =

@@ -1,4 +1,4 @@
-use Rattle.std.proofs.Common.{◌≡◌, ◌<◌, ◌∙◌, ap, subst, sym, true, is_some, None, IfSome, option_map}
+use Rattle.std.proofs.Common.{◌≡◌, ◌<◌, ◌∙◌, ap, subst, sym, is_some, None, IfSome, option_map}
 use Rattle.pres_ids.specs.declared.id.Why.TheVariants.{Slow}
 use Rattle.pres_ring.specs.Lines.{Lines, marked, first_slow, unmarked, IsFirstSlow, ChangesAt}
 use Rattle.pres_ring.proofs.Firsts.{none_of, slow_is_first, slow_marked, slow_fewer, none_slow, if_some, if_none}

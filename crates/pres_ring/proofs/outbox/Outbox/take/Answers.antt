@@ -1,6 +1,7 @@
 use Rattle.std.proofs.Common.{sym}
 use Rattle.rtrb.specs.Ring.{received, known_items}
-use Rattle.pres_ring.proofs.Begins.{told_taken, starts_taken, begins_front}
+use Rattle.pres_ring.proofs.Begins.{starts_taken, begins_front}
+use Rattle.pres_ring.proofs.BeginsIn.{told_taken}
 use Rattle.pres_ring.proofs.outbox.Outbox.take.Goals as goal
 use Rattle.std.proofs.Common.{arith}
 use Rattle.std.proofs.lemmas.Grind.{common_steps}
