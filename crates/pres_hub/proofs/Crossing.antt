@@ -47,6 +47,11 @@ use Rattle.pres_fan.specs.contracts.listeners.Listeners as listeners
 use Rattle.pres_log.specs.contracts.entry.Entry as entry
 use Rattle.pres_log.specs.contracts.entry.Batch as batch
 use Rattle.pres_log.specs.contracts.log.Log as log
+use Rattle.pres_plan.specs.contracts.row.PlanRow as plan_row
+use Rattle.pres_base.specs.contracts.parts.ClientPart as client_part
+use Rattle.pres_base.specs.contracts.parts.SessionPart as session_part
+use Rattle.pres_base.specs.contracts.parts.BaseParts as base_parts
+use Rattle.pres_base.specs.contracts.base.Base as base
 use Rattle.pres_server.specs.contracts.client_sessions.ClientSessions as places
 use Rattle.pres_server.specs.contracts.index.Index as index
 use Rattle.pres_server.specs.contracts.server.Server as server
@@ -71,6 +76,8 @@ use Rattle.pres_hub.specs.contracts.center.Core as core
 use Rattle.pres_hub.specs.contracts.locked.Hub as hub
 use Rattle.pres_hub.specs.contracts.request.Request as request
 use Rattle.pres_hub.specs.contracts.request.Answer as answer
+use Rattle.pres_hub.specs.contracts.queue.Queue as queue
+use Rattle.pres_hub.specs.contracts.queue.Signals as signals
 use Rattle.pres_accounting.proofs.tally.Tally.TheSendSync.{the_send as tally_is}
 use Rattle.pres_accounting.proofs.seat.Seat.TheSendSync.{the_send as seat_is}
 use Rattle.pres_faults.proofs.hub_fault.HubFault.TheSendSync.{the_send as fault_is}
@@ -177,8 +184,23 @@ place_send = search (feed_send, why_is, crosses, sendable) depth 60 fits 20000
 pub lines_send : IsSend lines.the_row
 lines_send = search (session_is, place_send, maps, crosses, sendable) depth 60 fits 20000
 
+pub client_part_send : IsSend client_part.the_row
+client_part_send = search (client_is, number_is, answers_send, crosses, sendable) depth 60 fits 20000
+
+pub plan_row_send : IsSend plan_row.the_row
+plan_row_send = search (number_is, placement_send, path_is, crosses, sendable) depth 60 fits 20000
+
+pub session_part_send : IsSend session_part.the_row
+session_part_send = search (count_is, items_is, path_is, plan_row_send, crosses, sendable) depth 60 fits 20000
+
+pub base_parts_send : IsSend base_parts.the_row
+base_parts_send = search (count_is, moment_is, tree_send, items_is, client_part_send, session_part_send, crosses, sendable) depth 60 fits 20000
+
+pub base_send : IsSend base.the_row
+base_send = search (base_parts_send, declared_send, crosses, sendable) depth 60 fits 20000
+
 pub keeper_send : IsSend keeper.the_row
-keeper_send = search (batch_send, global_is, declared_send, as_row_send, crosses, sendable) depth 60 fits 20000
+keeper_send = search (base_send, batch_send, global_is, declared_send, as_row_send, crosses, sendable) depth 60 fits 20000
 
 module _ (K : RattleType) (g : keeping.Ghosts K.Denot) (k : IsSend K) where
   pub engine_send : IsSend (engine.the_row K g)
@@ -198,15 +220,21 @@ module _ (K B : RattleType) (g : keeping.Ghosts K.Denot) where
   pub dispatcher_send : IsSend K → IsSend B → IsSend (dispatcher.the_row K B g)
   dispatcher_send k b = search (engine_send, lines_send, bells_send, declared_send, as_row_send, crosses, sendable) depth 60 fits 20000
 
+pub signals_sync : IsSync signals.the_row
+signals_sync = search (declared_sync, as_row_sync, crosses, sendable) depth 60 fits 20000
+
 pub said_send : IsSend said.the_row
 said_send = search (crosses, sendable) depth 60 fits 20000
 
 module _ (L : RattleType) (l : ledger.Ghosts L.Denot) where
   pub request_send : IsSend (request.the_row L l)
-  request_send = search (seat_is, up_send, declared_send, as_row_send, crosses, sendable) depth 60 fits 20000
+  request_send = search (seat_is, up_send, said_send, fault_is, declared_send, as_row_send, crosses, sendable) depth 60 fits 20000
 
   pub answer_send : IsSend (answer.the_row L l)
   answer_send = search (seat_is, said_send, fault_is, declared_send, as_row_send, crosses, sendable) depth 60 fits 20000
+
+  pub queue_send : IsSend (queue.the_row L l)
+  queue_send = search (request_send, answer_send, declared_send, as_row_send, crosses, sendable) depth 60 fits 20000
 
 module _ (L K B : RattleType) (l : ledger.Ghosts L.Denot) (g : keeping.Ghosts K.Denot) where
   pub core_send : IsSend K → IsSend B → IsSend (core.the_row L K B l g)
@@ -214,4 +242,4 @@ module _ (L K B : RattleType) (l : ledger.Ghosts L.Denot) (g : keeping.Ghosts K.
 
   module _ (G : RattleType) where
     pub hub_sync : IsSend K → IsSend B → IsSync G → IsSync (hub.the_row L K B G l g)
-    hub_sync k b y = search (core_send, request_send, answer_send, global_is, declared_sync, as_row_sync, crosses, sendable) depth 60 fits 20000
+    hub_sync k b y = search (core_send, queue_send, signals_sync, declared_sync, as_row_sync, crosses, sendable) depth 60 fits 20000

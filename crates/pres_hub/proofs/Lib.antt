@@ -1,5 +1,5 @@
 pub mod Counted
-pub mod CoreLogs
+pub mod CoreHistories
 pub mod SayAnswered
 pub mod Fewer
 pub mod Ends

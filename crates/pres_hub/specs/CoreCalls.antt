@@ -13,6 +13,7 @@ use Rattle.pres_server.specs.SumStates.{SumState}
 use Rattle.pres_server.specs.SumTurns.{turn_by}
 use Rattle.pres_ring.specs.AcceptedMessages.{is_hello}
 use Rattle.pres_ring.specs.Lines.{Lines, line_at, IsFirstMarked}
+use Rattle.pres_keeper.specs.Keepers.{IsOfStore}
 use Rattle.pres_keeper.specs.Engines.{Runs}
 use Rattle.pres_keeper.specs.EngineTurns.{IsTurnRefused}
 use Rattle.pres_faults.specs.declared.engine_fault.EngineFault.TheVariants as refusal
@@ -176,3 +177,17 @@ pub record StopsAtLease (now : ℕ) (old new : Option SumState) (before after : 
 -- a tick stops at an end that is refused
 abbrev pub IsTickStopped : ℕ → Option SumState → Option SumState → Lines → Lines → HubFault → Type 0
 IsTickStopped now old new before after e = StopsAtMark now old new before after e ⊎ StopsAtLease now old new before after e
+
+-- ---- a checkpoint
+
+-- it isn't made: memory or the database refuses, or there is no server
+abbrev pub IsCheckpointRefused : Option SumState → HubFault → Type 0
+IsCheckpointRefused None e = e ≡ why.Down
+IsCheckpointRefused (Some s) (why.Keeper f) = IsOfStore f
+IsCheckpointRefused (Some s) e = ⊥
+
+-- what a checkpoint may be refused for
+abbrev pub IsCheckpointFault : HubFault → Type 0
+IsCheckpointFault (why.Keeper f) = IsOfStore f
+IsCheckpointFault why.Down = Unit {0}
+IsCheckpointFault e = ⊥

@@ -2,8 +2,8 @@
 
 ghost use Rattle.std.specs.Prelude.{◌≡◌, ◌≤◌, ◌+◌, ◌-◌, ◌^◌, ◌<◌, ◌≢◌, [], false, true, Some, None, IfOk, IfErr, IfSome, IfNone, IsSomeAnd, OnOk, OnErr, MatchResult, is_some, option_map};
 ghost use Rattle.pres_ids.specs.declared.id.SessionId.{SessionId};
-ghost use Rattle.pres_log.specs.Logs.{Log};
-ghost use Rattle.pres_server.specs.Sums.{is_open_in, accepted_in, sum_of};
+ghost use Rattle.pres_server.specs.Sums.{is_open_in, accepted_in};
+ghost use Rattle.pres_server.specs.Histories.{History, begun_at};
 ghost use Rattle.pres_ids.specs.Ids.{same_session};
 ghost use Rattle.pres_wire.specs.Messages.{session_in};
 ghost use Rattle.pres_server.specs.Turns.{quiet};
@@ -11,14 +11,14 @@ ghost use Rattle.pres_server.specs.SumTurns.{turn_by};
 ghost use Rattle.pres_server.specs.Replays.{resumed};
 ghost use Rattle.pres_server.specs.declared.input.Input.TheVariants.{Up as Message, Tick as Late};
 ghost use Rattle.pres_keeper.specs.Engines.{Runs};
-ghost use Rattle.pres_keeper.specs.EngineTurns.{log_turned};
+ghost use Rattle.pres_keeper.specs.EngineTurns.{IsCheckpointed};
 ghost use Rattle.pres_ring.specs.AcceptedMessages.{is_hello, messages_in};
-ghost use Rattle.pres_dispatch.specs.Dispatches.{StayMarked, Stands, IsAnswered, AreRestarted, log_restarted, IsNotStarted};
+ghost use Rattle.pres_dispatch.specs.Dispatches.{Histories, StayMarked, Stands, IsAnswered, AreRestarted, IsNotStarted, histories_turned, history_restarted, last_sum, started_with};
 ghost use Rattle.pres_faults.specs.HubFaults.{of_engine};
 ghost use Rattle.pres_ring.specs.Lines.{line_at, struck, ChangesAt};
-ghost use Rattle.pres_hub.specs.CoreTurns.{CarriesOn, JoinsOn, StandsStill, EndsMarkedOn, EndsLateOn, TicksOn, StopsAtMarkOn, StopsLateOn, TickStopsOn};
-ghost use Rattle.pres_hub.specs.Cores.{CoreInvariant, IsCoreLog, GoesOn, end_by};
-ghost use Rattle.pres_hub.specs.CoreCalls.{IsCarriedOut, IsJoinAnswered, IsHeldBack, HasSameCount, accepted_of, IsOwnMessage, IsSayAnswered, IsEventRefused, IsSayRefused, IsJoinRefused, IsEndRefused, IsMarked, NoneMarked, AreMarkedEnded, AreLateEnded, IsTickDone, StopsAtMark, IsTickStopped};
+ghost use Rattle.pres_hub.specs.CoreTurns.{CarriesOn, JoinsOn, StandsStill, CheckpointsOn, EndsMarkedOn, EndsLateOn, TicksOn, StopsAtMarkOn, StopsLateOn, TickStopsOn};
+ghost use Rattle.pres_hub.specs.Cores.{CoreInvariant, AreCoreHistories, GoesOn, end_by};
+ghost use Rattle.pres_hub.specs.CoreCalls.{IsCarriedOut, IsJoinAnswered, IsHeldBack, HasSameCount, accepted_of, IsOwnMessage, IsSayAnswered, IsEventRefused, IsSayRefused, IsJoinRefused, IsEndRefused, IsCheckpointRefused, IsMarked, NoneMarked, AreMarkedEnded, AreLateEnded, IsTickDone, StopsAtMark, IsTickStopped};
 ghost use Rattle.pres_faults.specs.declared.hub_fault.HubFault.TheVariants.{Down as Gone, Memory};
 
 use pres_accounting::{Parting, Report, Seat, Tally};
@@ -120,10 +120,12 @@ fn take_message<L: Ledger, K: Keeper + Drop, B: Bell + Clone + Drop>(
     ensures kept { OnErr result ((tally.new ≡ tally.old) × (seat.new ≡ seat.old)) }
     ensures stays { OnErr result (dispatcher.new.run.number ≡ dispatcher.old.run.number) }
     ensures lines { OnErr result (dispatcher.new.lines ≡ dispatcher.old.lines) }
-    ensures stands { (log : Log) → Stands K.works K.keeps log dispatcher.old → MatchResult result
+    ensures base { dispatcher.new.run.base_number ≡ dispatcher.old.run.base_number }
+    ensures stands { (histories : Histories) → Stands K.works K.keeps histories dispatcher.old
+        → MatchResult result
         (λ _. Stands K.works K.keeps
-        (log_turned log dispatcher.old.run.server (Message up) now) dispatcher.new)
-        (λ _. Stands K.works K.keeps log dispatcher.new) }
+        (histories_turned histories dispatcher.old.run.server (Message up) now) dispatcher.new)
+        (λ _. Stands K.works K.keeps histories dispatcher.new) }
 {
     let before = dispatcher.number();
     let q = up.q();
@@ -153,9 +155,13 @@ impl<L: Ledger, K: Keeper + Drop, B: Bell + Clone + Drop> Core<L, K, B> {
         ensures runs { IfOk result (λ c. is_some c.run.server ≡ true) }
         ensures closed { IfOk result (λ c.
             Runs (λ s. (t : SessionId) → is_open_in t s.sum ≡ false) c.run.server) }
-        ensures ended { IfOk result (λ c. (log : Log) → K.works c.run.keeper → K.keeps keeper log
-            → (ended : AreRestarted now (Some (resumed (sum_of log))) c.run.server)
-            × IsCoreLog K.works K.keeps (log_restarted log ended) c) }
+        ensures ended { IfOk result (λ c. (history : History) → K.works c.run.keeper
+            → K.keeps keeper history
+            → (ended : AreRestarted now (Some (resumed (last_sum history))) c.run.server)
+            × AreCoreHistories K.works K.keeps
+            (started_with (history_restarted history ended)) c) }
+        ensures base { IfOk result (λ c. (history : History) → K.works c.run.keeper
+            → K.keeps keeper history → c.run.base_number ≡ history.base.number) }
         ensures lines { IfOk result (λ c. c.lines ≡ []) }
         ensures counts { IfOk result (λ c.
             c.counts ≡ record { accepted = 0; seats = 0; out = 0 }) }
@@ -206,6 +212,7 @@ impl<L: Ledger, K: Keeper + Drop, B: Bell + Clone + Drop> Core<L, K, B> {
         ensures stays { OnErr result (self.new.run.number ≡ self.old.run.number) }
         ensures counts { self.new.counts ≡ self.old.counts }
         ensures start { self.new.start ≡ self.old.start }
+        ensures base { self.new.run.base_number ≡ self.old.run.base_number }
         ensures goes_on { GoesOn K.works K.keeps self.old self.new }
         ensures carries { IfOk result (λ _.
             CarriesOn K.works K.keeps input now self.old self.new) }
@@ -239,6 +246,7 @@ impl<L: Ledger, K: Keeper + Drop, B: Bell + Clone + Drop> Core<L, K, B> {
             → IfErr result (λ e. e ≡ Gone) }
         ensures stays { OnErr result (self.new.run.number ≡ self.old.run.number) }
         ensures start { self.new.start ≡ self.old.start }
+        ensures base { self.new.run.base_number ≡ self.old.run.base_number }
         ensures goes_on { GoesOn K.works K.keeps self.old self.new }
         ensures carries { IfOk result (λ joined.
             JoinsOn K.works K.keeps session.now now joined.1 self.old self.new) }
@@ -248,7 +256,7 @@ impl<L: Ledger, K: Keeper + Drop, B: Bell + Clone + Drop> Core<L, K, B> {
         if self.dispatcher.server().is_none() {
             return Err(HubFault::Down);
         }
-        // it ensures that the log is legal
+        // it ensures that histories explain the server
         let _ = self.dispatcher.number();
         let mine = session.copy(self.alloc)?;
         let outbox = self.dispatcher.join(self.alloc, session, now)?;
@@ -275,6 +283,7 @@ impl<L: Ledger, K: Keeper + Drop, B: Bell + Clone + Drop> Core<L, K, B> {
         ensures stays { OnErr result (self.new.run.number ≡ self.old.run.number) }
         ensures lines { OnErr result (self.new.lines ≡ self.old.lines) }
         ensures start { self.new.start ≡ self.old.start }
+        ensures base { self.new.run.base_number ≡ self.old.run.base_number }
         ensures goes_on { GoesOn K.works K.keeps self.old self.new }
         ensures carries { IfOk result (λ _.
             CarriesOn K.works K.keeps (Message up) now self.old self.new) }
@@ -284,7 +293,7 @@ impl<L: Ledger, K: Keeper + Drop, B: Bell + Clone + Drop> Core<L, K, B> {
             drop(up);
             return Err(fault);
         }
-        // it ensures that the log is legal
+        // it ensures that histories explain the server
         let _ = self.dispatcher.number();
         take_message(&mut self.dispatcher, &mut self.tally, seat, up, now)?;
         self.dispatcher.end_slow(self.alloc, now);
@@ -306,6 +315,7 @@ impl<L: Ledger, K: Keeper + Drop, B: Bell + Clone + Drop> Core<L, K, B> {
         ensures rises { self.old.run.number ≤ self.new.run.number }
         ensures counts { self.new.counts ≡ self.old.counts }
         ensures start { self.new.start ≡ self.old.start }
+        ensures base { self.new.run.base_number ≡ self.old.run.base_number }
         ensures goes_on { GoesOn K.works K.keeps self.old self.new }
         ensures carries { OnOk result (EndsLateOn K.works K.keeps now self.old self.new) }
         ensures stops { IfErr result (StopsLateOn K.works K.keeps now self.old self.new) }
@@ -333,6 +343,7 @@ impl<L: Ledger, K: Keeper + Drop, B: Bell + Clone + Drop> Core<L, K, B> {
         ensures rises { self.old.run.number ≤ self.new.run.number }
         ensures counts { self.new.counts ≡ self.old.counts }
         ensures start { self.new.start ≡ self.old.start }
+        ensures base { self.new.run.base_number ≡ self.old.run.base_number }
         ensures goes_on { GoesOn K.works K.keeps self.old self.new }
         ensures carries { OnOk result (TicksOn K.works K.keeps now self.old self.new) }
         ensures stops { IfErr result (TickStopsOn K.works K.keeps now self.old self.new) }
@@ -356,13 +367,14 @@ impl<L: Ledger, K: Keeper + Drop, B: Bell + Clone + Drop> Core<L, K, B> {
         ensures rises { self.old.run.number ≤ self.new.run.number }
         ensures counts { self.new.counts ≡ self.old.counts }
         ensures start { self.new.start ≡ self.old.start }
+        ensures base { self.new.run.base_number ≡ self.old.run.base_number }
         ensures goes_on { GoesOn K.works K.keeps self.old self.new }
         ensures carries { OnOk result (EndsMarkedOn K.works K.keeps now self.old self.new) }
         ensures stops { IfErr result (StopsAtMarkOn K.works K.keeps now self.old self.new) }
     {
         while let Some(next) = self.dispatcher.first_marked(self.alloc) {
             let (session, why) = next?;
-            // it ensures that the log is legal
+            // it ensures that histories explain the server
             let _ = self.dispatcher.number();
             self.event(end_by(why, session), now)?;
         }
@@ -379,6 +391,7 @@ impl<L: Ledger, K: Keeper + Drop, B: Bell + Clone + Drop> Core<L, K, B> {
         ensures lines { OnErr result (self.new.lines ≡ self.old.lines) }
         ensures counts { self.new.counts ≡ self.old.counts }
         ensures start { self.new.start ≡ self.old.start }
+        ensures base { self.new.run.base_number ≡ self.old.run.base_number }
         ensures goes_on { GoesOn K.works K.keeps self.old self.new }
         ensures carries { IfOk result (λ _.
             CarriesOn K.works K.keeps (end_by why session.now) now self.old self.new) }
@@ -402,6 +415,7 @@ impl<L: Ledger, K: Keeper + Drop, B: Bell + Clone + Drop> Core<L, K, B> {
         ensures counts { self.new.counts ≡ record self.old.counts
             { out = self.old.counts.out - 1 } }
         ensures start { self.new.start ≡ self.old.start }
+        ensures base { self.new.run.base_number ≡ self.old.run.base_number }
         ensures goes_on { GoesOn K.works K.keeps self.old self.new }
         ensures carries { IfNone result.fault
             (CarriesOn K.works K.keeps (end_by why seat.session) now self.old self.new) }
@@ -416,6 +430,34 @@ impl<L: Ledger, K: Keeper + Drop, B: Bell + Clone + Drop> Core<L, K, B> {
                 self.tally.take(seat, Some(fault))
             }
         }
+    }
+
+    /// Has the keeper keep the server's base in place of what it holds, where the number rose by at
+    /// least `rise` since the last time, or since the base that the start found, or else since the
+    /// first entry: the number, none where it isn't due. It is a step of the keeper alone. Keeper: it
+    /// isn't kept, and everything is as before. Down: there is no server.
+    pub fn checkpoint(&mut self, rise: u64) -> Result<Option<u64>, HubFault>
+        ensures done { IfOk result (IsCheckpointed self.old.run rise self.new.run) }
+        ensures refused { IfErr result (IsCheckpointRefused self.old.run.server) }
+        ensures left { OnErr result (self.new.run.base_number ≡ self.old.run.base_number) }
+        ensures server { self.new.run.server ≡ self.old.run.server }
+        ensures number { self.new.run.number ≡ self.old.run.number }
+        ensures lines { self.new.lines ≡ self.old.lines }
+        ensures counts { self.new.counts ≡ self.old.counts }
+        ensures start { self.new.start ≡ self.old.start }
+        ensures worked { K.works self.new.run.keeper → K.works self.old.run.keeper }
+        ensures stands { IfOk result
+            (λ number. CheckpointsOn K.works K.keeps number self.old self.new) }
+        ensures still { OnErr result (StandsStill K.works K.keeps self.old self.new) }
+        ensures durable { (histories : Histories)
+            → AreCoreHistories K.works K.keeps histories self.old → IfOk result
+            (λ number. IfSome number (λ _. Runs
+            (λ s. K.outlasts self.new.run.keeper (begun_at s.sum)) self.old.run.server)) }
+        ensures outlasts { (history : History) → K.outlasts self.old.run.keeper history
+            → K.outlasts self.new.run.keeper history }
+    {
+        let number = self.dispatcher.checkpoint(rise)?;
+        Ok(number)
     }
 
     // Why the seat's message isn't taken to the server.

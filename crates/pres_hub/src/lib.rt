@@ -4,6 +4,7 @@
 mod center;
 mod gate;
 mod locked;
+mod queue;
 mod request;
 
 pub use center::{Core, Said};
@@ -12,4 +13,5 @@ pub use locked::Hub;
 pub use pres_accounting::{Parting, Report, Seat};
 pub use pres_dispatch::{Bell, Keeper, MemKeeper, Moment, NoBell, Outbox, SessionId, Up, Why};
 pub use pres_faults::HubFault;
-pub use request::{Answer, Request};
+pub use queue::MOST_AT_ONCE;
+pub use request::{Answer, Outcome, Request};

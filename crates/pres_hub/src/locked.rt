@@ -1,108 +1,50 @@
 //! A hub.
 
-ghost use Rattle.std.specs.Prelude.{◌≡◌, ◌≤◌, ◌<◌, IfErr, IfSome, ◌+◌, length, slice_index_or, vec_len, vec_capacity};
+ghost use Rattle.std.specs.Prelude.{◌≡◌, ◌≤◌, ◌+◌, IfErr, IfSome, vec_len, vec_capacity};
 ghost use Rattle.std.specs.Sync.Mutex.{mutex_guard_value};
 ghost use Rattle.std.specs.VecDeque.{deque_len};
 ghost use Rattle.pres_hub.specs.Cores.{CoreInvariant};
-ghost use Rattle.pres_hub.specs.CoreGroups.{AnswerState};
+ghost use Rattle.pres_hub.specs.CoreCalls.{IsCheckpointFault};
 
 use crate::center::{Core, Said};
 use crate::gate::Gate;
-use crate::request::{Answer, Request};
+use crate::queue::{Group, MOST_PAUSES, Queue, Signals, take_answer};
+use crate::request::{Answer, Outcome, Request};
 use pres_accounting::Seat;
 use pres_dispatch::{Bell, Keeper, Moment, SessionId, Up};
 use pres_faults::HubFault;
-use std::alloc::{AllocFailed, Global};
+use std::alloc::Global;
 use std::collections::VecDeque;
-use std::mem;
 use std::sync::ledger::Ledger;
 use std::sync::{Mutex, MutexGuard, Wait};
+use std::time::{Clock, Duration, Instant};
 
-/// How many requests are said at most while the lock is held once.
-pub const MOST_AT_ONCE: usize = 256;
-
-/// A gate and one lock around a core. It adds no event of its own. Requests wait in a queue until
-/// some caller has the core, who says all of them; the answers wait until their callers have it.
+/// A gate and one lock around a core. It adds no event of its own. Requests wait in a queue, of
+/// whose callers one leads: it waits for the callers that were there a moment ago, if a commit takes
+/// long, and then says all that wait, together. Their answers wait until their callers take them.
 pub struct Hub<L: Ledger, K: Keeper + Drop, B, G: Gate> {
     alloc: Global,
     core: Mutex<Core<L, K, B>>,
-    queue: Mutex<VecDeque<Request<L>>>,
-    /// Only who has the core takes this lock.
-    answered: Mutex<Vec<Answer<L>>>,
+    queue: Mutex<Queue<L>>,
+    signals: Signals,
     gate: G,
 }
 
-// Where the session's answer is among these.
-fn place_of<L: Ledger>(answered: &[Answer<L>], session: &SessionId) -> Option<usize>
-    ensures within { IfSome result (λ i. i < length answered.now) }
-    ensures own { IfSome result (λ i. (d : AnswerState)
-        → (slice_index_or answered.now i d).seat.session ≡ session.now) }
-{
-    for (i, answer) in answered.iter().enumerate() {
-        if answer.seat().session() == session {
-            return Some(i);
-        }
-    }
-    None
-}
-
-// Takes the session's answer, where it is among these.
-fn take_answer<L: Ledger>(answered: &mut Vec<Answer<L>>, session: &SessionId) -> Option<Answer<L>>
-    ensures { IfSome result (λ answer. answer.seat.session ≡ session.now) }
-{
-    let i = place_of(answered.as_slice(), session)?;
-    let answer = answered.swap_remove(i);
-    Some(answer)
-}
-
-// Takes the session's request out of the queue, where it waits.
-fn take_request<L: Ledger>(
-    queue: &mut VecDeque<Request<L>>,
-    session: &SessionId,
-) -> Option<Request<L>>
-    ensures { IfSome result (λ request. request.seat.session ≡ session.now) }
-{
-    for _ in 0..queue.len() {
-        let Some(request) = queue.pop_front() else {
-            return None;
-        };
-        if request.seat().session() == session {
-            return Some(request);
-        }
-        queue.push_back_reserved(request);
-    }
-    None
-}
-
-// Takes the first requests of the queue.
-fn take_first<L: Ledger>(alloc: Global, queue: &mut VecDeque<Request<L>>) -> VecDeque<Request<L>>
-    ensures { deque_len result ≤ deque_len queue.old }
-{
-    let mut first = mem::replace(queue, VecDeque::new(alloc));
-    if first.len() <= MOST_AT_ONCE {
-        return first;
-    }
-    if let Ok(rest) = first.split_off(MOST_AT_ONCE) {
-        let none = mem::replace(queue, rest);
-        none.destroy_empty();
-    }
-    first
-}
-
-// Says these requests, each of which gets its answer. Their sessions' bells aren't due by that.
+// Says these requests, and adds their answers, for which there is room. Their sessions' bells aren't
+// due by that.
 fn say_these<L: Ledger, K: Keeper + Drop, B: Bell + Clone + Drop>(
     core: &mut Core<L, K, B>,
     requests: VecDeque<Request<L>>,
     now: Moment,
-    answered: &mut Vec<Answer<L>>,
+    answers: &mut Vec<Answer<L>>,
 )
-    requires { vec_len answered.old + deque_len requests ≤ vec_capacity answered.old }
+    requires { vec_len answers.old + deque_len requests ≤ vec_capacity answers.old }
 {
     let mut requests = requests;
     for request in requests.iter() {
         core.pass_over(request.seat().session());
     }
-    core.say_all(&mut requests, now, answered);
+    core.say_all(&mut requests, now, answers);
     requests.destroy_empty();
 }
 
@@ -113,8 +55,8 @@ impl<L: Ledger, K: Keeper + Drop, B: Bell + Clone + Drop, G: Gate> Hub<L, K, B, 
         Hub {
             alloc,
             core: Mutex::new(core),
-            queue: Mutex::new(VecDeque::new(alloc)),
-            answered: Mutex::new(Vec::new(alloc)),
+            queue: Mutex::new(Queue::new(alloc)),
+            signals: Signals::new(),
             gate,
         }
     }
@@ -129,11 +71,25 @@ impl<L: Ledger, K: Keeper + Drop, B: Bell + Clone + Drop, G: Gate> Hub<L, K, B, 
         guard
     }
 
-    /// Takes the seat's message to the server, together with those of other callers that wait for the
-    /// lock, and gives the seat back with what it was answered. The caller that has the lock says all
-    /// of them. The bells of others that are due then are added to its list: ring them once this
-    /// returns.
-    pub fn say<R: Wait>(
+    /// Has the keeper keep the server's base in place of what it holds, where the number rose by at
+    /// least `rise` since the last time: the number, none where it isn't due.
+    pub fn checkpoint<R: Wait>(
+        &self,
+        rt: &R,
+        caller: u64,
+        rise: u64,
+    ) -> Result<Option<u64>, HubFault>
+        ensures { IfErr result IsCheckpointFault }
+    {
+        self.gate.pass(caller);
+        let mut core = self.core.lock(rt);
+        core.checkpoint(rise)
+    }
+
+    /// Takes the seat's message to the server, together with those of other callers that wait, and
+    /// gives the seat back with what it was answered. The bells of others that are due then are added
+    /// to its list: ring them once this returns.
+    pub fn say<R: Wait + Clock>(
         &self,
         rt: &R,
         caller: u64,
@@ -141,67 +97,227 @@ impl<L: Ledger, K: Keeper + Drop, B: Bell + Clone + Drop, G: Gate> Hub<L, K, B, 
         message: Up,
         now: Moment,
         due: &mut Vec<B>,
-    ) -> (Seat<L>, Result<Said, HubFault>)
+    ) -> (Seat<L>, Outcome)
+        ensures { result.0.session ≡ seat.session }
+    {
+        let mut messages = VecDeque::new(self.alloc);
+        if messages.push_back(message).is_err() {
+            return (seat, Err(HubFault::Memory));
+        }
+        let (seat, mut said) = self.say_each(rt, caller, seat, messages, now, due);
+        let outcome = said.pop().unwrap_or(Err(HubFault::Memory));
+        (seat, outcome)
+    }
+
+    /// Takes the seat's messages to the server, together with those of other callers that wait, and
+    /// gives the seat back with what each of them was answered, in their order. None is said, and the
+    /// list is empty, where memory for it is refused. The bells of others that are due then are added
+    /// to its list: ring them once this returns.
+    pub fn say_each<R: Wait + Clock>(
+        &self,
+        rt: &R,
+        caller: u64,
+        seat: Seat<L>,
+        messages: VecDeque<Up>,
+        now: Moment,
+        due: &mut Vec<B>,
+    ) -> (Seat<L>, Vec<Outcome>)
         ensures { result.0.session ≡ seat.session }
     {
         self.gate.pass(caller);
-        let Ok(session) = seat.session().copy(self.alloc) else {
-            let mut core = self.core.lock(rt);
-            return say_at_once(&mut core, seat, message, now, due);
+        let request = match Request::of(self.alloc, seat, messages) {
+            Ok(request) => request,
+            Err((seat, messages)) => {
+                drop(messages);
+                return (seat, Vec::new(self.alloc));
+            }
         };
-        if let Err(request) = self.put(rt, Request::of(seat, message)) {
-            let (seat, message) = request.into_parts();
-            let mut core = self.core.lock(rt);
-            return say_at_once(&mut core, seat, message, now, due);
+        self.say_request(rt, request, now, due).into_parts()
+    }
+
+    // Says the request together with those that wait.
+    fn say_request<R: Wait + Clock>(
+        &self,
+        rt: &R,
+        request: Request<L>,
+        now: Moment,
+        due: &mut Vec<B>,
+    ) -> Answer<L>
+        ensures { result.seat.session ≡ request.seat.session }
+    {
+        let Ok(session) = request.seat().session().copy(self.alloc) else {
+            return self.say_at_once(rt, request, now, due);
+        };
+        if let Err(request) = self.join(rt, request) {
+            return self.say_at_once(rt, request, now, due);
         }
         for _ in rt.forever() {
-            if let Some(answered) = self.answer_for(rt, &session, now, due) {
-                return answered;
+            if let Some(answer) = self.answer_for(rt, &session, now, due) {
+                return answer;
             }
         }
         unreachable!()
     }
 
+    // Says the request by itself.
+    fn say_at_once<R: Wait>(
+        &self,
+        rt: &R,
+        request: Request<L>,
+        now: Moment,
+        due: &mut Vec<B>,
+    ) -> Answer<L>
+        ensures { result.seat.session ≡ request.seat.session }
+    {
+        let mut core = self.core.lock(rt);
+        let answer = core.say_alone(request, now);
+        core.take_due(Some(answer.seat().session()), due);
+        answer
+    }
+
     // Puts the request into the queue. It is handed back where memory for that is refused.
-    fn put<R: Wait>(&self, rt: &R, request: Request<L>) -> Result<(), Request<L>>
+    fn join<R: Wait>(&self, rt: &R, request: Request<L>) -> Result<(), Request<L>>
         ensures { IfErr result (λ back. back ≡ request) }
     {
         let mut queue = self.queue.lock(rt);
-        if let Err(refused) = queue.push_back(request) {
-            let AllocFailed { value } = refused;
-            return Err(value);
+        let is_enough = match queue.join(request) {
+            Ok(is_enough) => is_enough,
+            Err(request) => return Err(request),
+        };
+        drop(queue);
+        if is_enough {
+            self.signals.enough.notify_one();
         }
         Ok(())
     }
 
-    // Waits for the core: the session's seat with its answer, which another caller left there, or
-    // which it gets as the requests that wait are said. None where it waits after too many others.
-    fn answer_for<R: Wait>(
+    // The session's answer: where it is there, or once the caller whose turn it is to say requests has
+    // left it; or this caller says them, where none does. None where others were said instead.
+    fn answer_for<R: Wait + Clock>(
         &self,
         rt: &R,
         session: &SessionId,
         now: Moment,
         due: &mut Vec<B>,
-    ) -> Option<(Seat<L>, Result<Said, HubFault>)>
-        ensures { IfSome result (λ answered. answered.0.session ≡ session.now) }
+    ) -> Option<Answer<L>>
+        ensures { IfSome result (λ answer. answer.seat.session ≡ session.now) }
+    {
+        let mut queue = self.queue.lock(rt);
+        if let Some(answer) = queue.take_answer(session) {
+            return Some(answer);
+        }
+        if queue.is_led() {
+            let signal = self.signals.of(queue.group_for(session));
+            let mut queue = signal.wait(rt, queue);
+            return queue.take_answer(session);
+        }
+        let is_short = queue.lead();
+        drop(queue);
+        if is_short {
+            self.await_callers(rt);
+        }
+        self.lead(rt, session, now, due)
+    }
+
+    // Waits for more callers, a while after the other, as long as some come in it.
+    fn await_callers<R: Wait + Clock>(&self, rt: &R) {
+        for _ in 0..MOST_PAUSES {
+            let mut queue = self.queue.lock(rt);
+            let Some((pause, before)) = queue.begin_pause() else {
+                return;
+            };
+            let (mut queue, _) = self.signals.enough.wait_timeout(rt, queue, pause);
+            if queue.end_pause() == before {
+                return;
+            }
+        }
+    }
+
+    // Says the requests that wait, and leaves their answers but the session's. None where that was
+    // not among them.
+    fn lead<R: Wait + Clock>(
+        &self,
+        rt: &R,
+        session: &SessionId,
+        now: Moment,
+        due: &mut Vec<B>,
+    ) -> Option<Answer<L>>
+        ensures { IfSome result (λ answer. answer.seat.session ≡ session.now) }
+    {
+        let mut queue = self.queue.lock(rt);
+        let Some(group) = queue.take_group(self.alloc) else {
+            drop(queue);
+            return self.lead_alone(rt, session, now, due);
+        };
+        drop(queue);
+        let Group {
+            requests,
+            mut answers,
+        } = group;
+        let callers = requests.len();
+        let pace = self.say_group(rt, session, requests, now, &mut answers, due);
+        let own = take_answer(&mut answers, session);
+        self.leave(rt, answers, callers, pace);
+        own
+    }
+
+    // Says the session's request by itself, since memory is refused for the answers of several.
+    fn lead_alone<R: Wait>(
+        &self,
+        rt: &R,
+        session: &SessionId,
+        now: Moment,
+        due: &mut Vec<B>,
+    ) -> Option<Answer<L>>
+        ensures { IfSome result (λ answer. answer.seat.session ≡ session.now) }
+    {
+        let mut queue = self.queue.lock(rt);
+        let own = queue.take_request(session);
+        let (group, is_more) = queue.finish(1, None);
+        drop(queue);
+        self.signals.wake(group, is_more);
+        Some(self.say_at_once(rt, own?, now, due))
+    }
+
+    // Says these requests, and adds their answers, for which there is room: how long that took.
+    fn say_group<R: Wait + Clock>(
+        &self,
+        rt: &R,
+        session: &SessionId,
+        requests: VecDeque<Request<L>>,
+        now: Moment,
+        answers: &mut Vec<Answer<L>>,
+        due: &mut Vec<B>,
+    ) -> Option<Duration>
+        requires { vec_len answers.old + deque_len requests ≤ vec_capacity answers.old }
     {
         let mut core = self.core.lock(rt);
-        let mut waiting = self.answered.lock(rt);
-        let answered: &mut Vec<Answer<L>> = &mut waiting;
-        if let Some(answer) = take_answer(answered, session) {
-            return Some(answer.into_parts());
-        }
-        let mut line = self.queue.lock(rt);
-        let queue: &mut VecDeque<Request<L>> = &mut line;
-        if answered.reserve(queue.len()).is_err() {
-            let (seat, message) = take_request(queue, session)?.into_parts();
-            return Some(say_at_once(&mut core, seat, message, now, due));
-        }
-        let requests = take_first(self.alloc, queue);
-        drop(line);
-        say_these(&mut core, requests, now, answered);
+        let start = Instant::now(rt).ok();
+        say_these(&mut core, requests, now, answers);
         core.take_due(Some(session), due);
-        Some(take_answer(answered, session)?.into_parts())
+        start?.elapsed(rt).ok()
+    }
+
+    // Leaves the answers where their callers find them, and wakes these, and one that leads next.
+    fn leave<R: Wait>(
+        &self,
+        rt: &R,
+        answers: Vec<Answer<L>>,
+        callers: usize,
+        pace: Option<Duration>,
+    ) {
+        let mut answers = answers;
+        for _ in rt.forever() {
+            let mut queue = self.queue.lock(rt);
+            if queue.accept(&mut answers) {
+                answers.destroy_empty();
+                let (group, is_more) = queue.finish(callers, pace);
+                drop(queue);
+                self.signals.wake(group, is_more);
+                return;
+            }
+        }
+        unreachable!()
     }
 
     /// The core, after the last call.
@@ -214,46 +330,31 @@ impl<L: Ledger, K: Keeper + Drop, B: Bell + Clone + Drop, G: Gate> Hub<L, K, B, 
             alloc: _,
             core,
             queue,
-            answered,
+            signals: _,
             gate: _,
         } = self;
         let mut core = core.into_inner();
-        take_back_all(&mut core, queue.into_inner(), answered.into_inner());
+        let (waiting, answered) = queue.into_inner().into_parts();
+        take_back_all(&mut core, waiting, answered);
         core.show();
         core
     }
-}
-
-// Says the message by itself.
-fn say_at_once<L: Ledger, K: Keeper + Drop, B: Bell + Clone + Drop>(
-    core: &mut Core<L, K, B>,
-    seat: Seat<L>,
-    message: Up,
-    now: Moment,
-    due: &mut Vec<B>,
-) -> (Seat<L>, Result<Said, HubFault>)
-    ensures { result.0.session ≡ seat.session }
-{
-    let mut seat = seat;
-    let said = core.say(&mut seat, message, now);
-    core.take_due(Some(seat.session()), due);
-    (seat, said)
 }
 
 // Takes the seats of requests and answers that nobody waits for. There are none of these once each
 // caller has returned.
 fn take_back_all<L: Ledger, K: Keeper + Drop, B: Bell + Clone + Drop>(
     core: &mut Core<L, K, B>,
-    queue: VecDeque<Request<L>>,
+    waiting: VecDeque<Request<L>>,
     answered: Vec<Answer<L>>,
 ) {
-    let mut queue = queue;
-    'queue: while let Some(request) = queue.pop_front() {
-        let (seat, message) = request.into_parts();
-        drop(message);
+    let mut waiting = waiting;
+    'waiting: while let Some(request) = waiting.pop_front() {
+        let (seat, messages) = request.into_parts();
+        drop(messages);
         core.take_back(seat);
     }
-    queue.destroy_empty();
+    waiting.destroy_empty();
     let mut answered = answered;
     'answered: while let Some(answer) = answered.pop() {
         let (seat, said) = answer.into_parts();

@@ -6,14 +6,14 @@ use crate::callers::{now, tick};
 use anyhow::{Result, anyhow};
 use pres_hub::{Core, Hub, MemKeeper, NoBell, OpenGate};
 use pres_sock::{Clock, serve_stream};
-use pres_websocket::SockFault;
+use pres_websocket::{Nonblocking, SockFault};
 use std::alloc::{AllocError, Global};
-use std::io;
 use std::io::{ErrorKind, Read, Write};
 use std::marker::Brand;
 use std::sync::Wait;
 use std::sync::ledger::{Blank, Ledger};
 use std::thread::Threads;
+use std::{io, time};
 
 // A request that asks for a WebSocket.
 const HEAD: &[u8] =
@@ -102,6 +102,9 @@ impl Read for Brought {
     }
 }
 
+// its reads never wait
+impl Nonblocking for Brought {}
+
 impl Write for Brought {
     fn write(&mut self, buf: &[u8]) -> io::Result<usize> {
         Ok(buf.len())
@@ -150,7 +153,7 @@ fn ticked<L: Ledger, R: Wait>(rt: &R, hub: &Hub<L, MemKeeper, NoBell, OpenGate>)
 }
 
 // One connection to a new hub, and then a tick, with a ledger that the caller picks.
-fn served_with<L: Ledger + Send + Sync, R: Wait + Threads + Sync>(
+fn served_with<L: Ledger + Send + Sync, R: Wait + Threads + time::Clock + Sync>(
     rt: &R,
     alloc: Global,
     blank: Blank,
@@ -186,7 +189,10 @@ fn served_with<L: Ledger + Send + Sync, R: Wait + Threads + Sync>(
 
 /// How the connection ends, the report's number, how many messages were accepted, how many seats are out,
 /// whether the seats made what was accepted, and whether the hub went down.
-pub(crate) fn play<R: Wait + Threads + Sync>(rt: &R, alloc: Global) -> Result<String> {
+pub(crate) fn play<R: Wait + Threads + time::Clock + Sync>(
+    rt: &R,
+    alloc: Global,
+) -> Result<String> {
     let stream = Brought {
         pieces: pieces(alloc)?,
         piece: 0,

@@ -20,9 +20,14 @@ use anyhow::{Result, anyhow};
 use std::env;
 use std::sync::Wait;
 use std::thread::Threads;
+use std::time::Clock;
 
 // What the scenario shows.
-fn played<R: Wait + Threads + Sync>(host: &HostRuntime, rt: &R, name: &str) -> Result<String> {
+fn played<R: Wait + Threads + Clock + Sync>(
+    host: &HostRuntime,
+    rt: &R,
+    name: &str,
+) -> Result<String> {
     let alloc = host.alloc();
     match name {
         "down" => down(alloc),
@@ -34,7 +39,7 @@ fn played<R: Wait + Threads + Sync>(host: &HostRuntime, rt: &R, name: &str) -> R
 }
 
 // Plays the scenarios that the words name.
-fn run<R: Wait + Threads + Sync>(host: &HostRuntime, rt: &R) -> Result<()> {
+fn run<R: Wait + Threads + Clock + Sync>(host: &HostRuntime, rt: &R) -> Result<()> {
     let words: Vec<String> = env::args(host)?.collect(host.alloc())?;
     // the first word is the program's name
     for word in words.iter().skip(1) {

@@ -1,4 +1,7 @@
-//! Batches that are kept as rows of a database in memory.
+//! Batches that are kept as rows of a database in memory, and a checkpoint in their place.
+
+ghost use Rattle.std.specs.Prelude.{IfOk};
+ghost use Rattle.pres_keeper.specs.Keepers.{KeepsOneNull};
 
 use crate::callers::{TRIES, log_text, now, too_often};
 use anyhow::{Result, anyhow};
@@ -40,10 +43,12 @@ fn kept<K: Keeper>(alloc: Global, keeper: &mut K) -> Result<String> {
 }
 
 // The server of what the keeper holds.
-fn server_of<K: Keeper>(keeper: &mut K) -> Result<Server> {
+fn server_of<K: Keeper>(keeper: &mut K) -> Result<Server>
+    ensures { IfOk result (λ server. KeepsOneNull server.sum) }
+{
     for _ in 0..TRIES {
         match keeper.server() {
-            Ok(server) => return Ok(server),
+            Ok((server, _)) => return Ok(server),
             Err(fault) => again(fault)?,
         }
     }
@@ -105,16 +110,47 @@ fn commit<K: Keeper>(alloc: Global, keeper: &mut K, text: &str) -> Result<()> {
     Err(too_often())
 }
 
-// Keeps the batches of the messages: the rows, and how many entries their server has.
+// Makes a checkpoint of what the keeper holds. A refusal has to leave the rows.
+fn checkpoint<K: Keeper>(alloc: Global, keeper: &mut K) -> Result<()> {
+    let before = kept(alloc, keeper)?;
+    for _ in 0..TRIES {
+        let server = server_of(keeper)?;
+        let made = keeper.checkpoint(&server);
+        drop(server);
+        match made {
+            Ok(()) => return Ok(()),
+            Err(fault) => again(fault)?,
+        }
+        let after = kept(alloc, keeper)?;
+        if after.as_str() != before.as_str() {
+            return Err(anyhow!("a refused checkpoint changed the rows"));
+        }
+    }
+    Err(too_often())
+}
+
+// How many entries the server has of what the keeper holds.
+fn number_of<K: Keeper>(keeper: &mut K) -> Result<u64> {
+    let server = server_of(keeper)?;
+    let number = server.number();
+    drop(server);
+    Ok(number)
+}
+
+// Keeps the batches of the messages, and then a checkpoint in their place: each time the rows, and how
+// many entries their server has.
 fn committed<K: Keeper>(alloc: Global, keeper: &mut K) -> Result<String> {
     for text in MESSAGES {
         commit(alloc, keeper, text)?;
     }
     let rows = kept(alloc, keeper)?;
-    let server = server_of(keeper)?;
-    let number = server.number();
-    drop(server);
-    let text = format!(in alloc; "{rows}{number} entries\n")?;
+    let number = number_of(keeper)?;
+    checkpoint(alloc, keeper)?;
+    let left = kept(alloc, keeper)?;
+    let found = number_of(keeper)?;
+    let text = format!(in alloc;
+        "{rows}{number} entries\n{left}{found} entries behind a checkpoint\n"
+    )?;
     Ok(text)
 }
 
@@ -146,7 +182,8 @@ fn played<S: Alter + Drop>(alloc: Global, mut connection: Connection<S>) -> Resu
     Err(too_often())
 }
 
-/// Two batches are kept as rows. The rows, and how many entries their server has.
+/// Two batches are kept as rows, and then a checkpoint in their place. Each time the rows, and how many
+/// entries their server has.
 pub(crate) fn play(alloc: Global) -> Result<String> {
     for _ in 0..TRIES {
         if let Ok(connection) = Connection::open_in_memory(alloc) {

@@ -58,7 +58,7 @@ fn say_for<L: Ledger, K: Keeper + Drop, B: Bell + Clone + Drop>(
         drop(up);
         return Err(HubFault::Refused(Fault::Session));
     }
-    // it ensures that the log is legal
+    // it ensures that the history is legal
     let _ = core.dispatcher.number();
     take_message(&mut core.dispatcher, &mut core.tally, seat, up, now)?;
     core.dispatcher.end_slow(core.alloc, now);

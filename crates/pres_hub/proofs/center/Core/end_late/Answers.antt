@@ -1,12 +1,11 @@
 use Rattle.std.proofs.Common.{◌≡◌, ◌∙◌, ap, subst, sym, refl, arith}
 use Rattle.pres_server.specs.declared.input.Input.TheVariants as input
 use Rattle.pres_keeper.specs.Engines.{Runs}
-use Rattle.pres_dispatch.proofs.Behind.{Led}
-use Rattle.pres_dispatch.proofs.Standing.{led_by}
+use Rattle.pres_server.specs.Histories.{IsSum}
 use Rattle.pres_dispatch.proofs.Marks.{stay_same, stay_twice}
 use Rattle.pres_hub.proofs.Fewer.{late_fewer, rose}
 use Rattle.pres_hub.proofs.Ends.{late_more, none_late}
-use Rattle.pres_hub.proofs.CoreLogs.{goes_none, goes_twice}
+use Rattle.pres_hub.proofs.CoreHistories.{goes_none, goes_twice}
 use Rattle.pres_hub.proofs.Ticking.{late_first, late_next, late_last, late_stops}
 use Rattle.pres_dispatch.proofs.Ended.{passed_on}
 use Rattle.pres_hub.specs.CoreTurns.{StopsLateOn}
@@ -25,7 +24,7 @@ returns-then-after-before-clause-none_late g c =
     let before = c.number-before.ensures.number ∙ ap (λ x. x.run.number) c.self.view_is in
     let after = c.number-after.ensures.number ∙ ap (λ x. x.run.number) c.self-in-loop-self.view_is in
     none_late c.args.now old.run.number new.run.number old.run.server new.run.server old.lines new.lines c.in_ok-event.ensures.done
-    (subst (λ x. Runs Led x.run.server) c.self.view_is (led_by g.K.Keeper.works g.K.Keeper.keeps c.self.inside.dispatcher c.number-before.ensures.stands))
+    (subst (λ x. Runs (λ s. IsSum s.sum) x.run.server) c.self.view_is c.number-before.ensures.summed)
     (subst (λ x. Runs (λ s. x.run.number ≡ s.sum.number) x.run.server) c.self.view_is c.number-before.ensures.counted)
     (subst (λ x. Runs (λ s. x.run.number ≡ s.sum.number) x.run.server) c.self-in-loop-self.view_is c.number-after.ensures.counted)
     (sym after ∙ c.if-after-before.true ∙ before)
@@ -37,7 +36,7 @@ loop-self-smaller g c =
     let before = c.number-before.ensures.number ∙ ap (λ x. x.run.number) c.self.view_is in
     let after = c.number-after.ensures.number ∙ ap (λ x. x.run.number) c.self-in-loop-self.view_is in
     late_fewer input.Tick c.args.now old.run.number new.run.number old.run.server new.run.server old.lines new.lines c.in_ok-event.ensures.done
-    (subst (λ x. Runs Led x.run.server) c.self.view_is (led_by g.K.Keeper.works g.K.Keeper.keeps c.self.inside.dispatcher c.number-before.ensures.stands))
+    (subst (λ x. Runs (λ s. IsSum s.sum) x.run.server) c.self.view_is c.number-before.ensures.summed)
     (subst (λ x. Runs (λ s. x.run.number ≡ s.sum.number) x.run.server) c.self.view_is c.number-before.ensures.counted)
     (subst (λ x. Runs (λ s. x.run.number ≡ s.sum.number) x.run.server) c.self-in-loop-self.view_is c.number-after.ensures.counted)
     (rose old.run.number new.run.number c.in_ok-event.ensures.rises (λ h. c.if-after-before.false (after ∙ h ∙ sym before)))
@@ -55,10 +54,11 @@ loop-self-preserved g c =
       λ after behind h. before.4 after behind (late_more c.args.now c.loop-self.self.run.server c.event.new.self.run.server after c.loop-self.self.lines c.event.new.self.lines behind event.done h),
       goes_twice g.K.Keeper.works g.K.Keeper.keeps c.args.self.now c.loop-self.self c.event.new.self before.5 event.goes_on,
       late_next g.K.Keeper.works g.K.Keeper.keeps c.args.now c.args.self.now c.loop-self.self c.event.new.self before.6 event.carries,
+      event.base ∙ before.7,
     )
 
 pub loop-self-init : goal.loop-self-init
-loop-self-init g c = (refl, refl, omega arith, stay_same c.args.self.now.lines, λ after behind h. h, goes_none g.K.Keeper.works g.K.Keeper.keeps c.args.self.now, late_first g.K.Keeper.works g.K.Keeper.keeps c.args.now c.args.self.now)
+loop-self-init g c = (refl, refl, omega arith, stay_same c.args.self.now.lines, λ after behind h. h, goes_none g.K.Keeper.works g.K.Keeper.keeps c.args.self.now, late_first g.K.Keeper.works g.K.Keeper.keeps c.args.now c.args.self.now, refl)
 
 pub returns-then-after-before-clause-goes_on : goal.returns-then-after-before-clause-goes_on
 returns-then-after-before-clause-goes_on g c = goes_twice g.K.Keeper.works g.K.Keeper.keeps c.args.self.now c.loop-self.self c.event.new.self c.loop-self.invariant.5 c.in_ok-event.ensures.goes_on

@@ -2,10 +2,9 @@ use Rattle.std.proofs.Common.{◌≡◌, ◌∙◌, refl, sym, subst, true, [], 
 use Rattle.pres_ids.specs.declared.id.SessionId.{SessionId}
 use Rattle.pres_ids.specs.declared.id.Why.{Why}
 use Rattle.pres_server.specs.Sums.{is_open_in}
+use Rattle.pres_server.specs.Histories.{IsSum}
 use Rattle.pres_keeper.specs.Engines.{Runs}
 use Rattle.pres_ring.specs.Lines.{first_marked, IsFirstMarked}
-use Rattle.pres_dispatch.proofs.Behind.{Led}
-use Rattle.pres_dispatch.proofs.Standing.{led_by}
 use Rattle.pres_dispatch.proofs.Marks.{stay_same, stay_twice}
 use Rattle.pres_faults.specs.declared.hub_fault.HubFault.TheVariants.{Memory}
 use Rattle.pres_dispatch.proofs.Ended.{passed_on}
@@ -14,7 +13,7 @@ use Rattle.pres_hub.specs.CoreCalls.{IsCarriedOut, IsEventRefused, StopsAtMark}
 use Rattle.pres_hub.proofs.Fewer.{marked_fewer}
 use Rattle.pres_hub.proofs.Ends.{marked_more, stops_uncopied, refused_end}
 use Rattle.pres_hub.specs.CoreTurns.{CarriesOn, StopsAtMarkOn}
-use Rattle.pres_hub.proofs.CoreLogs.{goes_none, goes_twice}
+use Rattle.pres_hub.proofs.CoreHistories.{goes_none, goes_twice}
 use Rattle.pres_hub.proofs.Ticking.{marked_first, marked_next, marked_last, marked_stops, marked_uncopied}
 use Rattle.pres_hub.proofs.center.Core.end_marked.Goals as goal
 
@@ -25,7 +24,7 @@ loop-next-smaller g c =
     let found : first_marked old.lines ≡ Some (c.in_ok-session.session, c.in_ok-session.why) = subst (λ r. IfOk r (λ e. first_marked old.lines ≡ Some e)) c.in_ok-session.was c.in-Some.ensures.session in
     let is : Runs (λ s. is_open_in c.in_ok-session.session s.sum ≡ true) old.run.server = subst (λ o. IfSome o (λ e. Runs (λ s. is_open_in e.0 s.sum ≡ true) old.run.server)) found c.in-Some.ensures.open in
     marked_fewer c.in_ok-session.why c.in_ok-session.session c.args.now c.loop-next.self.run.server c.event.new.self.run.server c.loop-next.self.lines c.event.new.self.lines carried
-    (subst (λ x. Runs Led x.run.server) c.self.view_is (led_by g.K.Keeper.works g.K.Keeper.keeps c.self.inside.dispatcher c.number.ensures.stands))
+    (subst (λ x. Runs (λ s. IsSum s.sum) x.run.server) c.self.view_is c.number.ensures.summed)
     (subst (λ x. Runs (λ s. is_open_in c.in_ok-session.session s.sum ≡ true) x.run.server) c.self.view_is is)
 
 pub loop-next-preserved : goal.loop-next-preserved
@@ -49,6 +48,7 @@ loop-next-preserved g c =
       marked_next g.K.Keeper.works g.K.Keeper.keeps c.args.now c.args.self.now c.loop-next.self c.event.new.self (c.in_ok-session.session, c.in_ok-session.why) before.6
           (subst (λ x. IsFirstMarked (c.in_ok-session.session, c.in_ok-session.why) x.lines) c.self.view_is first)
           (subst (λ i. CarriesOn g.K.Keeper.works g.K.Keeper.keeps i c.args.now c.loop-next.self c.event.new.self) c.end_by.ensures.input event.carries),
+      event.base ∙ before.7,
     )
 
 pub returns-in_err-session-clause-stopped : goal.returns-in_err-session-clause-stopped
@@ -78,7 +78,7 @@ returns-in_err-event-clause-stopped g c =
     (subst (λ lines. StopsAtMark c.args.now c.args.self.now.run.server new.run.server c.args.self.now.lines lines c.in_err-event.field-0.0) (sym c.in_err-event.ensures.lines) stopped)
 
 pub loop-next-init : goal.loop-next-init
-loop-next-init g c = (refl, refl, omega arith, stay_same c.args.self.now.lines, λ after behind h. h, goes_none g.K.Keeper.works g.K.Keeper.keeps c.args.self.now, marked_first g.K.Keeper.works g.K.Keeper.keeps c.args.now c.args.self.now)
+loop-next-init g c = (refl, refl, omega arith, stay_same c.args.self.now.lines, λ after behind h. h, goes_none g.K.Keeper.works g.K.Keeper.keeps c.args.self.now, marked_first g.K.Keeper.works g.K.Keeper.keeps c.args.now c.args.self.now, refl)
 
 pub returns-in_err-event-clause-goes_on : goal.returns-in_err-event-clause-goes_on
 returns-in_err-event-clause-goes_on g c = goes_twice g.K.Keeper.works g.K.Keeper.keeps c.args.self.now c.loop-next.self c.event.new.self c.loop-next.invariant.5 c.in_err-event.ensures.goes_on

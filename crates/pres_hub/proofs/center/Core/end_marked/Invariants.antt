@@ -8,12 +8,13 @@ use Rattle.pres_hub.proofs.Fewer.{left_of}
 use Rattle.pres_hub.proofs.Ticking.{MarkedSince}
 use Rattle.pres_hub.proofs.center.Core.end_marked.Given as goal
 
--- what is ended from now on is ended from the beginning on, and each log that stood then goes on to one that stands now
+-- what is ended from now on is ended from the beginning on, and histories that stood then go on to some that stand now
 abbrev pub invariant-loop-next : goal.invariant-loop-next
 invariant-loop-next g l =
     (l.self.counts ≡ l.fn.self.counts) × (l.self.start ≡ l.fn.self.start) × (l.fn.self.run.number ≤ l.self.run.number) × StayMarked l.fn.self.lines l.self.lines
     × ((after : Option SumState) (behind : Lines) → AreMarkedEnded l.now l.self.run.server after l.self.lines behind → AreMarkedEnded l.now l.fn.self.run.server after l.fn.self.lines behind)
     × GoesOn g.K.Keeper.works g.K.Keeper.keeps l.fn.self l.self × MarkedSince g.K.Keeper.works g.K.Keeper.keeps l.now l.fn.self l.self
+    × (l.self.run.base_number ≡ l.fn.self.run.base_number)
 
 abbrev pub decreases-loop-next : goal.decreases-loop-next
 decreases-loop-next g l = left_of l.self.run.server

@@ -5,7 +5,7 @@ use Rattle.pres_hub.specs.Cores.{GoesOn}
 use Rattle.pres_hub.specs.CoreTurns.{CarriesOn, StandsStill}
 use Rattle.pres_hub.specs.CoreCalls.{IsCarriedOut}
 use Rattle.pres_hub.proofs.Counted.{same_accepted, no_hello}
-use Rattle.pres_hub.proofs.CoreLogs.{some_goes_on, goes_same, goes_carried, carries_on, stands_still, on_err}
+use Rattle.pres_hub.proofs.CoreHistories.{some_goes_on, goes_same, goes_carried, carries_on, stands_still, on_err}
 use Rattle.pres_hub.proofs.Ends.{turn_left}
 use Rattle.pres_hub.proofs.center.Core.event.Goals as goal
 
@@ -24,7 +24,7 @@ invariant_of-self-2 g c =
           (record { run = c.self.inside.dispatcher.run; lines = c.self.inside.dispatcher.lines; counts = c.self.inside.tally; start = c.self.inside.start })
           (record { run = c.end_slow.new.self.run; lines = c.end_slow.new.self.lines; counts = c.self.inside.tally; start = c.self.inside.start })
           c.turn.new.self c.args.input c.args.now refl c.in_ok-turn.ensures.stands
-          (λ log h. same_accepted c.self.inside.start c.self.inside.tally.accepted log c.self.inside.dispatcher.run.server c.turn.new.self.run.server c.args.input c.args.now done.0 c.requires done.1 h) c.end_slow.ensures.stands)
+          (λ l h. same_accepted c.self.inside.start c.self.inside.tally.accepted l c.self.inside.dispatcher.run.server c.turn.new.self.run.server c.args.input c.args.now done.0 c.requires done.1 h) c.end_slow.ensures.stands)
           c.self.invariant.stands;
       none_slow = c.end_slow.ensures.none_slow;
     }
@@ -37,7 +37,7 @@ returns-clause-goes_on g c =
     (record { run = c.self.inside.dispatcher.run; lines = c.self.inside.dispatcher.lines; counts = c.self.inside.tally; start = c.self.inside.start })
     (record { run = c.end_slow.new.self.run; lines = c.end_slow.new.self.lines; counts = c.self.inside.tally; start = c.self.inside.start })
     c.turn.new.self c.args.input c.args.now refl c.in_ok-turn.ensures.stands
-    (λ log h. same_accepted c.self.inside.start c.self.inside.tally.accepted log c.self.inside.dispatcher.run.server c.turn.new.self.run.server c.args.input c.args.now done.0 c.requires done.1 h) c.end_slow.ensures.stands)
+    (λ l h. same_accepted c.self.inside.start c.self.inside.tally.accepted l c.self.inside.dispatcher.run.server c.turn.new.self.run.server c.args.input c.args.now done.0 c.requires done.1 h) c.end_slow.ensures.stands)
 
 pub returns-clause-done : goal.returns-clause-done
 returns-clause-done g c =
@@ -75,13 +75,13 @@ pub returns-clause-carries : goal.returns-clause-carries
 returns-clause-carries g c =
     let done = c.in_ok-turn.ensures.answered in
     subst (λ x. CarriesOn g.K.Keeper.works g.K.Keeper.keeps c.args.input c.args.now x (record { run = c.end_slow.new.self.run; lines = c.end_slow.new.self.lines; counts = c.self.inside.tally; start = c.self.inside.start })) c.self.view_is
-    (λ log stands.
+    (λ before stands.
     let k =
     carries_on g.K.Keeper.works g.K.Keeper.keeps
     (record { run = c.self.inside.dispatcher.run; lines = c.self.inside.dispatcher.lines; counts = c.self.inside.tally; start = c.self.inside.start })
     (record { run = c.end_slow.new.self.run; lines = c.end_slow.new.self.lines; counts = c.self.inside.tally; start = c.self.inside.start })
     c.turn.new.self c.args.input c.args.now refl c.in_ok-turn.ensures.stands
-    (λ l h. same_accepted c.self.inside.start c.self.inside.tally.accepted l c.self.inside.dispatcher.run.server c.turn.new.self.run.server c.args.input c.args.now done.0 c.requires done.1 h) c.end_slow.ensures.stands log stands in
+    (λ l h. same_accepted c.self.inside.start c.self.inside.tally.accepted l c.self.inside.dispatcher.run.server c.turn.new.self.run.server c.args.input c.args.now done.0 c.requires done.1 h) c.end_slow.ensures.stands before stands in
     (record { middle = c.turn.new.self.run.server; lines = c.turn.new.self.lines; answered = done; ended = k.0 }, k.1))
 
 pub returns-in_err-turn-clause-still : goal.returns-in_err-turn-clause-still

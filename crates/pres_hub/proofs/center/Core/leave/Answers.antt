@@ -1,7 +1,7 @@
 use Rattle.std.proofs.Common.{◌≡◌, ◌∙◌, ap, sym, subst, refl, inl}
 use Rattle.pres_hub.specs.Cores.{GoesOn, end_by}
 use Rattle.pres_hub.specs.CoreTurns.{CarriesOn}
-use Rattle.pres_hub.proofs.CoreLogs.{goes_twice, goes_still, stands_still, carries_recounted, on_none}
+use Rattle.pres_hub.proofs.CoreHistories.{goes_twice, goes_still, stands_still, carries_recounted, on_none, some_goes_on, struck_none_slow}
 use Rattle.pres_hub.proofs.center.Core.leave.Goals as goal
 
 pub returns-in-Ok-clause-carries : goal.returns-in-Ok-clause-carries
@@ -29,3 +29,16 @@ returns-in-Err-clause-goes_on g c =
     (stands_still g.K.Keeper.works g.K.Keeper.keeps (record { run = c.self-2.inside.dispatcher.run; lines = c.self-2.inside.dispatcher.lines; counts = c.self-2.inside.tally; start = c.self-2.inside.start })
     (record { run = c.strike.new.self.run; lines = c.strike.new.self.lines; counts = c.take-in-Err.new.self; start = c.self-2.inside.start })
     c.strike.ensures.stands (inl (ap (λ run. run.server) c.strike.ensures.run)) refl (ap (λ t. t.accepted) c.take-in-Err.ensures.tally)))
+
+pub invariant_of-self-in-Err : goal.invariant_of-self-in-Err
+invariant_of-self-in-Err g c =
+    let K = g.K.Keeper in
+    record {
+      stands =
+          some_goes_on K.works K.keeps (record { run = c.self-2.inside.dispatcher.run; lines = c.self-2.inside.dispatcher.lines; counts = c.self-2.inside.tally; start = c.self-2.inside.start }) (record { run = c.strike.new.self.run; lines = c.strike.new.self.lines; counts = c.take-in-Err.new.self; start = c.self-2.inside.start })
+          (goes_still K.works K.keeps (record { run = c.self-2.inside.dispatcher.run; lines = c.self-2.inside.dispatcher.lines; counts = c.self-2.inside.tally; start = c.self-2.inside.start }) (record { run = c.strike.new.self.run; lines = c.strike.new.self.lines; counts = c.take-in-Err.new.self; start = c.self-2.inside.start })
+          (stands_still K.works K.keeps (record { run = c.self-2.inside.dispatcher.run; lines = c.self-2.inside.dispatcher.lines; counts = c.self-2.inside.tally; start = c.self-2.inside.start }) (record { run = c.strike.new.self.run; lines = c.strike.new.self.lines; counts = c.take-in-Err.new.self; start = c.self-2.inside.start })
+          c.strike.ensures.stands (inl (ap (λ run. run.server) c.strike.ensures.run)) refl (ap (λ t. t.accepted) c.take-in-Err.ensures.tally)))
+          c.self-2.invariant.stands;
+      none_slow = struck_none_slow c.session-in-Err.result.now c.args.why c.self-2.inside.dispatcher.lines c.strike.new.self.lines c.self-2.invariant.none_slow c.strike.ensures.line;
+    }

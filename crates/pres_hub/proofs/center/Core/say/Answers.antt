@@ -1,14 +1,14 @@
 use Rattle.std.proofs.Common.{◌≡◌, ◌+◌, sym, ◌∙◌, ap, subst, refl}
 use Rattle.pres_server.specs.declared.input.Input.TheVariants as input
 use Rattle.pres_keeper.specs.Engines.{Runs}
-use Rattle.pres_keeper.specs.EngineTurns.{log_turned}
+use Rattle.pres_keeper.specs.EngineTurns.{history_turned}
 use Rattle.std.specs.Prelude.{OnErr}
 use Rattle.pres_hub.specs.CoreTurns.{CarriesOn, StandsStill}
 use Rattle.pres_hub.specs.Cores.{GoesOn}
 use Rattle.pres_hub.specs.CoreCalls.{accepted_of, IsCarriedOut}
 use Rattle.pres_hub.proofs.Counted.{Accepted, said_accepted}
 use Rattle.pres_dispatch.specs.Dispatches.{NoneSlow}
-use Rattle.pres_hub.proofs.CoreLogs.{some_goes_on, goes_same, goes_carried, carries_on, stands_still, on_err, few_runs}
+use Rattle.pres_hub.proofs.CoreHistories.{some_goes_on, goes_same, goes_carried, carries_on, stands_still, on_err, few_runs}
 use Rattle.pres_hub.proofs.Ends.{event_left}
 use Rattle.pres_hub.proofs.center.Core.say.Goals as goal
 
@@ -29,9 +29,9 @@ invariant_of-self-2 g c =
           (record { run = c.self.inside.dispatcher.run; lines = c.self.inside.dispatcher.lines; counts = c.self.inside.tally; start = c.self.inside.start })
           (record { run = c.end_slow.new.self.run; lines = c.end_slow.new.self.lines; counts = c.take_message.new.tally; start = c.self.inside.start })
           c.take_message.new.dispatcher i c.args.now refl c.in_ok-take_message.ensures.stands
-          (λ log h.
-          subst (λ n. Runs (Accepted c.self.inside.start n (log_turned log c.self.inside.dispatcher.run.server i c.args.now)) c.take_message.new.dispatcher.run.server) (sym (ap (λ x. x.accepted) c.in_ok-take_message.ensures.tally))
-          (said_accepted c.self.inside.start c.self.inside.tally.accepted log c.self.inside.dispatcher.run.server c.take_message.new.dispatcher.run.server c.args.up c.args.now answered.0 answered.1 h))
+          (λ l h.
+          subst (λ n. Runs (Accepted c.self.inside.start n (history_turned l c.self.inside.dispatcher.run.server i c.args.now)) c.take_message.new.dispatcher.run.server) (sym (ap (λ x. x.accepted) c.in_ok-take_message.ensures.tally))
+          (said_accepted c.self.inside.start c.self.inside.tally.accepted l c.self.inside.dispatcher.run.server c.take_message.new.dispatcher.run.server c.args.up c.args.now answered.0 answered.1 h))
           c.end_slow.ensures.stands)
           c.self.invariant.stands;
       none_slow = c.end_slow.ensures.none_slow;
@@ -46,9 +46,9 @@ returns-clause-goes_on g c =
     (record { run = c.self.inside.dispatcher.run; lines = c.self.inside.dispatcher.lines; counts = c.self.inside.tally; start = c.self.inside.start })
     (record { run = c.end_slow.new.self.run; lines = c.end_slow.new.self.lines; counts = c.take_message.new.tally; start = c.self.inside.start })
     c.take_message.new.dispatcher i c.args.now refl c.in_ok-take_message.ensures.stands
-    (λ log h.
-    subst (λ n. Runs (Accepted c.self.inside.start n (log_turned log c.self.inside.dispatcher.run.server i c.args.now)) c.take_message.new.dispatcher.run.server) (sym (ap (λ x. x.accepted) c.in_ok-take_message.ensures.tally))
-    (said_accepted c.self.inside.start c.self.inside.tally.accepted log c.self.inside.dispatcher.run.server c.take_message.new.dispatcher.run.server c.args.up c.args.now answered.0 answered.1 h))
+    (λ l h.
+    subst (λ n. Runs (Accepted c.self.inside.start n (history_turned l c.self.inside.dispatcher.run.server i c.args.now)) c.take_message.new.dispatcher.run.server) (sym (ap (λ x. x.accepted) c.in_ok-take_message.ensures.tally))
+    (said_accepted c.self.inside.start c.self.inside.tally.accepted l c.self.inside.dispatcher.run.server c.take_message.new.dispatcher.run.server c.args.up c.args.now answered.0 answered.1 h))
     c.end_slow.ensures.stands)
 
 pub returns-clause-heard : goal.returns-clause-heard
@@ -97,16 +97,16 @@ returns-clause-carries g c =
     let answered = c.in_ok-take_message.ensures.answered in
     let i = input.Up c.args.up in
     subst (λ x. CarriesOn g.K.Keeper.works g.K.Keeper.keeps i c.args.now x (record { run = c.end_slow.new.self.run; lines = c.end_slow.new.self.lines; counts = c.take_message.new.tally; start = c.self.inside.start })) c.self.view_is
-    (λ log stands.
+    (λ before stands.
     let k =
     carries_on g.K.Keeper.works g.K.Keeper.keeps
     (record { run = c.self.inside.dispatcher.run; lines = c.self.inside.dispatcher.lines; counts = c.self.inside.tally; start = c.self.inside.start })
     (record { run = c.end_slow.new.self.run; lines = c.end_slow.new.self.lines; counts = c.take_message.new.tally; start = c.self.inside.start })
     c.take_message.new.dispatcher i c.args.now refl c.in_ok-take_message.ensures.stands
     (λ l h.
-    subst (λ n. Runs (Accepted c.self.inside.start n (log_turned l c.self.inside.dispatcher.run.server i c.args.now)) c.take_message.new.dispatcher.run.server) (sym (ap (λ x. x.accepted) c.in_ok-take_message.ensures.tally))
+    subst (λ n. Runs (Accepted c.self.inside.start n (history_turned l c.self.inside.dispatcher.run.server i c.args.now)) c.take_message.new.dispatcher.run.server) (sym (ap (λ x. x.accepted) c.in_ok-take_message.ensures.tally))
     (said_accepted c.self.inside.start c.self.inside.tally.accepted l c.self.inside.dispatcher.run.server c.take_message.new.dispatcher.run.server c.args.up c.args.now answered.0 answered.1 h))
-    c.end_slow.ensures.stands log stands in
+    c.end_slow.ensures.stands before stands in
     (record { middle = c.take_message.new.dispatcher.run.server; lines = c.take_message.new.dispatcher.lines; answered = answered; ended = k.0 }, k.1))
 
 pub returns-in_err-take_message-clause-still : goal.returns-in_err-take_message-clause-still

@@ -1,7 +1,7 @@
 use Rattle.std.proofs.Common.{◌≡◌, ◌∙◌, sym, refl, length, arith}
 use Rattle.std.proofs.lemmas.Bool.{eqb-true}
 use Rattle.std.specs.VecDeque.{deque_len}
-use Rattle.pres_hub.proofs.CoreLogs.{goes_none, goes_twice}
+use Rattle.pres_hub.proofs.CoreHistories.{goes_none, goes_twice}
 use Rattle.pres_hub.proofs.Gathered.{first_none, first_then, first_all, none_left}
 use Rattle.pres_hub.proofs.center.Core.say_all.Goals as goal
 
@@ -12,6 +12,7 @@ requests-init g c =
       said = first_none K.works K.keeps c.args.requests.now.items c.args.answers.now.items c.args.now c.args.self.now;
       room = c.requires.room;
       rises = omega arith;
+      base = refl;
       start = refl;
       goes_on = goes_none K.works K.keeps c.args.self.now;
     }
@@ -27,6 +28,7 @@ requests-preserved g c =
           c.say_some.new.self i.said e.said;
       room = e.room;
       rises = omega (arith, i.rises, e.rises);
+      base = e.base ∙ i.base;
       start = e.start ∙ i.start;
       goes_on = goes_twice K.works K.keeps c.args.self.now c.requests.self c.say_some.new.self i.goes_on e.goes_on;
     }

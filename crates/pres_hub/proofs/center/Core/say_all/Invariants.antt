@@ -10,6 +10,7 @@ invariant-requests g l = let K = g.K.Keeper in record {
   said : AreSaidFirst K.works K.keeps l.fn.requests.items l.fn.answers.items l.now l.fn.self l.self l.requests.items l.answers.items;
   room : vec_len l.answers + deque_len l.requests ≤ vec_capacity l.answers;
   rises : l.fn.self.run.number ≤ l.self.run.number;
+  base : l.self.run.base_number ≡ l.fn.self.run.base_number;
   start : l.self.start ≡ l.fn.self.start;
   goes_on : GoesOn K.works K.keeps l.fn.self l.self;
 }

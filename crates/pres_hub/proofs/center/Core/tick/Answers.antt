@@ -3,7 +3,7 @@ use Rattle.pres_server.specs.Sums.{is_open_in}
 use Rattle.pres_keeper.specs.Engines.{Runs}
 use Rattle.pres_ring.specs.Lines.{line_at}
 use Rattle.pres_dispatch.specs.Dispatches.{StaysMarked}
-use Rattle.pres_hub.proofs.CoreLogs.{goes_twice}
+use Rattle.pres_hub.proofs.CoreHistories.{goes_twice}
 use Rattle.pres_dispatch.proofs.Ended.{passed_on}
 use Rattle.pres_hub.specs.CoreTurns.{TickStopsOn}
 use Rattle.pres_hub.proofs.Ends.{closed_there}
@@ -25,8 +25,8 @@ returns-clause-closed g c = λ s marked.
     (closed_there g.K.Keeper.works g.K.Keeper.keeps c.self-2.inside.dispatcher c.number-after.ensures.stands s (ap (λ x. line_at s x.lines) c.self-2.view_is ∙ none))
 
 pub returns-clause-carries : goal.returns-clause-carries
-returns-clause-carries g c = λ log stands.
-    let marked = c.in_ok-end_marked.ensures.carries log stands in
+returns-clause-carries g c = λ before stands.
+    let marked = c.in_ok-end_marked.ensures.carries before stands in
     let late = c.in_ok-end_late.ensures.carries _ marked.1 in (
       record {
         middle = c.end_marked.new.self.run.server;

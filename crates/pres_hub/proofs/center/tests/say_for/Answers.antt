@@ -3,11 +3,11 @@ use Rattle.pres_server.specs.declared.input.Input.TheVariants as input
 use Rattle.pres_wire.specs.Messages.{session_in}
 use Rattle.pres_server.specs.Sums.{accepted_in}
 use Rattle.pres_keeper.specs.Engines.{Runs}
-use Rattle.pres_keeper.specs.EngineTurns.{log_turned}
+use Rattle.pres_keeper.specs.EngineTurns.{history_turned}
 use Rattle.pres_hub.specs.CoreCalls.{HasSameCount}
 use Rattle.pres_hub.proofs.Counted.{Accepted, said_accepted}
 use Rattle.pres_dispatch.specs.Dispatches.{NoneSlow}
-use Rattle.pres_hub.proofs.CoreLogs.{some_goes_on, goes_same, goes_carried, few_runs}
+use Rattle.pres_hub.proofs.CoreHistories.{some_goes_on, goes_same, goes_carried, few_runs}
 use Rattle.pres_hub.proofs.Ends.{event_left}
 use Rattle.pres_hub.proofs.center.tests.say_for.Goals as goal
 
@@ -34,9 +34,9 @@ invariant_of-core-2 g c =
           (record { run = c.core.inside.dispatcher.run; lines = c.core.inside.dispatcher.lines; counts = c.core.inside.tally; start = c.core.inside.start })
           (record { run = c.end_slow.new.self.run; lines = c.end_slow.new.self.lines; counts = c.take_message.new.tally; start = c.core.inside.start })
           c.take_message.new.dispatcher i c.args.now refl c.in_ok-take_message.ensures.stands
-          (λ log h.
-          subst (λ n. Runs (Accepted c.core.inside.start n (log_turned log c.core.inside.dispatcher.run.server i c.args.now)) c.take_message.new.dispatcher.run.server) (sym (ap (λ x. x.accepted) c.in_ok-take_message.ensures.tally))
-          (said_accepted c.core.inside.start c.core.inside.tally.accepted log c.core.inside.dispatcher.run.server c.take_message.new.dispatcher.run.server c.args.up c.args.now answered.0 answered.1 h))
+          (λ l h.
+          subst (λ n. Runs (Accepted c.core.inside.start n (history_turned l c.core.inside.dispatcher.run.server i c.args.now)) c.take_message.new.dispatcher.run.server) (sym (ap (λ x. x.accepted) c.in_ok-take_message.ensures.tally))
+          (said_accepted c.core.inside.start c.core.inside.tally.accepted l c.core.inside.dispatcher.run.server c.take_message.new.dispatcher.run.server c.args.up c.args.now answered.0 answered.1 h))
           c.end_slow.ensures.stands)
           c.core.invariant.stands;
       none_slow = c.end_slow.ensures.none_slow;

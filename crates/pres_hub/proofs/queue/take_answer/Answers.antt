@@ -1,6 +1,6 @@
 use Rattle.std.proofs.Common.{◌∙◌, ap, sym, slice_index_or}
 use Rattle.pres_hub.specs.CoreGroups.{AnswerState}
-use Rattle.pres_hub.proofs.locked.take_answer.Goals as goal
+use Rattle.pres_hub.proofs.queue.take_answer.Goals as goal
 
 pub returns : goal.returns
 returns g c =
