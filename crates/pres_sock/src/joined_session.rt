@@ -1,19 +1,19 @@
 //! A connection's place at its hub.
 
-ghost use Rattle.std.specs.Prelude.{◌≡◌, ◌≤◌, false, true, is_some, Some, None, Err, OnOk, OnErr, IfOk, IfErr, IfSome};
-ghost use Rattle.pres_wire.specs.UpForms.{decoded};
-ghost use Rattle.pres_wire.specs.declared.fault.WireFault.{WireFault};
+ghost use Rattle.std.specs.Prelude.{◌≡◌, ◌≤◌, false, true, is_some, Some, None, OnOk, OnErr, IfOk, IfErr, IfSome};
 ghost use Rattle.pres_wire.specs.declared.down.Down.TheVariants.{Fault};
 ghost use Rattle.pres_websocket.specs.ConnectionFaults.{is_handshake};
 ghost use Rattle.pres_sock.specs.Refusals as refusal;
 
 use pres_faults::HubFault;
-use pres_hub::{Bell, Gate, Hub, Keeper, Moment, Outbox, Parting, Seat, SessionId, Up, Why};
+use pres_hub::{Bell, Gate, Hub, Keeper, Moment, Outbox, Parting, Said, Seat, SessionId, Up, Why};
 use pres_websocket::SockFault;
-use pres_wire::{Code, Down, WireFault};
+use pres_wire::{Code, Down};
 use std::alloc::Global;
+use std::collections::VecDeque;
 use std::sync::Wait;
 use std::sync::ledger::Ledger;
+use std::time::Clock;
 
 /// Where a connection was let in.
 #[derive(Drop)]
@@ -25,7 +25,7 @@ pub(crate) struct HubAccess<'a, L: Ledger, K: Keeper + Drop, B, G: Gate, R> {
 
 /// The seat of a connection's session, and the end from which its messages are taken.
 pub(crate) struct JoinedSession<L: Ledger> {
-    // none only while the hub has it with a message
+    // none only while the hub has it with messages
     seat: Option<Seat<L>>,
     outbox: Outbox,
     ghost seated: { is_some seat ≡ true },
@@ -89,45 +89,22 @@ impl<L: Ledger> JoinedSession<L> {
         self.outbox.take()
     }
 
-    /// Takes a text to the hub: the fault message that answers it, where the hub's own messages
-    /// don't. The bells of others that are due then are added to these.
-    pub(crate) fn hear<K: Keeper + Drop, B: Bell + Clone + Drop, G: Gate, R: Wait>(
+    /// Takes messages to the hub, which has the seat meanwhile: what each of them comes to, in their
+    /// order; none where memory for that is refused. The bells of others that are due then are added
+    /// to these.
+    pub(crate) fn say_each<K: Keeper + Drop, B: Bell + Clone + Drop, G: Gate, R: Wait + Clock>(
         &mut self,
         visit: &HubAccess<'_, L, K, B, G, R>,
         due: &mut Vec<B>,
-        text: &str,
+        messages: VecDeque<Up>,
         now: Moment,
-    ) -> Result<Option<Down>, SockFault>
-        ensures bad { (e : WireFault) → decoded text.now ≡ Err e → IfSome self.old.seat
-            (λ seat. IfOk result (refusal.AnswersBad seat.session)) }
-        ensures err { IfErr result (λ e. is_handshake e ≡ false) }
-    {
-        let up = match Up::decode(visit.alloc, text) {
-            Ok(up) => up,
-            Err(WireFault::Memory) => return Ok(Some(self.fault(visit.alloc, Code::Busy)?)),
-            Err(_) => return Ok(Some(self.fault(visit.alloc, Code::Bad)?)),
-        };
-        match self.say(visit, due, up, now) {
-            Ok(()) => Ok(None),
-            Err(fault) => Ok(Some(self.fault(visit.alloc, code_of(fault)?)?)),
-        }
-    }
-
-    // Takes a message to the hub, which has the seat meanwhile.
-    fn say<K: Keeper + Drop, B: Bell + Clone + Drop, G: Gate, R: Wait>(
-        &mut self,
-        visit: &HubAccess<'_, L, K, B, G, R>,
-        due: &mut Vec<B>,
-        up: Up,
-        now: Moment,
-    ) -> Result<(), HubFault> {
+    ) -> Vec<Result<Said, HubFault>> {
         let Some(seat) = self.seat.take() else {
             unreachable!()
         };
-        let (seat, said) = visit.hub.say(visit.rt, 0, seat, up, now, due);
+        let (seat, said) = visit.hub.say_each(visit.rt, 0, seat, messages, now, due);
         fill(&mut self.seat, seat);
-        said?;
-        Ok(())
+        said
     }
 
     /// Gives the seat back. The bells of others that are due then are added to these.

@@ -3,5 +3,6 @@
 
 mod joined_session;
 mod serve;
+mod together;
 
 pub use serve::{Clock, serve_stream};

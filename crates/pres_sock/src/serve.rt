@@ -1,6 +1,6 @@
 //! The server's side of a connection.
 
-ghost use Rattle.std.specs.Prelude.{◌≡◌, ◌≤◌, ◌⊎◌, ⊤, ℕ, List, true, false, None, Ok, Err, OnOk, OnErr, IfOk, IfErr, IfSome, IfNone, OnSome};
+ghost use Rattle.std.specs.Prelude.{◌≡◌, ◌≤◌, ◌⊎◌, ⊤, true, false, None, Ok, OnOk, OnErr, IfOk, IfErr, IfSome, IfNone, OnSome};
 ghost use Rattle.serde_json.specs.Written.{compact_text};
 ghost use Rattle.tungstenite.specs.Connection.{write_step};
 ghost use Rattle.tungstenite.specs.Content.{text};
@@ -8,23 +8,23 @@ ghost use Rattle.tungstenite.specs.Socket.{Writes};
 ghost use Rattle.pres_wire.specs.DownForms.{down_json};
 ghost use Rattle.pres_wire.specs.UpForms.{decoded};
 ghost use Rattle.pres_wire.specs.declared.down.Code.TheVariants.{Bad, Busy};
-ghost use Rattle.pres_wire.specs.declared.fault.WireFault.{WireFault};
 ghost use Rattle.pres_wire.specs.declared.up.Up.TheVariants.{Hello};
 ghost use Rattle.pres_websocket.specs.ConnectionFaults.{is_handshake, fails_to_shake};
-ghost use Rattle.pres_websocket.specs.declared.socket.Received.TheVariants.{Binary, Text};
-ghost use Rattle.pres_sock.specs.Refusals.{bad, AnswersBad, IsNoHello, IsHelloRefusal, is_last};
+ghost use Rattle.pres_sock.specs.Refusals.{IsNoHello, IsHelloRefusal, is_last};
 ghost use Rattle.pres_sock.specs.Bells.{left_of};
 
 use crate::joined_session::{HubAccess, JoinedSession, code_of, join, ring};
-use pres_hub::{Bell, Gate, Hub, Keeper, Moment, Parting, SessionId, Up};
-use pres_websocket::{Received, SockFault, Socket, accept, close, flush, read, write};
+use crate::together::{Asked, asked_by, read_together};
+use pres_hub::{Bell, Gate, Hub, HubFault, Keeper, Moment, Parting, Said, SessionId, Up};
+use pres_websocket::{Nonblocking, Received, SockFault, Socket, accept, close, flush, read, write};
 use pres_wire::{Code, Down, WireFault};
 use std::alloc::Global;
+use std::collections::VecDeque;
 use std::io::{Read, Write};
 use std::sync::Wait;
 use std::sync::ledger::Ledger;
-use std::thread;
 use std::thread::Threads;
+use std::{thread, time};
 use tungstenite::NoMask;
 
 /// The time in milliseconds since 1970, as a log has it.
@@ -63,24 +63,38 @@ impl<L: Ledger, B, S> Served<L, B, S> {
     }
 }
 
-impl<L: Ledger, B, S: Read + Write + Drop> Served<L, B, S> {
+impl<L: Ledger, B, S: Read + Write + Nonblocking + Drop> Served<L, B, S> {
     // Sends what waits.
     fn send(&mut self, alloc: Global) {
         self.step = send_all(alloc, &mut self.socket, &mut self.place);
     }
 
-    // The answer to this read, and what waits for the session.
-    fn turn<K: Keeper + Drop, G: Gate, R: Wait, C: Clock>(
+    // Answers this read, and sends what waits for the session. Returns what was read after it.
+    fn turn<K: Keeper + Drop, G: Gate, R: Wait + time::Clock, C: Clock>(
         &mut self,
         visit: &HubAccess<'_, L, K, B, G, R>,
         came: Received,
         clock: &mut C,
-    )
+    ) -> Result<Received, SockFault>
     where
         B: Bell + Clone + Drop,
+        ensures { IfErr result (λ e. is_handshake e ≡ false) }
     {
         let (socket, place, due) = (&mut self.socket, &mut self.place, &mut self.due);
-        self.step = turn(visit, socket, place, due, came, clock);
+        let (step, next) = turn(visit, socket, place, due, came, clock);
+        self.step = step;
+        next
+    }
+
+    // What was read already, or else what a read brings.
+    fn next(&mut self, already: Result<Received, SockFault>) -> Result<Received, SockFault>
+        requires { IfErr already (λ e. is_handshake e ≡ false) }
+        ensures { IfErr result (λ e. is_handshake e ≡ false) }
+    {
+        match already {
+            Ok(Received::Nothing) => read(&mut self.socket),
+            other => other,
+        }
     }
 }
 
@@ -106,8 +120,8 @@ pub fn serve_stream<
     K: Keeper + Drop + Send,
     B: Bell + Clone + Drop + Send,
     G: Gate + Sync,
-    R: Wait + Threads + Sync,
-    S: Read + Write + Drop + Send,
+    R: Wait + Threads + time::Clock + Sync,
+    S: Read + Write + Nonblocking + Drop + Send,
     C: Clock + Send,
 >(
     rt: &R,
@@ -189,8 +203,8 @@ impl<
     K: Keeper + Drop,
     B: Bell + Clone + Drop,
     G: Gate,
-    R: Wait,
-    S: Read + Write + Drop,
+    R: Wait + time::Clock,
+    S: Read + Write + Nonblocking + Drop,
     C: Clock,
 > Task for Arrival<'a, L, K, B, G, R, S, C> {
     type Output = Begun<L, B, S>;
@@ -222,8 +236,8 @@ fn open<
     K: Keeper + Drop,
     B: Bell + Clone + Drop,
     G: Gate,
-    R: Wait,
-    S: Read + Write + Drop,
+    R: Wait + time::Clock,
+    S: Read + Write + Nonblocking + Drop,
     C: Clock,
 >(
     visit: &HubAccess<'_, L, K, B, G, R>,
@@ -401,8 +415,8 @@ fn serve<
     K: Keeper + Drop + Send,
     B: Bell + Clone + Drop + Send,
     G: Gate + Sync,
-    R: Wait + Threads + Sync,
-    S: Read + Write + Drop + Send,
+    R: Wait + Threads + time::Clock + Sync,
+    S: Read + Write + Nonblocking + Drop + Send,
     C: Clock + Send,
 >(visit: &HubAccess<'_, L, K, B, G, R>, served: &mut Served<L, B, S>, clock: &mut C) {
     for _ in 0..u64::MAX {
@@ -441,8 +455,8 @@ impl<
     K: Keeper + Drop,
     B: Bell + Clone + Drop,
     G: Gate,
-    R: Wait,
-    S: Read + Write + Drop,
+    R: Wait + time::Clock,
+    S: Read + Write + Nonblocking + Drop,
     C: Clock,
 > Task for Waking<'a, L, K, B, G, R, S, C> {
     type Output = ();
@@ -464,8 +478,8 @@ fn turns<
     K: Keeper + Drop,
     B: Bell + Clone + Drop,
     G: Gate,
-    R: Wait,
-    S: Read + Write + Drop,
+    R: Wait + time::Clock,
+    S: Read + Write + Nonblocking + Drop,
     C: Clock,
 >(
     visit: &HubAccess<'_, L, K, B, G, R>,
@@ -474,36 +488,39 @@ fn turns<
     clock: &mut C,
 ) {
     let mut idle = 0;
-    served.turn(visit, came, &mut *clock);
+    let mut came = came;
     for _ in 0..u64::MAX {
+        let next = served.turn(visit, came, &mut *clock);
         ring(&mut served.due);
         if !served.goes_on() || idle >= RESTS_BEHIND {
             return;
         }
-        match read(&mut served.socket) {
-            Ok(came) => {
-                idle = if matches!(came, Received::Nothing) {
-                    idle + 1
-                } else {
-                    0
-                };
-                served.turn(visit, came, &mut *clock);
+        came = match served.next(next) {
+            Ok(came) => came,
+            Err(fault) => {
+                served.stop(fault);
+                return;
             }
-            Err(fault) => served.stop(fault),
-        }
+        };
+        idle = if matches!(came, Received::Nothing) {
+            idle + 1
+        } else {
+            0
+        };
     }
     served.stop(SockFault::Turns);
 }
 
-// The answer to this read, and what waits for the session.
+// Answers this read, and sends what waits for the session: whether the connection goes on, and what was
+// read after it.
 #[inline(never)]
 fn turn<
     L: Ledger,
     K: Keeper + Drop,
     B: Bell + Clone + Drop,
     G: Gate,
-    R: Wait,
-    S: Read + Write + Drop,
+    R: Wait + time::Clock,
+    S: Read + Write + Nonblocking + Drop,
     C: Clock,
 >(
     visit: &HubAccess<'_, L, K, B, G, R>,
@@ -512,37 +529,104 @@ fn turn<
     due: &mut Vec<B>,
     came: Received,
     clock: &mut C,
+) -> (Result<Progress, SockFault>, Result<Received, SockFault>)
+    ensures step { IfErr result.0 (λ e. is_handshake e ≡ false) }
+    ensures next { IfErr result.1 (λ e. is_handshake e ≡ false) }
+{
+    match asked_by(visit.alloc, place, came) {
+        Ok(Asked::Messages(mut messages)) => {
+            let next = read_together(visit.alloc, socket, &mut messages);
+            let step = if matches!(next, Ok(Received::Close)) {
+                // nothing may follow the answer to a close (RFC 6455, 5.5.1)
+                let _ = place.say_each(visit, due, messages, Moment::at(clock.now()));
+                closed(socket)
+            } else {
+                say(visit, socket, place, due, messages, clock)
+            };
+            (step, next)
+        }
+        Ok(Asked::Answer(answer)) => {
+            let step = answer_with(visit.alloc, socket, place, answer);
+            (step, Ok(Received::Nothing))
+        }
+        Ok(Asked::Close) => (closed(socket), Ok(Received::Nothing)),
+        Err(fault) => (Err(fault), Ok(Received::Nothing)),
+    }
+}
+
+// The peer closed: sends what waits for it.
+fn closed<S: Read + Write + Drop>(socket: &mut Socket<S, NoMask>) -> Result<Progress, SockFault>
+    ensures err { IfErr result (λ e. is_handshake e ≡ false) }
+{
+    flush(socket)?;
+    Ok(Progress::Closed)
+}
+
+// Takes the messages to the hub, and sends what answers them and what waits for the session. Once the hub
+// refuses one it takes none after it, so the refusals go out after the answers to those that it took.
+fn say<
+    L: Ledger,
+    K: Keeper + Drop,
+    B: Bell + Clone + Drop,
+    G: Gate,
+    R: Wait + time::Clock,
+    S: Read + Write + Drop,
+    C: Clock,
+>(
+    visit: &HubAccess<'_, L, K, B, G, R>,
+    socket: &mut Socket<S, NoMask>,
+    place: &mut JoinedSession<L>,
+    due: &mut Vec<B>,
+    messages: VecDeque<Up>,
+    clock: &mut C,
 ) -> Result<Progress, SockFault>
     ensures err { IfErr result (λ e. is_handshake e ≡ false) }
 {
-    if let Received::Close = came {
-        flush(socket)?;
-        return Ok(Progress::Closed);
+    let count = messages.len();
+    let said = place.say_each(visit, due, messages, Moment::at(clock.now()));
+    if matches!(said.first(), Some(Ok(_))) {
+        let step = send_all(visit.alloc, socket, place)?;
+        if !matches!(step, Progress::GoOn) {
+            return Ok(step);
+        }
     }
-    let answer = answer_to(visit, place, due, came, clock)?;
-    put_answer(visit.alloc, socket, answer)?;
+    put_refusals(visit.alloc, socket, place, said, count)?;
     send_all(visit.alloc, socket, place)
 }
 
-// The answer to this, unless the hub's own messages answer it.
-fn answer_to<L: Ledger, K: Keeper + Drop, B: Bell + Clone + Drop, G: Gate, R: Wait, C: Clock>(
-    visit: &HubAccess<'_, L, K, B, G, R>,
-    place: &mut JoinedSession<L>,
-    due: &mut Vec<B>,
-    came: Received,
-    clock: &mut C,
-) -> Result<Option<Down>, SockFault>
-    ensures binary { came ≡ Binary → IfSome place.old.seat
-        (λ seat. IfOk result (λ answer. answer ≡ bad seat.session)) }
-    ensures bad { (words : List ℕ) (e : WireFault) → came ≡ Text words → decoded words ≡ Err e
-        → IfSome place.old.seat (λ seat. IfOk result (AnswersBad seat.session)) }
+// Writes a fault message to the send buffer for each of this many messages that was refused. One of which
+// is not said what it came to was refused for lack of memory.
+fn put_refusals<L: Ledger, S: Read + Write + Drop>(
+    alloc: Global,
+    socket: &mut Socket<S, NoMask>,
+    place: &JoinedSession<L>,
+    said: Vec<Result<Said, HubFault>>,
+    count: usize,
+) -> Result<(), SockFault>
     ensures err { IfErr result (λ e. is_handshake e ≡ false) }
 {
-    match came {
-        Received::Text(text) => place.hear(visit, due, text.as_str(), Moment::at(clock.now())),
-        Received::Binary => Ok(Some(place.fault(visit.alloc, Code::Bad)?)),
-        Received::Nothing | Received::Close => Ok(None),
+    let mut rest = said.into_iter();
+    for _ in 0..count {
+        if let Err(fault) = rest.next().unwrap_or(Err(HubFault::Memory)) {
+            let refusal = place.fault(alloc, code_of(fault)?)?;
+            put_answer(alloc, socket, Some(refusal))?;
+        }
     }
+    Ok(())
+}
+
+// Sends the answer, if there is one, and what waits for the session.
+fn answer_with<L: Ledger, S: Read + Write + Drop>(
+    alloc: Global,
+    socket: &mut Socket<S, NoMask>,
+    place: &mut JoinedSession<L>,
+    answer: Option<Down>,
+) -> Result<Progress, SockFault>
+    ensures seat { place.new.seat ≡ place.old.seat }
+    ensures err { IfErr result (λ e. is_handshake e ≡ false) }
+{
+    put_answer(alloc, socket, answer)?;
+    send_all(alloc, socket, place)
 }
 
 // Writes the answer to the send buffer, if there is one.

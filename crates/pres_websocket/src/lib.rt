@@ -4,8 +4,10 @@
 
 mod fault;
 mod meter;
+mod nonblocking;
 mod socket;
 
 pub use fault::SockFault;
 pub use meter::{MAX_IDLE_READS, MAX_READS, Metered};
-pub use socket::{Received, Socket, accept, close, connect, flush, read, write};
+pub use nonblocking::Nonblocking;
+pub use socket::{Received, Socket, accept, close, connect, flush, read, read_ahead, write};

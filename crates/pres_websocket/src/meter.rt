@@ -3,6 +3,7 @@
 ghost use Rattle.std.specs.Prelude.{◌≡◌};
 ghost use Rattle.pres_websocket.specs.Meters.{is_spent};
 
+use crate::nonblocking::Nonblocking;
 use std::io;
 use std::io::{ErrorKind, Read, Write};
 use std::marker::Model;
@@ -87,5 +88,11 @@ impl<S: Write> Write for Metered<S> {
 
     fn flush(&mut self) -> io::Result<()> {
         self.stream.flush()
+    }
+}
+
+impl<S: Nonblocking> Nonblocking for Metered<S> {
+    fn set_nonblocking(&self, nonblocking: bool) {
+        self.stream.set_nonblocking(nonblocking);
     }
 }

@@ -15,6 +15,7 @@ ghost use Rattle.pres_websocket.specs.declared.fault.SockFault.TheVariants.{Memo
 
 use crate::fault::{SockFault, stream_fault};
 use crate::meter::Metered;
+use crate::nonblocking::Nonblocking;
 use std::alloc::Global;
 use std::io::{ErrorKind, Read, Write};
 use tungstenite::handshake::{client, server};
@@ -161,6 +162,22 @@ pub fn read<S: Read + Write + Drop, M: MaskKeys + Drop>(
         Ok(Message::Close(_)) => Ok(Received::Close),
         Err(error) => told(socket.get_ref(), error),
     }
+}
+
+/// A read that doesn't wait: it brings a message where the bytes that the stream has read already
+/// hold all of it, and else nothing. Those of a part are kept for the next read.
+pub fn read_ahead<S: Read + Write + Nonblocking + Drop, M: MaskKeys + Drop>(
+    socket: &mut Socket<S, M>,
+) -> Result<Received, SockFault>
+    ensures came { (given : Result Given Cause)
+        × Reads (λ meter. S.remaining meter.stream) socket.old socket.new given
+        × IsReadAs socket.new.stream given result }
+    ensures shaken { IfErr result (λ e. is_handshake e ≡ false) }
+{
+    socket.get_ref().set_nonblocking(true);
+    let came = read(socket);
+    socket.get_ref().set_nonblocking(false);
+    came
 }
 
 /// Writes the text to the send buffer, as a message.
