@@ -90,7 +90,8 @@ gauges_text is_well counts =
     metric_text (codes "presence_number") (codes "The number of the last entry.") (codes "gauge") counts.number
     ++ (metric_text (codes "presence_open_sessions") (codes "How many sessions are open.") (codes "gauge") counts.open_sessions
     ++ (metric_text (codes "presence_open_connections") (codes "How many connections are open.") (codes "gauge") counts.open_connections
-    ++ metric_text (codes "presence_unwell") (codes "1 while commits are refused or the server is to end, else 0.") (codes "gauge") (unwell_now is_well)))
+    ++ (metric_text (codes "presence_unwell") (codes "1 while commits are refused or the server is to end, else 0.") (codes "gauge") (unwell_now is_well)
+    ++ metric_text (codes "presence_file_bytes") (codes "The bytes of the file, without its write-ahead log.") (codes "gauge") counts.file_bytes)))
 
 -- what was counted of connections and commits since the start
 abbrev pub commits_text : Counts → Text
@@ -104,6 +105,13 @@ commits_text counts =
 abbrev pub times_text : Counts → Text
 times_text counts =
     metric_text (codes "presence_longest_commit_microseconds") (codes "The longest commit since the metrics were read last; the lock is held meanwhile.") (codes "gauge") counts.longest_commit
+
+-- how many checkpoints were made, when the last one was, and how long one took
+abbrev pub checkpoints_text : Counts → Text
+checkpoints_text counts =
+    metric_text (codes "presence_checkpoints_total") (codes "Checkpoints that were made since the start.") (codes "counter") counts.checkpoints
+    ++ (metric_text (codes "presence_last_checkpoint_timestamp_seconds") (codes "When the last checkpoint was made, or else when the server started, in seconds since 1970.") (codes "gauge") counts.last_checkpoint
+    ++ metric_text (codes "presence_longest_checkpoint_microseconds") (codes "The longest checkpoint since the metrics were read last; the lock is held meanwhile.") (codes "gauge") counts.longest_checkpoint)
 
 -- ---- messages
 
@@ -160,4 +168,5 @@ traffic_text counts =
 -- all metrics of a server that is well, or isn't
 abbrev pub metrics_text : Bool → Counts → Text
 metrics_text is_well counts =
-    gauges_text is_well counts ++ (commits_text counts ++ (entries_text counts.entries ++ (times_text counts ++ traffic_text counts)))
+    gauges_text is_well counts ++ (commits_text counts ++ (entries_text counts.entries
+    ++ (times_text counts ++ (checkpoints_text counts ++ traffic_text counts))))

@@ -46,6 +46,8 @@ pub struct RefusalCounts {
 pub struct Counts {
     /// The number of the last entry.
     pub number: u64,
+    /// The length of the file, 0 where it can't be seen.
+    pub file_bytes: u64,
     pub open_sessions: u64,
     pub open_connections: u64,
     /// How many connections were accepted since the start.
@@ -57,6 +59,12 @@ pub struct Counts {
     pub refused_commits: u64,
     /// How long the longest commit took since the metrics were read last, in microseconds.
     pub longest_commit: u64,
+    /// How many checkpoints were made since the start.
+    pub checkpoints: u64,
+    /// When the last checkpoint was made, or else when the server started, in seconds since 1970.
+    pub last_checkpoint: u64,
+    /// How long the longest checkpoint took since the metrics were read last, in microseconds.
+    pub longest_checkpoint: u64,
     /// How many messages came from clients since the start.
     pub received: u64,
     pub sent: SentCounts,

@@ -1,7 +1,7 @@
 //! The metrics of a server, in Prometheus' text format.
 
 ghost use Rattle.std.specs.Prelude.{◌≡◌, string_bytes, IfOk};
-ghost use Rattle.pres_pages.specs.Pages.{commits_text, entries_sample, entries_text, gauges_text, head_text, labelled_text, metric_text, metrics_text, rows_text, sessions_text, times_text, traffic_text, unwell_now};
+ghost use Rattle.pres_pages.specs.Pages.{checkpoints_text, commits_text, entries_sample, entries_text, gauges_text, head_text, labelled_text, metric_text, metrics_text, rows_text, sessions_text, times_text, traffic_text, unwell_now};
 
 use crate::counts::{Counts, EntryCounts};
 use crate::traffic::traffic_text;
@@ -121,7 +121,14 @@ fn gauges_text(alloc: Global, is_well: bool, counts: &Counts) -> Result<String, 
         "gauge",
         unwell_now(is_well),
     )?;
-    format!(in alloc; "{number}{sessions}{connections}{unwell}")
+    let file = metric_text(
+        alloc,
+        "presence_file_bytes",
+        "The bytes of the file, without its write-ahead log.",
+        "gauge",
+        counts.file_bytes,
+    )?;
+    format!(in alloc; "{number}{sessions}{connections}{unwell}{file}")
 }
 
 // 1 if the server isn't well.
@@ -179,6 +186,34 @@ fn times_text(alloc: Global, counts: &Counts) -> Result<String, AllocError>
     )
 }
 
+// How many checkpoints were made, when the last one was, and how long one took.
+fn checkpoints_text(alloc: Global, counts: &Counts) -> Result<String, AllocError>
+    ensures { IfOk result (λ text. string_bytes text ≡ checkpoints_text counts.now) }
+{
+    let made = metric_text(
+        alloc,
+        "presence_checkpoints_total",
+        "Checkpoints that were made since the start.",
+        "counter",
+        counts.checkpoints,
+    )?;
+    let last = metric_text(
+        alloc,
+        "presence_last_checkpoint_timestamp_seconds",
+        "When the last checkpoint was made, or else when the server started, in seconds since 1970.",
+        "gauge",
+        counts.last_checkpoint,
+    )?;
+    let longest = metric_text(
+        alloc,
+        "presence_longest_checkpoint_microseconds",
+        "The longest checkpoint since the metrics were read last; the lock is held meanwhile.",
+        "gauge",
+        counts.longest_checkpoint,
+    )?;
+    format!(in alloc; "{made}{last}{longest}")
+}
+
 /// All metrics of a server that is well, or isn't, and has counted this.
 pub fn metrics_text(alloc: Global, is_well: bool, counts: &Counts) -> Result<String, AllocError>
     ensures { IfOk result (λ text. string_bytes text ≡ metrics_text is_well counts.now) }
@@ -187,6 +222,7 @@ pub fn metrics_text(alloc: Global, is_well: bool, counts: &Counts) -> Result<Str
     let commits = commits_text(alloc, counts)?;
     let entries = entries_text(alloc, &counts.entries)?;
     let times = times_text(alloc, counts)?;
+    let checkpoints = checkpoints_text(alloc, counts)?;
     let traffic = traffic_text(alloc, counts)?;
-    format!(in alloc; "{gauges}{commits}{entries}{times}{traffic}")
+    format!(in alloc; "{gauges}{commits}{entries}{times}{checkpoints}{traffic}")
 }

@@ -13,11 +13,12 @@ use pres_file::{OpenedFile, connect, keeper_for};
 use pres_keeper::{Premise, Supposed};
 use pres_saved::{Commit, Watch, Watched};
 use pres_tcp::{
-    Core, EndRequest, Halt, Health, Hub, Keeper, Moment, OpenGate, StreamBell, WallClock,
+    Core, EndRequest, Halt, Health, Hub, Keeper, Meter, Moment, OpenGate, StreamBell, WallClock,
     serve_connections,
 };
 use sqlite::{Alter, Connection, Unknown};
 use std::alloc::Global;
+use std::fs;
 use std::io::Write;
 use std::marker::Brand;
 use std::net::{Net, TcpListener, TcpStream};
@@ -26,7 +27,7 @@ use std::sync::ledger::{Blank, Ledger};
 use std::thread::Threads;
 use std::time::{Clock, Instant};
 
-/// What a server is asked for: where it listens, where it keeps its batches, and how many
+/// What a server is asked for: where it listens, where it keeps its history, and how many
 /// connections it serves, none if it runs on.
 #[derive(Clone, Copy)]
 pub struct ServeOptions<'a> {
@@ -61,10 +62,44 @@ where
         (listening_line serving.entry.address.now)) }
 {
     let connection = connect(host, serving.file, Unknown)?;
-    let number = granted(rt, alloc, connection, serving, request, output, faults)?;
+    let health = Health::new();
+    let mut watched = WatchedFile {
+        host,
+        file: serving.file,
+        meter: health.meter(),
+        request,
+    };
+    let number = granted(
+        rt,
+        alloc,
+        connection,
+        &health,
+        serving,
+        &mut watched,
+        output,
+        faults,
+    )?;
     match writeln!(output, "number {number}") {
         Ok(()) => Ok(()),
         Err(_) => Err(ServiceFault::Input),
+    }
+}
+
+// A server's file, whose length is looked up each time the server asks whether its end is requested.
+#[derive(Drop)]
+struct WatchedFile<'a, E> {
+    host: &'a HostRuntime,
+    file: &'a str,
+    meter: &'a Meter,
+    request: &'a mut E,
+}
+
+impl<E: EndRequest> EndRequest for WatchedFile<'_, E> {
+    fn is_made(&mut self) -> bool {
+        if let Ok(found) = fs::metadata(self.host, self.file) {
+            self.meter.note_file_bytes(found.len());
+        }
+        self.request.is_made()
     }
 }
 
@@ -74,6 +109,7 @@ fn granted<S: Alter + Drop + Send, R, E: EndRequest, W: Write, F: Write>(
     rt: &R,
     alloc: Global,
     connection: Connection<S>,
+    health: &Health,
     serving: ServeOptions<'_>,
     request: &mut E,
     output: &mut W,
@@ -90,7 +126,9 @@ where
         → Appends (W.contents output.old) (W.contents output.new)
         (listening_line serving.entry.address.now)) }
 {
-    supposing::<Brand, S, R, E, W, F>(rt, alloc, connection, serving, request, output, faults)
+    supposing::<Brand, S, R, E, W, F>(
+        rt, alloc, connection, health, serving, request, output, faults,
+    )
 }
 
 // The same, where a premise says that what was found was made by our statements.
@@ -98,6 +136,7 @@ fn supposing<P: Premise + Send, S: Alter + Drop + Send, R, E: EndRequest, W: Wri
     rt: &R,
     alloc: Global,
     connection: Connection<S>,
+    health: &Health,
     serving: ServeOptions<'_>,
     request: &mut E,
     output: &mut W,
@@ -116,11 +155,10 @@ where
         (listening_line serving.entry.address.now)) }
 {
     let OpenedFile { keeper, is_new } = keeper_for(alloc, connection)?;
-    let health = Health::new();
-    let keeper = Watched::new(keeper, Noted { health: &health });
+    let keeper = Watched::new(keeper, Noted { health });
     let keeper = Supposed::<Watched<S, Noted<'_>>, P>::new(keeper);
     counted::<Supposed<Watched<S, Noted<'_>>, P>, R, E, W, F>(
-        rt, alloc, keeper, &health, serving, request, is_new, output, faults,
+        rt, alloc, keeper, health, serving, request, is_new, output, faults,
     )
 }
 
@@ -206,7 +244,7 @@ where
             return Err(ServiceFault::from(fault));
         }
     };
-    health.meter().begin(core.number());
+    health.meter().begin(core.number(), now);
     if !is_new {
         tell_start(rt, core.number(), start, faults);
     }

@@ -1,8 +1,11 @@
 //! A stream that ends with its server.
 
+use crate::buffer::Buffered;
 use crate::frames::Traffic;
 use crate::health::Health;
+use pres_websocket::Nonblocking;
 use std::alloc::Global;
+use std::cell::Cell;
 use std::io;
 use std::io::{ErrorKind, Read, Write};
 
@@ -27,6 +30,8 @@ const PART_READS: u32 = 20;
 pub(crate) struct Ending<'a, S> {
     stream: S,
     health: &'a Health,
+    // Whether reads give only what the stream has read already.
+    nonblocking: Cell<bool>,
     // What was read, until something is written; none if that is too much.
     request: Option<Vec<u8>>,
     // None once it is known that no WebSocket is opened.
@@ -38,6 +43,7 @@ impl<'a, S> Ending<'a, S> {
         Ending {
             stream,
             health,
+            nonblocking: Cell::new(false),
             request: Some(Vec::new(alloc)),
             traffic: Some(Traffic::new()),
         }
@@ -97,11 +103,20 @@ impl<S: Read + Write> Ending<'_, S> {
     }
 }
 
-impl<S: Read> Read for Ending<'_, S> {
+impl<S> Nonblocking for Ending<'_, S> {
+    fn set_nonblocking(&self, nonblocking: bool) {
+        self.nonblocking.set(nonblocking);
+    }
+}
+
+impl<S: Read + Buffered> Read for Ending<'_, S> {
     fn read(&mut self, buf: &mut [u8]) -> io::Result<usize> {
         self.look()?;
         if self.health.is_ending() {
             return Err(io::Error::from(ErrorKind::ConnectionAborted));
+        }
+        if self.nonblocking.get() && !self.stream.has_bytes() {
+            return Err(io::Error::from(ErrorKind::WouldBlock));
         }
         let count = self.stream.read(buf)?;
         if let Some(bytes) = buf.get(..count) {

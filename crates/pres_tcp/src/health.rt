@@ -12,25 +12,53 @@ pub enum Halt {
     Down,
 }
 
-/// Whether a server can go on, and is to, whether its commits are taken, and what it counts.
+// How often the fate of something changed: odd while it is refused.
+#[derive(Drop)]
+struct Fate {
+    changes: AtomicUsize,
+}
+
+impl Fate {
+    // It was taken so far.
+    fn new() -> Fate {
+        Fate {
+            changes: AtomicUsize::new(0),
+        }
+    }
+
+    // It was refused, or taken. Only one thread at a time may say so.
+    fn note(&self, is_refused: bool) {
+        if is_refused != is_odd(self.changes()) {
+            self.changes.fetch_add(1, Ordering::SeqCst);
+        }
+    }
+
+    fn changes(&self) -> usize {
+        self.changes.load(Ordering::SeqCst)
+    }
+}
+
+/// Whether a server can go on, and is to, whether its commits and its checkpoints are taken, and what it
+/// counts.
 #[derive(Drop)]
 pub struct Health {
     is_shut: AtomicBool,
     is_down: AtomicBool,
     is_ending: AtomicBool,
-    // How often the fate of commits changed: odd while they are refused.
-    changes: AtomicUsize,
+    commits: Fate,
+    checkpoints: Fate,
     meter: Meter,
 }
 
 impl Health {
-    /// It goes on, and its commits are taken.
+    /// It goes on, and its commits and its checkpoints are taken.
     pub fn new() -> Health {
         Health {
             is_shut: AtomicBool::new(false),
             is_down: AtomicBool::new(false),
             is_ending: AtomicBool::new(false),
-            changes: AtomicUsize::new(0),
+            commits: Fate::new(),
+            checkpoints: Fate::new(),
             meter: Meter::new(),
         }
     }
@@ -66,7 +94,7 @@ impl Health {
 
     /// Whether the server goes on, isn't to end, and its last commit was taken.
     pub fn is_well(&self) -> bool {
-        self.halt().is_none() && !self.is_ending() && !is_odd(self.changes())
+        self.halt().is_none() && !self.is_ending() && !is_odd(self.commits.changes())
     }
 
     /// What the server counts.
@@ -76,19 +104,27 @@ impl Health {
 
     /// Notes a commit that was refused, or taken. Only one thread at a time may report commits.
     pub fn note_commit(&self, is_refused: bool) {
-        let was_refused = is_odd(self.changes.load(Ordering::SeqCst));
-        if is_refused != was_refused {
-            self.changes.fetch_add(1, Ordering::SeqCst);
-        }
+        self.commits.note(is_refused);
+    }
+
+    /// Notes a checkpoint that was refused, or that wasn't. Only one thread at a time may report
+    /// checkpoints.
+    pub(crate) fn note_checkpoint(&self, is_refused: bool) {
+        self.checkpoints.note(is_refused);
     }
 
     /// How often the fate of commits changed.
-    pub(crate) fn changes(&self) -> usize {
-        self.changes.load(Ordering::SeqCst)
+    pub(crate) fn commit_changes(&self) -> usize {
+        self.commits.changes()
+    }
+
+    /// How often the fate of checkpoints changed.
+    pub(crate) fn checkpoint_changes(&self) -> usize {
+        self.checkpoints.changes()
     }
 }
 
-/// Whether commits are refused after this many changes.
+/// Whether commits, or checkpoints, are refused after this many changes.
 pub(crate) fn is_odd(changes: usize) -> bool {
     changes % 2 == 1
 }

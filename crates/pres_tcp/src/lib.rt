@@ -1,9 +1,11 @@
 //! The connections of the machine: TCP streams whose waiting reads a bell ends, a thread for each
-//! connection of a hub, and one that looks each second which sessions are to end, until the end is
-//! requested or the hub can't go on. It re-exports the names of a hub that its users need.
+//! connection of a hub, and one that looks each second which sessions are to end and whether a
+//! checkpoint is due, until the end is requested or the hub can't go on. It re-exports the names of a hub
+//! that its users need.
 #![tactic(auto)]
 
 mod alarm;
+mod buffer;
 mod door;
 mod end_request;
 mod ending;
@@ -12,6 +14,7 @@ mod health;
 mod meter;
 mod notices;
 mod rest;
+mod rise;
 mod serve;
 mod stop;
 mod stream_count;

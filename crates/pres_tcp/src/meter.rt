@@ -1,5 +1,6 @@
 //! What a server counts, as its threads share it.
 
+use pres_hub::Moment;
 use pres_log::Entry;
 use pres_pages::{Counts, EntryCounts, RefusalCounts, SentCounts};
 use std::sync::atomic::{AtomicU64, Ordering};
@@ -23,6 +24,13 @@ impl Counter {
 
     fn reset(&self, count: u64) {
         self.count.store(count, Ordering::SeqCst);
+    }
+
+    // Makes the count at least this. Only one thread at a time may do so.
+    fn raise(&self, count: u64) {
+        if count > self.get() {
+            self.reset(count);
+        }
     }
 
     // The count, which is 0 from then on.
@@ -223,10 +231,16 @@ fn all_of(refusals: &RefusalCounts) -> u64 {
         .fold(0, |all: u64, count| all.saturating_add(*count))
 }
 
+// How many seconds have passed since 1970 at the moment.
+fn seconds_at(now: Moment) -> u64 {
+    now.millis() / 1_000
+}
+
 /// What a server counts. It is read without the hub's lock.
 #[derive(Drop)]
 pub struct Meter {
     number: Counter,
+    file_bytes: Counter,
     ended_at_start: Counter,
     connections: Counter,
     over: Counter,
@@ -234,6 +248,9 @@ pub struct Meter {
     batches: Counter,
     refused_commits: Counter,
     longest_commit: Counter,
+    checkpoints: Counter,
+    last_checkpoint: Counter,
+    longest_checkpoint: Counter,
     received: Counter,
     sent: SentCounters,
     refusals: RefusalCounters,
@@ -245,6 +262,7 @@ impl Meter {
     pub(crate) fn new() -> Meter {
         Meter {
             number: Counter::new(),
+            file_bytes: Counter::new(),
             ended_at_start: Counter::new(),
             connections: Counter::new(),
             over: Counter::new(),
@@ -252,6 +270,9 @@ impl Meter {
             batches: Counter::new(),
             refused_commits: Counter::new(),
             longest_commit: Counter::new(),
+            checkpoints: Counter::new(),
+            last_checkpoint: Counter::new(),
+            longest_checkpoint: Counter::new(),
             received: Counter::new(),
             sent: SentCounters::new(),
             refusals: RefusalCounters::new(),
@@ -259,9 +280,10 @@ impl Meter {
         }
     }
 
-    /// The server has begun: no session is open, and this is the number of the last entry.
-    pub fn begin(&self, number: u64) {
+    /// The server has begun at this moment: no session is open, and this is the number of the last entry.
+    pub fn begin(&self, number: u64, now: Moment) {
         self.number.reset(number);
+        self.last_checkpoint.reset(seconds_at(now));
         self.ended_at_start.reset(self.entries.ended.get());
     }
 
@@ -285,10 +307,25 @@ impl Meter {
     }
 
     /// A commit took this long, in microseconds. Only one thread at a time may report commits.
-    pub fn note_time(&self, micros: u64) {
-        if micros > self.longest_commit.get() {
-            self.longest_commit.reset(micros);
-        }
+    pub fn note_commit_time(&self, micros: u64) {
+        self.longest_commit.raise(micros);
+    }
+
+    /// The file is this long.
+    pub fn note_file_bytes(&self, bytes: u64) {
+        self.file_bytes.reset(bytes);
+    }
+
+    /// A checkpoint was made at this moment.
+    pub fn note_checkpoint(&self, now: Moment) {
+        self.checkpoints.add(1);
+        self.last_checkpoint.reset(seconds_at(now));
+    }
+
+    /// A checkpoint took this long, in microseconds. Only one thread at a time may report
+    /// checkpoints.
+    pub fn note_checkpoint_time(&self, micros: u64) {
+        self.longest_checkpoint.raise(micros);
     }
 
     /// A message came from a client.
@@ -328,6 +365,7 @@ impl Meter {
         let refusals = self.refusals.counts();
         Counts {
             number: self.number.get(),
+            file_bytes: self.file_bytes.get(),
             open_sessions: entries.opened.saturating_sub(ended),
             open_connections: connections.saturating_sub(over),
             connections,
@@ -335,6 +373,9 @@ impl Meter {
             batches: self.batches.get(),
             refused_commits: self.refused_commits.get(),
             longest_commit: self.longest_commit.get(),
+            checkpoints: self.checkpoints.get(),
+            last_checkpoint: self.last_checkpoint.get(),
+            longest_checkpoint: self.longest_checkpoint.get(),
             received: self.received.get(),
             sent: self.sent.counts(all_of(&refusals)),
             refusals,
@@ -342,11 +383,14 @@ impl Meter {
         }
     }
 
-    /// What was counted so far. The longest commit is looked for anew from then on.
+    /// What was counted so far. The longest commit and the longest checkpoint are looked for anew from
+    /// then on.
     pub(crate) fn take_counts(&self) -> Counts {
         let longest_commit = self.longest_commit.take();
+        let longest_checkpoint = self.longest_checkpoint.take();
         Counts {
             longest_commit,
+            longest_checkpoint,
             ..self.counts()
         }
     }

@@ -1,11 +1,13 @@
 //! A hub's connections.
 
 use crate::alarm::StreamBell;
+use crate::buffer::Buffered;
 use crate::door::Door;
 use crate::end_request::EndRequest;
 use crate::ending::{Ending, WRITE_MILLIS};
 use crate::health::{Halt, Health};
-use crate::notices::CommitNotices;
+use crate::notices::Notices;
+use crate::rise::due_rise;
 use crate::stop::Stop;
 use crate::stream_count::StreamCount;
 use crate::wakeable::{Waits, Wakeable};
@@ -29,8 +31,11 @@ const READ_MILLIS: u64 = 50;
 // How long it waits where its bell hangs and it is idle, in milliseconds.
 const IDLE_MILLIS: u64 = 1_000;
 
-// How often it looks which sessions are to end.
+// How often it looks which sessions are to end, and whether a checkpoint is due.
 const TICK_MILLIS: u64 = 1_000;
+
+// How many ticks pass after a checkpoint that was refused until the next one is asked for.
+const REFUSED_TICKS: u32 = 60;
 
 // How often it looks whether the last connections are over, once no further one is accepted.
 const LAST_MILLIS: u64 = 10;
@@ -83,6 +88,11 @@ impl<R: Clock> pres_sock::Clock for WallClock<'_, R> {
 /// connections that are open end, and it prints why. It prints on the error stream when commits begin
 /// to be refused, and when they are taken again.
 ///
+/// The further thread also asks for a checkpoint once the number of the last entry has risen by 10,000,
+/// or by a tenth of it, if that is more, since the last one; and at an end that was requested, after all
+/// connections, if it has risen at all. One that is refused is asked for again a minute later. It is printed too when
+/// checkpoints begin to be refused, and when they are taken again.
+///
 /// A push ends the wait of its connection at once; where the system has no descriptors for that, it
 /// goes out within 50 ms.
 pub fn serve_connections<
@@ -103,7 +113,7 @@ pub fn serve_connections<
 ) -> Result<(), Halt> {
     let stop = Stop::new();
     let shared = &stop;
-    let mut notices = CommitNotices::new();
+    let mut notices = Notices::new();
     thread::scope(thread::scope_env(), rt, |scope| {
         let ticker = scope.spawn(move || tick_on(rt, alloc, hub, shared, health));
         if ticker.is_err() {
@@ -147,7 +157,7 @@ fn accept_all<
     count: Option<u32>,
     request: &mut E,
     health: &Health,
-    notices: &mut CommitNotices,
+    notices: &mut Notices,
     faults: &mut F,
 ) {
     let crowd = StreamCount::new();
@@ -239,7 +249,7 @@ fn attend<
     L: Ledger + Send + Sync,
     K: Keeper + Drop + Send,
     R: Threads + Wait + Clock + Sync,
-    S: Read + Write + Send,
+    S: Read + Write + Buffered + Send,
 >(
     rt: &R,
     alloc: Global,
@@ -281,7 +291,8 @@ fn answer_request<S: Read + Write>(alloc: Global, health: &Health, stream: &mut 
 }
 
 // Ends the sessions that are to end, each second and once more at the end. What is refused is tried
-// again a second later. If the hub is down the server can't go on.
+// again a second later. If the hub is down the server can't go on. Each time it asks for a checkpoint,
+// but not soon after one that was refused. At an end that was requested one entry makes one due.
 #[inline(never)]
 fn tick_on<L: Ledger, K: Keeper + Drop, R: Wait + Clock>(
     rt: &R,
@@ -292,11 +303,20 @@ fn tick_on<L: Ledger, K: Keeper + Drop, R: Wait + Clock>(
 ) {
     let mut clock = WallClock::new(rt);
     let mut due = Vec::new(alloc);
+    let mut pause = 0u32;
     for _ in rt.forever() {
         let is_over = stop.wait(rt, Duration::from_millis(TICK_MILLIS));
         let now = Moment::at(pres_sock::Clock::now(&mut clock));
-        if !tick(rt, hub, now, &mut due) {
-            health.end(Halt::Down);
+        pause = pause.saturating_sub(1);
+        match tick(rt, hub, now, &mut due) {
+            None => health.end(Halt::Down),
+            Some(number) => if health.halt().is_none() && (is_over || pause == 0) {
+                let is_asked = is_over && health.is_ending();
+                let rise = if is_asked { 1 } else { due_rise(number) };
+                if !ask_checkpoint(rt, hub, rise, health) {
+                    pause = REFUSED_TICKS;
+                }
+            },
         }
         if is_over {
             return;
@@ -304,20 +324,37 @@ fn tick_on<L: Ledger, K: Keeper + Drop, R: Wait + Clock>(
     }
 }
 
-// Ends the sessions that are to end: whether the hub isn't down.
+// Ends the sessions that are to end: the number of the last entry then, none if the hub is down.
 fn tick<L: Ledger, K: Keeper + Drop, R: Wait>(
     rt: &R,
     hub: &Hub<L, K, StreamBell, OpenGate>,
     now: Moment,
     due: &mut Vec<StreamBell>,
-) -> bool {
+) -> Option<u64> {
     let mut core = hub.enter(rt, 0);
     let ticked = core.tick(now);
+    let number = core.number();
     core.take_due(None, due);
     drop(core);
     for bell in due.iter() {
         bell.ring();
     }
     due.clear();
-    !matches!(ticked, Err(HubFault::Down))
+    match ticked {
+        Err(HubFault::Down) => None,
+        _ => Some(number),
+    }
+}
+
+// Asks for a checkpoint, which is due if the number of the last entry has risen by this much since the
+// last one: whether it isn't refused.
+fn ask_checkpoint<L: Ledger, K: Keeper + Drop, R: Wait>(
+    rt: &R,
+    hub: &Hub<L, K, StreamBell, OpenGate>,
+    rise: u64,
+    health: &Health,
+) -> bool {
+    let is_taken = hub.checkpoint(rt, 0, rise).is_ok();
+    health.note_checkpoint(!is_taken);
+    is_taken
 }

@@ -3,6 +3,7 @@
 ghost use Rattle.std.specs.Prelude.{◌≡◌, IfErr};
 
 use crate::alarm::{Alarm, StreamBell};
+use crate::buffer::{Buffer, Buffered, READ_SIZE};
 use crate::rest::Rest;
 use crate::stream_count::{OpenStream, StreamCount};
 use mio::unix::SourceFd;
@@ -36,11 +37,12 @@ pub struct Waits {
 }
 
 /// A blocking stream whose reads wait for bytes or for the bell, and no longer than a set time. A
-/// read that ends by the bell or by the time answers `WouldBlock`. A write is the stream's own, with
-/// its own timeout.
+/// read that ends by the bell or by the time answers `WouldBlock`. What came together is read at once,
+/// and given before the next wait. A write is the stream's own, with its own timeout.
 #[derive(Drop)]
 pub struct Wakeable<'a> {
     stream: TcpStream,
+    buffer: Buffer,
     poll: Poll,
     events: Events,
     alarm: Arc<Alarm, Global>,
@@ -94,6 +96,7 @@ impl<'a> Wakeable<'a> {
             Ok((poll, events, alarm, bell)) => {
                 let stream = Wakeable {
                     stream,
+                    buffer: Buffer::new(alloc),
                     poll,
                     events,
                     alarm,
@@ -166,8 +169,9 @@ impl<'a> Wakeable<'a> {
     }
 }
 
-impl Read for Wakeable<'_> {
-    fn read(&mut self, buf: &mut [u8]) -> io::Result<usize> {
+impl Wakeable<'_> {
+    // Waits until there is something to read.
+    fn wait_for_bytes(&mut self) -> io::Result<()> {
         if !self.has_more {
             self.sleep()?;
         }
@@ -176,12 +180,36 @@ impl Read for Wakeable<'_> {
             return Err(io::Error::from(ErrorKind::WouldBlock));
         }
         self.idle_reads = 0;
-        let got = self.stream.read(buf);
-        self.has_more = match &got {
-            Ok(count) => *count == buf.len() || self.is_ended,
-            Err(_error) => false,
-        };
-        got
+        Ok(())
+    }
+
+    // Reads what there is, if nothing is left to give.
+    fn fill(&mut self) -> io::Result<()> {
+        if self.buffer.is_empty() {
+            let read = self.buffer.fill(&mut self.stream);
+            self.has_more = match &read {
+                Ok(count) => *count == READ_SIZE || self.is_ended,
+                Err(_error) => false,
+            };
+            read?;
+        }
+        Ok(())
+    }
+}
+
+impl Buffered for Wakeable<'_> {
+    fn has_bytes(&self) -> bool {
+        !self.buffer.is_empty()
+    }
+}
+
+impl Read for Wakeable<'_> {
+    fn read(&mut self, buf: &mut [u8]) -> io::Result<usize> {
+        if self.buffer.is_empty() {
+            self.wait_for_bytes()?;
+        }
+        self.fill()?;
+        Ok(self.buffer.give(buf))
     }
 }
 
