@@ -4,7 +4,7 @@ use Rattle.std.specs.Io.KnownBytes.{Appends}
 use Rattle.clap.specs.Words.{Row, Text, subcommand_of}
 use Rattle.pres_service.specs.Outputs.{listening_line, number_line}
 use Rattle.pres_service.specs.ClientRuns.{HasRunClient}
-use Rattle.pres_inspect.specs.Reports.{PrintsSomeLog, PrintsSomeState, history_text, tree_text}
+use Rattle.pres_inspect.specs.Reports.{PrintsSomeHistory, history_text, tree_text}
 use Rattle.pres_tree.specs.Paths.{Path, segments}
 use Rattle.pres_command.specs.Words.{AreTaken, IsCalled, IsListed, IsServed, IsViewed, program}
 use Rattle.pres_command.specs.declared.words.ClientWords.{ClientWords}
@@ -34,8 +34,8 @@ first_given listing = unwrap_or listing.from 1
 
 -- the value at the path that was given, of the tree of a server
 abbrev pub HasViewed : List Row → Option Text → Option Text → Type 0
-HasViewed rows old new = (viewing : Viewing) × IsViewed viewing rows × PrintsSomeState (tree_text (path_given viewing)) old new
+HasViewed rows old new = (viewing : Viewing) × IsViewed viewing rows × PrintsSomeHistory (tree_text (path_given viewing)) old new
 
--- the entries of some legal log, from the number that was given on
+-- the entries of some history, from the number that was given on, and its checkpoint
 abbrev pub HasListed : List Row → Option Text → Option Text → Type 0
-HasListed rows old new = (listing : Listing) × IsListed listing rows × PrintsSomeLog (history_text (first_given listing)) old new
+HasListed rows old new = (listing : Listing) × IsListed listing rows × PrintsSomeHistory (history_text (first_given listing)) old new

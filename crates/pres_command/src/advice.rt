@@ -1,9 +1,10 @@
 //! What to do about the refusal of a server or a client, in a line for people.
 
 ghost use Rattle.std.specs.Prelude.{◌≡◌};
-ghost use Rattle.pres_command.specs.Advice.{client_advice, file_advice, server_advice};
+ghost use Rattle.pres_command.specs.Advice.{client_advice, file_advice, row_advice, server_advice};
 
 use pres_faults::SavedFault;
+use pres_ids::Count;
 use pres_service::ServiceFault;
 
 /// What to do about the refusal of a server, whose file another one has open or not.
@@ -15,9 +16,7 @@ pub fn server_advice(is_in_use: bool, fault: &ServiceFault) -> &'static str
         ServiceFault::Store(SavedFault::NotOurs) => {
             "the file is another program's database: name another file"
         }
-        ServiceFault::Store(SavedFault::BadRow(_)) => {
-            "a row of the file is bad: `presence check` says which; restore a copy"
-        }
+        ServiceFault::Store(SavedFault::BadRow(row)) => row_advice(*row),
         ServiceFault::Store(SavedFault::Version) => {
             "the file is of another version of this program: start that version, or name another file"
         }
@@ -42,6 +41,17 @@ fn file_advice(is_in_use: bool) -> &'static str
         "another server has the file open: stop it, or name another file"
     } else {
         "the file can't be opened or written, or it is no database: see its folder, its rights and the room on its disk"
+    }
+}
+
+// What to do if a row of a server's file is bad. That of the checkpoint counts as row 0.
+fn row_advice(row: Count) -> &'static str
+    ensures { result.now ≡ row_advice row }
+{
+    if row.get() == 0 {
+        "the checkpoint of the file is damaged: restore a backup"
+    } else {
+        "a row of the file is bad: `presence check` says which; restore a copy"
     }
 }
 

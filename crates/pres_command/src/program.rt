@@ -7,7 +7,7 @@ ghost use Rattle.pres_apply.specs.Lines.{Finished, Stopped};
 ghost use Rattle.pres_service.specs.Outputs.{listening_line, number_line};
 ghost use Rattle.pres_sim.specs.Scripts.{IsScript};
 ghost use Rattle.pres_service.specs.ClientRuns.{HasRunClient};
-ghost use Rattle.pres_inspect.specs.Reports.{PrintsSomeState, check_text, tree_text};
+ghost use Rattle.pres_inspect.specs.Reports.{PrintsSomeHistory, check_text, tree_text};
 ghost use Rattle.pres_command.specs.Runs.{Asks, HasCalled, HasListed, HasServed, HasViewed, path_given};
 ghost use Rattle.pres_command.specs.Statuses.{IsStatus};
 ghost use Rattle.pres_command.specs.Words.{AreTaken, AsksApply, AsksAnother, IsMistake};
@@ -81,7 +81,7 @@ pub fn presence_run<
         → IfSome (R.remaining input.old) IsScript }
     ensures checked { (rows : List Row)
         → Asks (codes "check") rows (map (λ word. word.now) words.now) → result ≡ 0
-        → PrintsSomeState check_text (W.contents output.old) (W.contents output.new) }
+        → PrintsSomeHistory check_text (W.contents output.old) (W.contents output.new) }
     ensures viewed { (rows : List Row)
         → Asks (codes "tree") rows (map (λ word. word.now) words.now) → result ≡ 0
         → HasViewed rows (W.contents output.old) (W.contents output.new) }
@@ -288,7 +288,7 @@ fn tree_status<W: Write, F: Write>(
 ) -> u8
     ensures status { IsStatus result }
     ensures words { result ≡ 2 → output.new ≡ output.old }
-    ensures done { result ≡ 0 → PrintsSomeState (tree_text (path_given viewing.entry))
+    ensures done { result ≡ 0 → PrintsSomeHistory (tree_text (path_given viewing.entry))
         (W.contents output.old) (W.contents output.new) }
 {
     let path = match Path::parse(host.alloc(), viewing.path.unwrap_or("")) {

@@ -66,7 +66,7 @@ Exit status:
   0  the history is legal
   1  the output failed
   2  these words are wrong
-  3  the file is refused, or a row of it is bad
+  3  the file is refused, or a row or the checkpoint of it is bad
   5  out of memory";
 
 const TREE_HELP: &str = "Example:
@@ -76,7 +76,7 @@ Exit status:
   0  done
   1  the output failed
   2  these words are wrong, or PATH is none
-  3  the file is refused, or a row of it is bad
+  3  the file is refused, or a row or the checkpoint of it is bad
   5  out of memory";
 
 const HISTORY_HELP: &str = "Example:
@@ -86,7 +86,7 @@ Exit status:
   0  done
   1  the output failed
   2  these words are wrong
-  3  the file is refused, or a row of it is bad
+  3  the file is refused, or a row or the checkpoint of it is bad
   5  out of memory";
 
 /// What the program is asked to do.
@@ -244,7 +244,9 @@ fn check_command<'a>(alloc: Global) -> Result<Command<'a>, AllocError>
     ensures local { IfOk result (λ made. HasNoGlobals made) }
 {
     Command::new(alloc, "check")
-        .about("Goes over the history in a file, and prints its numbers or the first bad row")
+        .about(
+            "Goes over a file's history, and prints checkpoint and numbers, or the first bad row",
+        )
         .after_help(CHECK_HELP)
         .arg(file_argument(alloc))
 }
@@ -273,7 +275,7 @@ fn history_command<'a>(alloc: Global) -> Result<Command<'a>, AllocError>
     ensures local { IfOk result (λ made. HasNoGlobals made) }
 {
     Command::new(alloc, "history")
-        .about("Prints the entries of the history in a file, a line of JSON each")
+        .about("Prints the checkpoint of a file and the entries after it, a line of JSON each")
         .after_help(HISTORY_HELP)
         .arg(file_argument(alloc))?
         .arg(from_argument(alloc))

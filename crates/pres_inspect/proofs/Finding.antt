@@ -1,6 +1,6 @@
 -- What the files of a copy hold, by what a connection to them shows and a keeper over it reads.
-use Rattle.std.proofs.Common.{◌≡◌, ◌<◌, ℕ, Bool, true, false, IsTrue, List, [], ◌∷◌, length, Result, Ok, Err, IfOk, IfErr, inl, inr, refl, sym, ap, ap₂, subst, ◌∙◌, arith}
-use Rattle.std.specs.Prelude.{◌&&◌, ⊤}
+use Rattle.std.proofs.Common.{◌≡◌, ◌<◌, ℕ, Bool, true, false, IsTrue, List, [], ◌∷◌, length, map, Some, None, Result, Ok, Err, IfOk, IfErr, inl, inr, refl, sym, ap, ap₂, subst, ◌∙◌, arith}
+use Rattle.std.specs.Prelude.{◌&&◌}
 use Rattle.sqlite_disk.specs.declared.Disk as disk
 use Rattle.sqlite_disk.specs.Disk.{Holds as HoldsBytes, Torn}
 use Rattle.sqlite_wal.specs.Recovery.{Image}
@@ -12,22 +12,24 @@ use Rattle.sqlite.specs.Schema.{Schema}
 use Rattle.sqlite.specs.Effect.{Database}
 use Rattle.sqlite.specs.Files.{file_state}
 use Rattle.sqlite.specs.Held.{Held, state}
-use Rattle.sqlite.specs.State.{HasCleanDisk}
+use Rattle.sqlite.specs.State.{State, HasCleanDisk, IsUnchanged}
 use Rattle.sqlite.proofs.OpenLemmas.{pool_files}
 use Rattle.sqlite.specs.Store.{Ghosts}
 use Rattle.pres_file.specs.FileOpening.{KeepsWhatIsThere}
-use Rattle.pres_keeper.specs.Keepers.{MakesSum, Readable, SomeLog, whole}
-use Rattle.pres_keeper.proofs.Behind.{makes_all}
-use Rattle.pres_log.specs.Logs.{Log}
-use Rattle.pres_server.specs.Sums.{Sum}
+use Rattle.pres_keeper.specs.Keepers.{Readable, whole}
+use Rattle.pres_keeper.proofs.Behind.{leads_begun}
+use Rattle.pres_server.specs.Sums.{Sum, nothing}
 use Rattle.pres_server.specs.SumStates.{SumState, blank}
+use Rattle.pres_server.specs.Histories.{History, LeadsTo, begun_at}
+use Rattle.pres_server.proofs.SumServers.{nothing_holds}
 use Rattle.pres_saved.specs.SqlKeepers.{readable_in}
-use Rattle.pres_saved.specs.SavedLogs.{readable_rows, base_found}
+use Rattle.pres_saved.specs.SavedHistories.{base_found, history_from, history_of, readable_from, readable_rows, rows_log, rows_readable, saved_sum}
 use Rattle.pres_saved.specs.Laws.{kept_whole}
 use Rattle.pres_batch_rows.specs.TableStates.{IsOurs, TableState, Serves}
-use Rattle.pres_batch_rows.specs.RowContents.{shown_rows, shown_base}
+use Rattle.pres_batch_rows.specs.RowContents.{shown_row, shown_rows, shown_base}
 use Rattle.pres_batch_rows.specs.Schemas.{no_schema}
-use Rattle.pres_inspect.specs.Copies.{Holds, HoldsRows, IsFoundIn, IsFoundKeeper}
+use Rattle.pres_inspect.specs.Copies.{Holds, HoldsHistory, HoldsRows, IsFoundIn, IsFoundKeeper, IsFoundOf}
+use Rattle.pres_inspect.specs.declared.found.FoundServer.{FoundServer}
 
 -- what was written to an empty file is all that it holds
 pub written : (bytes new : List ℕ) → (0 < length bytes → HoldsBytes new 0 bytes) → Torn 0 (length bytes) [] new → new ≡ bytes
@@ -49,13 +51,32 @@ pub inside_refusal : {T E A : Type 0} {Q R : E → Type 0} (r : Result T E) → 
 inside_refusal (Ok t) h f = tt
 inside_refusal (Err e) h f = f e h
 
--- a server without a history has a log without batches
-pub no_log : (s : SumState) → s ≡ blank → SomeLog (λ log. whole [] ≡ whole log) s.sum
-no_log s is = record { log = []; makes = subst (λ (t : SumState). MakesSum [] t.sum) (sym is) (makes_all [] tt); held = refl }
+-- a new server
+pub found_new : {holds : History → Type 0} (found : FoundServer) → found.checkpoint ≡ None → found.server ≡ blank → holds (begun_at nothing) → IsFoundOf holds found
+found_new found none new held = record {
+  history = begun_at nothing;
+  leads = subst (λ (s : SumState). LeadsTo (begun_at nothing) s.sum) (sym new) (leads_begun nothing nothing_holds);
+  held = (held, none);
+}
 
--- some log leads to the sum to which a log with a property leads
-pub some_sum : {P : Log → Type 0} (sum : Sum) → SomeLog P sum → SomeLog (λ log. ⊤) sum
-some_sum sum it = record { log = it.log; makes = it.makes; held = tt }
+-- a history that has another property too
+pub found_so : {P Q : History → Type 0} (found : FoundServer) → ((history : History) → P history → Q history) → IsFoundOf P found → IsFoundOf Q found
+found_so found f it = record { history = it.history; leads = it.leads; held = (f it.history it.held.0, it.held.1) }
+
+-- ---- what a base and the rows since are read as
+
+-- by what is shown of the tables, which stay as they are between
+module _ (old mid : State) (sum : Sum) (found : saved_sum (shown_base old) ≡ Some sum) (same : IsUnchanged old mid) where
+  same_rows : shown_rows mid ≡ shown_rows old
+  same_rows = ap (λ (db : Database). map shown_row (db.trees 2)) same.0.now_is
+
+  pub read_whole : (history : History) → history.base ≡ sum → rows_log sum (shown_rows mid) ≡ Ok history.log → readable_rows (shown_base old) (shown_rows old) ≡ whole history
+  read_whole history base all = kept_whole (shown_base old) (shown_rows old) history
+      (ap (λ s. history_from s (shown_rows old)) found ∙ ap (λ rows. history_of sum (rows_log sum rows)) (sym same_rows) ∙ ap (history_of sum) all
+      ∙ ap (λ b. let kept : Result History ℕ = Ok (record { base = b; log = history.log }) in kept) (sym base))
+
+  pub read_since : rows_readable sum (shown_rows mid) ≡ readable_rows (shown_base old) (shown_rows old)
+  read_since = ap (rows_readable sum) same_rows ∙ ap (λ s. readable_from s (shown_rows old)) (sym found)
 
 -- a database without tables is no server's
 no_table : (db : Database) → db.schema ≡ no_schema → IsOurs db → ⊥
@@ -65,7 +86,7 @@ no_table db none (inr two) = let e = ap (λ (schema : Schema). schema.tables) (s
 module _ {S : Type 0} (g : Ghosts S) where
   -- what is so of the rows that a connection shows
   held : (image : Image) (c : Held S) → IsFoundIn image (state g c) → (P : Readable → Type 0)
-      → (c.schema ≡ no_schema → P (whole [])) → ((ours : IsOurs (state g c).now) → P (readable_rows (base_found (state g c).now ours) (shown_rows (state g c)))) → Holds image P
+      → (c.schema ≡ no_schema → P (whole (begun_at nothing))) → ((ours : IsOurs (state g c).now) → P (readable_rows (base_found (state g c).now ours) (shown_rows (state g c)))) → Holds image P
   held image c found P blank ours =
       let rows : HoldsRows image P = record {
         db = (state g c).now;
@@ -87,10 +108,15 @@ module _ {S : Type 0} (g : Ghosts S) where
   found image c is_new keeper finds keeps clean P so =
       let now = state g keeper.connection in
       held image c finds P
-      (λ none. let new = keeps.new.1 none in subst P (kept_whole (shown_base now) (shown_rows now) [] (keeps.empty new clean)) (so (keeps.ready (inl new)).serves))
+      (λ none. let new = keeps.new.1 none in subst P (kept_whole (shown_base now) (shown_rows now) (begun_at nothing) (keeps.empty new clean)) (so (keeps.ready (inl new)).serves))
       (λ ours. subst P (old_rows c is_new keeper keeps clean ours) (so (keeps.ready (inr ours)).serves))
 
   -- the same of a keeper that was found
   pub found_by : (image : Image) (keeper : TableState S) → IsFoundKeeper g image keeper
       → (P : Readable → Type 0) → (Serves g keeper → P (readable_in g keeper)) → Holds image P
   found_by image keeper it P so = found image it.connection it.is_new keeper it.finds it.keeps it.clean P so
+
+  -- the server that it makes is that of the files
+  pub found_of : (image : Image) (keeper : TableState S) → IsFoundKeeper g image keeper
+      → (found : FoundServer) → IsFoundOf (λ history. Serves g keeper → readable_in g keeper ≡ whole history) found → IsFoundOf (HoldsHistory image) found
+  found_of image keeper it found some = found_so found (λ history so. found_by image keeper it (λ held. held ≡ whole history) so) some

@@ -1,46 +1,86 @@
 -- What is wrong with the first bad row.
-use Rattle.std.proofs.Common.{◌≡◌, ◌≢◌, ◌≤◌, ℕ, List, ◌∷◌, length, length-append, inl, inr, ◌⊎◌, map, IsTrue, sym, ap, subst, ◌∙◌, arith, true≢false}
-use Rattle.pres_keeper.specs.Keepers.{Readable, IsFirstBad, IsFirstUnread, whole}
-use Rattle.pres_log.specs.Logs.{Log}
+use Rattle.std.proofs.Common.{◌≡◌, ◌≢◌, ◌≤◌, ◌<◌, ◌+◌, ℕ, List, ◌∷◌, length, length-append, inl, inr, ◌⊎◌, map, Option, Some, None, IsTrue, refl, sym, ap, subst, ◌∙◌, arith, true≢false}
+use Rattle.pres_keeper.specs.Keepers.{Readable, IsBadAfter, IsFirstBad, IsFirstIllegalAfter, IsFirstUnread, IsNoBase, IsNoServer, IsUnread, IsUnreadAfter, whole}
 use Rattle.pres_log.specs.declared.entry.Batch.{Batch}
-use Rattle.pres_server.specs.Replays.{IsFirstIllegal}
+use Rattle.pres_server.specs.Sums.{Sum}
+use Rattle.pres_server.specs.Histories.{History}
 use Rattle.pres_faults.specs.declared.saved_fault.SavedFault.{SavedFault}
 use Rattle.pres_faults.specs.declared.saved_fault.SavedFault.TheVariants as saved
 use Rattle.pres_inspect.specs.declared.fault.InspectFault.{InspectFault}
 use Rattle.pres_inspect.specs.declared.fault.InspectFault.TheVariants as fault
-use Rattle.pres_inspect.specs.Copies.{Holds, IsFlaw, IsRefusal, IsUnreadableAt, ShowsWhileOpen}
+use Rattle.pres_inspect.specs.Copies.{Holds, IsFlaw, IsIllegalAt, IsRefusal, IsUnreadableAt, ShowsWhileOpen}
 use Rattle.pres_inspect.specs.Faults.{of_saved}
 use Rattle.sqlite.specs.Effect.{Database}
 use Rattle.sqlite.specs.Held.{Held, state}
 use Rattle.sqlite.specs.State.{State, HasCleanDisk}
 use Rattle.sqlite.specs.Store.{Ghosts}
 use Rattle.sqlite_wal.specs.Recovery.{Image}
-use Rattle.pres_saved.specs.SavedLogs.{readable_rows, base_found}
+use Rattle.pres_saved.specs.SavedHistories.{readable_rows, base_found}
 use Rattle.pres_saved.specs.SqlKeepers.{readable_in}
 use Rattle.pres_batch_rows.specs.TableStates.{IsOfFormatTwo, IsOurs, IsLeft, TableState, Serves}
 use Rattle.pres_batch_rows.specs.TableOpening.{OpensAs}
 use Rattle.pres_batch_rows.specs.RowContents.{shown_row, shown_rows}
 
 -- a batch that may not follow is one of those that are read
-is_read : (log : List Batch) (k : ℕ) → IsFirstIllegal log k → k ≤ length log
-is_read log k it =
+is_read : (base : Sum) (log : List Batch) (k : ℕ) → IsFirstIllegalAfter base log k → k ≤ base.batches + length log
+is_read base log k it =
     let all = ap length it.parts ∙ length-append it.before (it.batch ∷ it.later) in
     omega (arith, all, it.number)
 
+-- where row 0 is bad, the checkpoint is
+no_base : (base : Option Sum) (held : Readable) (k : ℕ) → k ≡ 0 → IsBadAfter base held k → base ≡ None
+no_base None held k zero bad = refl
+no_base (Some base) held k zero (inl illegal) = let due = illegal.number in absurd (omega (arith, zero, due))
+no_base (Some base) held k zero (inr (legal, it)) = let due = it.1 in absurd (omega (arith, zero, due))
+
+pub bad_checkpoint : (held : Readable) (k : ℕ) → k ≡ 0 → IsFirstBad held k → held.base ≡ None
+bad_checkpoint held k zero bad = no_base held.base held k zero bad
+
 -- where another row is the first that isn't read, the first bad one may not follow
-pub not_legal_before : (held : Readable) (k unread : ℕ) → IsFirstUnread held unread → k ≢ unread → IsFirstBad held k → IsFirstIllegal held.batches k
-not_legal_before held k unread is other (inl illegal) = illegal
-not_legal_before held k unread is other (inr (legal, it)) = absurd (other (it.1 ∙ sym is.1))
+illegal_by : (base : Option Sum) (held : Readable) (k unread : ℕ) → held.base ≡ base → IsUnreadAfter base held unread → k ≢ unread → IsBadAfter base held k → IsIllegalAt k held
+illegal_by None held k unread found is other bad = absurd (other (bad ∙ sym is))
+illegal_by (Some base) held k unread found is other (inl illegal) = record { base = base; found = found; illegal = illegal }
+illegal_by (Some base) held k unread found is other (inr (legal, it)) = absurd (other (it.1 ∙ sym is.1))
+
+pub not_legal_before : (held : Readable) (k unread : ℕ) → IsFirstUnread held unread → k ≢ unread → IsFirstBad held k → IsIllegalAt k held
+not_legal_before held k unread is other bad = illegal_by held.base held k unread refl is other bad
 
 -- where it is that row, it isn't read
-pub unreadable : (held : Readable) (k : ℕ) → IsFirstUnread held k → IsFirstBad held k → IsUnreadableAt k held
-unreadable held k is (inl illegal) = let low = is_read held.batches k illegal in absurd (omega (arith, low, is.1))
-unreadable held k is (inr (legal, it)) = record { legal = legal; unread = it }
+unreadable_by : (base : Option Sum) (held : Readable) (k : ℕ) → held.base ≡ base → 0 < k → IsUnreadAfter base held k → IsBadAfter base held k → IsUnreadableAt k held
+unreadable_by None held k found low is bad = absurd (omega (arith, low, bad))
+unreadable_by (Some base) held k found low is (inl illegal) = let most = is_read base held.batches k illegal in let due = is.1 in absurd (omega (arith, most, due))
+unreadable_by (Some base) held k found low is (inr (legal, it)) = record { base = base; found = found; legal = legal; unread = subst (λ o. IsUnreadAfter o held k) (sym found) it }
+
+pub unreadable : (held : Readable) (k : ℕ) → 0 < k → IsFirstUnread held k → IsFirstBad held k → IsUnreadableAt k held
+unreadable held k low is bad = unreadable_by held.base held k refl low is bad
 
 -- where all rows are read, the first bad one may not follow
-pub read_bad : (held : Readable) (log : Log) (k : ℕ) → held ≡ whole log → IsFirstBad held k → IsFirstIllegal held.batches k
-read_bad held log k is (inl illegal) = illegal
-read_bad held log k is (inr (legal, it)) = absurd (true≢false (sym (ap (λ (h : Readable). h.is_all) is) ∙ it.0))
+whole_bad : (history : History) (k : ℕ) → IsFirstBad (whole history) k → IsIllegalAt k (whole history)
+whole_bad history k (inl illegal) = record { base = history.base; found = refl; illegal = illegal }
+whole_bad history k (inr (legal, it)) = absurd (true≢false it.0)
+
+pub read_bad : (held : Readable) (history : History) (k : ℕ) → held ≡ whole history → IsFirstBad held k → IsIllegalAt k held
+read_bad held history k is bad = subst (IsIllegalAt k) (sym is) (whole_bad history k (subst (λ h. IsFirstBad h k) is bad))
+
+-- of a history that is read to its end
+pub first_illegal : (history : History) (k : ℕ) → IsFirstIllegalAfter history.base history.log k → IsIllegalAt k (whole history)
+first_illegal history k illegal = record { base = history.base; found = refl; illegal = illegal }
+
+-- a checkpoint that isn't read is why no server is made
+pub unserved : (held : Readable) (fault : SavedFault) → IsNoBase held fault → IsNoServer held fault
+unserved held saved.Memory why = why
+unserved held saved.Database why = why
+unserved held saved.NotOurs why = why
+unserved held (saved.BadRow k) why = subst (λ base. IsBadAfter base held k) (sym why.0) why.1
+unserved held saved.Version why = why
+
+-- and why no batches are read
+pub unread : (held : Readable) (fault : SavedFault) → IsNoBase held fault → IsUnread held fault
+unread held saved.Memory why = why
+unread held saved.Database why = why
+unread held saved.NotOurs why = why
+unread held (saved.BadRow k) why = subst (λ base. IsUnreadAfter base held k) (sym why.0) why.1
+unread held saved.Version why = why
 
 -- a fault of the keeper says nothing of a row
 pub no_flaw : (held : Readable) (e : SavedFault) → IsFlaw held (of_saved e)
@@ -64,6 +104,7 @@ refusal image fault.Output h = tt
 refusal image fault.Missing h = tt
 refusal image fault.InUse h = tt
 refusal image (fault.Store e) h = tt
+refusal image fault.BadCheckpoint h = h
 refusal image (fault.Unreadable k) h = h
 refusal image (fault.NotLegal k) h = h
 

@@ -15,8 +15,10 @@ use Rattle.pres_log.specs.declared.entry.Entry.{Entry}
 use Rattle.pres_log.specs.Logs.{Log}
 use Rattle.pres_server.specs.BaseSums.{sum_for}
 use Rattle.pres_server.specs.Sums.{Sum}
+use Rattle.pres_server.specs.Histories.{History}
 use Rattle.pres_batch_json.specs.Entries.{entries_json, entry_json}
-use Rattle.pres_inspect.specs.Reports.{PrintsLog, PrintsSomeLog, PrintsSomeState, PrintsState, Text, batch_text, entry_text, history_text, lines_text}
+use Rattle.pres_inspect.specs.declared.checkpoint.Checkpoint.{Checkpoint}
+use Rattle.pres_inspect.specs.Reports.{PrintsHistory, PrintsSomeHistory, Text, batch_text, checkpoint_line, checkpoint_text, entry_text, lines_text, log_text}
 
 -- the JSON of a list of one entry
 one_entry : (e : Entry) → compact_text (entries_json (e ∷ [])) ≡ 91 ∷ (compact_text (entry_json e) ++ 93 ∷ [])
@@ -33,6 +35,19 @@ line_of_pieces : (number moment : ℕ) (e : Entry)
     → codes "{\"entry\":" ++ (compact_text (entry_json e) ++ (codes ",\"moment\":" ++ (decimal moment ++ (codes ",\"number\":" ++ (decimal number ++ codes "}\n"))))) ≡ entry_text number moment e
 unfolding escape_byte
 line_of_pieces number moment e = simp append_assoc refl
+
+-- those of a checkpoint's line
+pub line_of_checkpoint : (c : Checkpoint)
+    → codes "{\"checkpoint\":{\"batches\":" ++ (decimal c.batches ++ (codes "},\"moment\":" ++ (decimal c.moment ++ (codes ",\"number\":" ++ (decimal c.number ++ codes "}\n"))))) ≡ checkpoint_text c
+unfolding escape_byte
+line_of_checkpoint c = simp append_assoc refl
+
+-- a checkpoint with the first number or a later one has a line, and one before it has none
+pub checkpoint_shown : (from : ℕ) (c : Checkpoint) → from ≤ c.number → checkpoint_text c ≡ checkpoint_line from (Some c)
+checkpoint_shown from c low = ap (λ b. if b then checkpoint_text c else []) (sym (le-leb from c.number low))
+
+pub checkpoint_hidden : (from : ℕ) (c : Checkpoint) → c.number < from → [] ≡ checkpoint_line from (Some c)
+checkpoint_hidden from c high = ap (λ b. if b then checkpoint_text c else []) (sym (lt-leb from c.number high))
 
 -- what follows from what a list grew by
 pub grown : {T E B : Type 0} (r : Result T E) (new more old : List ℕ) → (new ≡ more → B) → new ≡ (if is_ok r then more else old) → OnOk r B
@@ -79,18 +94,15 @@ nothing_more (Some xs) = sym (append-nil xs)
 
 -- the text of the batches with one more
 pub log_more : (from : ℕ) (log : Log) (i : ℕ) (b : Batch) → i < length log → b ≡ get_or log i b
-    → history_text from (take (i + 1) log) ≡ history_text from (take i log) ++ batch_text from b
+    → log_text from (take (i + 1) log) ≡ log_text from (take i log) ++ batch_text from b
 log_more from log i b low is =
-    ap (history_text from) (take_more log i b low ∙ ap (λ x. take i log ++ x ∷ []) (sym is))
+    ap (log_text from) (take_more log i b low ∙ ap (λ x. take i log ++ x ∷ []) (sym is))
     ∙ flat_map-append (batch_text from) (take i log) (b ∷ [])
-    ∙ ap (λ t. history_text from (take i log) ++ t) (append-nil (batch_text from b))
+    ∙ ap (λ t. log_text from (take i log) ++ t) (append-nil (batch_text from b))
 
 -- what is printed of a file is that of some history
-pub some_state : (image : Image) (text : Sum → Text) (x y : Option Text) → PrintsState image text x y → PrintsSomeState text x y
-some_state image text x y it = record { sum = it.sum; made = it.made; printed = it.printed }
-
-pub some_log : (image : Image) (text : Log → Text) (x y : Option Text) → PrintsLog image text x y → PrintsSomeLog text x y
-some_log image text x y it = record { log = it.log; legal = it.legal; printed = it.printed }
+pub some_history : (image : Image) (text : History → Sum → Text) (x y : Option Text) → PrintsHistory image text x y → PrintsSomeHistory text x y
+some_history image text x y it = record { history = it.history; sum = it.sum; leads = it.leads; printed = it.printed }
 
 -- a base has as many open sessions as its sum
 pub open_sessions : (p : BaseParts) (sum : Sum) → sum_for p ≡ sum → length p.sessions ≡ length sum.sessions

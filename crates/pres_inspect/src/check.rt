@@ -3,24 +3,26 @@
 ghost use Rattle.std.specs.Prelude.{◌≡◌, ◌≢◌, ◌⊎◌, IfErr, IfOk, OnOk, length, string_bytes};
 ghost use Rattle.std.specs.Io.KnownBytes.{Appends};
 ghost use Rattle.pres_inspect.specs.Copies.{image_of, IsRefusal};
-ghost use Rattle.pres_inspect.specs.Reports.{PrintsState, PrintsSomeState, check_text, flaw_text};
+ghost use Rattle.pres_inspect.specs.Reports.{PrintsHistory, PrintsSomeHistory, check_text, checkpoint_lines, flaw_text, state_text};
 
+use crate::checkpoint::Checkpoint;
 use crate::copied::{Copied, copied_from};
 use crate::fault::InspectFault;
-use crate::found::found_server;
+use crate::found::{FoundServer, found_server};
 use pres_server::Server;
 use std::alloc::{AllocError, Global};
 use std::io::Write;
 
-/// Prints how many entries, batches and open sessions the history in the file at the path has, and
-/// that it is legal; or which row is the first bad one, and why.
+/// Prints how many entries, batches and open sessions the history in the file at the path has, at
+/// which checkpoint it begins, if at one, and that it is legal; or which row is the first bad one, and
+/// why.
 pub fn check_run<W: Write>(
     host: &HostRuntime,
     path: &str,
     output: &mut W,
 ) -> Result<(), InspectFault>
     ensures checked { OnOk result
-        (PrintsSomeState check_text (W.contents output.old) (W.contents output.new)) }
+        (PrintsSomeHistory check_text (W.contents output.old) (W.contents output.new)) }
 {
     let copied = copied_from(host, path)?;
     check_copied(host.alloc(), copied, output)
@@ -33,18 +35,18 @@ pub fn check_copied<W: Write>(
     copied: Copied,
     output: &mut W,
 ) -> Result<(), InspectFault>
-    ensures checked { OnOk result (PrintsState (image_of copied) check_text
+    ensures checked { OnOk result (PrintsHistory (image_of copied) check_text
         (W.contents output.old) (W.contents output.new)) }
     ensures refused { IfErr result (IsRefusal (image_of copied)) }
     ensures told { IfErr result (λ e. e ≢ InspectFault.Output
         → Appends (W.contents output.old) (W.contents output.new) (flaw_text e)) }
 {
-    let server = match found_server(alloc, copied) {
-        Ok(server) => server,
+    let found = match found_server(alloc, copied) {
+        Ok(found) => found,
         Err(fault) => return Err(tell_flaw(alloc, fault, output)),
     };
-    let text = check_text(alloc, &server)?;
-    drop(server);
+    let text = state_text(alloc, &found)?;
+    drop(found);
     put(output, text.as_bytes())
 }
 
@@ -82,6 +84,7 @@ fn flaw_line(alloc: Global, fault: &InspectFault) -> Result<String, AllocError>
     ensures { IfOk result (λ line. string_bytes line ≡ flaw_text fault.now) }
 {
     match fault {
+        InspectFault::BadCheckpoint => String::from_str(alloc, "checkpoint unreadable\n"),
         InspectFault::Unreadable(row) => format!(in alloc; "row {} unreadable\n", row.get()),
         InspectFault::NotLegal(row) => format!(in alloc; "row {} not legal\n", row.get()),
         InspectFault::Memory
@@ -92,14 +95,33 @@ fn flaw_line(alloc: Global, fault: &InspectFault) -> Result<String, AllocError>
     }
 }
 
-// What is printed of a server.
-fn check_text(alloc: Global, server: &Server) -> Result<String, AllocError>
-    ensures { IfOk result (λ text. string_bytes text ≡ check_text server.now.sum) }
+// What is printed of a server and the checkpoint.
+fn state_text(alloc: Global, found: &FoundServer) -> Result<String, AllocError>
+    ensures { IfOk result (λ text.
+        string_bytes text ≡ state_text found.now.checkpoint found.now.server.sum) }
 {
-    let number = server.number();
-    let batches = server.log().batches();
-    let sessions = open_count(server)?;
-    format!(in alloc; "number {number}\nbatches {batches}\nopen sessions {sessions}\nlegal\n")
+    let number = found.server.number();
+    let batches = found.server.log().batches();
+    let sessions = open_count(&found.server)?;
+    let lines = checkpoint_lines(alloc, found.checkpoint)?;
+    format!(in alloc;
+        "number {number}\nbatches {batches}\nopen sessions {sessions}\n{lines}legal\n"
+    )
+}
+
+// The lines of a checkpoint, none without one.
+fn checkpoint_lines(alloc: Global, checkpoint: Option<Checkpoint>) -> Result<String, AllocError>
+    ensures { IfOk result (λ lines. string_bytes lines ≡ checkpoint_lines checkpoint) }
+{
+    let Some(checkpoint) = checkpoint else {
+        return Ok(String::new(alloc));
+    };
+    let number = checkpoint.number.get();
+    let batches = checkpoint.batches.get();
+    let moment = checkpoint.moment.millis();
+    format!(in alloc;
+        "checkpoint number {number}\ncheckpoint batches {batches}\ncheckpoint moment {moment}\n"
+    )
 }
 
 // How many sessions are open.

@@ -27,6 +27,9 @@ pub enum InspectFault {
     /// The file can't be read, is no database, or isn't a server's.
     #[error("store refused {n}", n = .0.number())]
     Store(SavedFault),
+    /// What is saved of the checkpoint is none.
+    #[error("store refused 4")]
+    BadCheckpoint,
     /// The row with this number is no batch, and those before it are a legal history.
     #[error("store refused 4")]
     Unreadable(Count),
@@ -45,6 +48,7 @@ impl InspectFault {
             InspectFault::Missing
             | InspectFault::InUse
             | InspectFault::Store(_)
+            | InspectFault::BadCheckpoint
             | InspectFault::Unreadable(_)
             | InspectFault::NotLegal(_) => 3,
             InspectFault::Memory => 5,
@@ -65,6 +69,9 @@ impl InspectFault {
                 "the file is of another version of this program"
             }
             InspectFault::Store(_) => "the file can't be read, or it is no SQLite database",
+            InspectFault::BadCheckpoint => {
+                "the checkpoint of the file is damaged: restore a backup"
+            }
             InspectFault::Unreadable(_) | InspectFault::NotLegal(_) => {
                 "a row of the file is bad: `presence check` says which"
             }

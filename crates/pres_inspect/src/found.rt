@@ -1,27 +1,28 @@
-//! What copied files hold: the server of their history, and its batches.
+//! What copied files hold: the server of their history, its checkpoint, and the batches after that.
 
-ghost use Rattle.std.specs.Prelude.{◌≡◌, ◌⊎◌, ⊤, IfErr, IfNone, IfOk, IfSome, IsTrue};
+ghost use Rattle.std.specs.Prelude.{◌≡◌, ◌<◌, ◌⊎◌, IfErr, IfNone, IfOk, IfSome, IsTrue, OnOk};
 ghost use Rattle.sqlite.specs.Files.{image_of as image_in, over_files};
 ghost use Rattle.sqlite.specs.Held.{Held, state};
 ghost use Rattle.sqlite.specs.State.{HasCleanDisk};
 ghost use Rattle.sqlite_pool.specs.Opening.{IsBlankFile};
 ghost use Rattle.sqlite_disk.specs.Memory.{memory_bytes, memory_is_usable};
 ghost use Rattle.pres_file.specs.FileOpening.{new_page_size};
-ghost use Rattle.pres_keeper.specs.Keepers.{Readable, SomeLog, whole, IsFirstBad, IsNoServer, IsUnread};
+ghost use Rattle.pres_keeper.specs.Keepers.{Readable, base_sum, whole, IsFirstBad, IsNoLogAfter, IsNoServer, IsUnread};
 ghost use Rattle.pres_saved.specs.SqlKeepers.{readable_in};
-ghost use Rattle.pres_server.specs.Replays.{IsNoLog};
-ghost use Rattle.pres_server.specs.Sums.{nothing};
 ghost use Rattle.pres_server.specs.SumTurns.{FollowAll};
-ghost use Rattle.pres_batch_rows.specs.TableStates.{Serves};
-ghost use Rattle.pres_inspect.specs.Copies.{image_of, Holds, IsFlaw, IsFoundKeeper, IsRefusal, ShowsWhileOpen};
+ghost use Rattle.pres_server.specs.Histories.{History, IsSum, LeadsTo};
+ghost use Rattle.pres_batch_rows.specs.TableStates.{IsLeft, Serves};
+ghost use Rattle.pres_inspect.specs.Copies.{image_of, end_of, history_of, HoldsHistory, IsFlaw, IsFoundKeeper, IsFoundOf, IsRefusal, ShowsWhileOpen};
 
+use crate::checkpoint::Checkpoint;
 use crate::copied::Copied;
 use crate::fault::InspectFault;
+use pres_base::Base;
 use pres_faults::SavedFault;
 use pres_file::{OpenedFile, keeper_for};
 use pres_ids::Count;
 use pres_saved::SqlKeeper;
-use pres_server::{Batch, ReplayFault, Server};
+use pres_server::{Batch, Replay, ReplayFault, Server};
 use sqlite::{Alter, Connection, FileStore, Files, Options};
 use sqlite_disk::{Disk, Memory};
 use sqlite_pool::probe_blank;
@@ -31,31 +32,50 @@ use std::alloc::{AllocError, Global};
 // How many bytes a page of a server's new file has.
 const NEW_PAGE_SIZE: usize = 1024;
 
-/// The server of the history that the copied files hold, which is the one that a start makes. If they
-/// hold none, with the number of the first bad row: Unreadable, if it is no batch; NotLegal, if its
-/// batch may not follow those before it. It reads one row at a time.
-pub fn found_server(alloc: Global, copied: Copied) -> Result<Server, InspectFault>
-    ensures held { IfOk result (λ server. Holds (image_of copied)
-        (λ held. SomeLog (λ log. held ≡ whole log) server.sum)) }
-    ensures made { IfOk result (λ server. SomeLog (λ log. ⊤) server.sum) }
+/// The server of a history, and the checkpoint at which the history begins, none where no entry comes
+/// before it.
+#[derive(Drop)]
+pub struct FoundServer {
+    pub checkpoint: Option<Checkpoint>,
+    pub server: Server,
+}
+
+/// A history: the base of its checkpoint, none without one, and the batches since.
+#[derive(Drop)]
+pub struct FoundHistory {
+    pub base: Option<Base>,
+    pub batches: Vec<Batch>,
+}
+
+/// The server of the history that the copied files hold, which is the one that a start makes, and the
+/// checkpoint at which the history begins. If they hold none: BadCheckpoint, if what they have of a
+/// checkpoint is none; or with the number of the first bad row: Unreadable, if it is no batch;
+/// NotLegal, if its batch may not follow those before it. It reads one row at a time.
+pub fn found_server(alloc: Global, copied: Copied) -> Result<FoundServer, InspectFault>
+    ensures held { IfOk result (IsFoundOf (HoldsHistory (image_of copied))) }
     ensures refused { IfErr result (IsRefusal (image_of copied)) }
 {
     match keeper_of(alloc, copied)? {
         Some(keeper) => server_of(alloc, keeper),
-        None => Ok(Server::new(alloc)),
+        None => Ok(FoundServer {
+            checkpoint: None,
+            server: Server::new(alloc),
+        }),
     }
 }
 
-/// The batches of the history that the copied files hold, refused in the same way.
-pub fn found_batches(alloc: Global, copied: Copied) -> Result<Vec<Batch>, InspectFault>
-    ensures held { IfOk result
-        (λ batches. Holds (image_of copied) (λ held. held ≡ whole batches.items)) }
-    ensures legal { IfOk result (λ batches. FollowAll nothing batches.items) }
+/// The history that the copied files hold, refused in the same way.
+pub fn found_history(alloc: Global, copied: Copied) -> Result<FoundHistory, InspectFault>
+    ensures held { IfOk result (λ found. HoldsHistory (image_of copied) (history_of found)) }
+    ensures leads { IfOk result (λ found. LeadsTo (history_of found) (end_of (history_of found))) }
     ensures refused { IfErr result (IsRefusal (image_of copied)) }
 {
     match keeper_of(alloc, copied)? {
-        Some(keeper) => batches_of(alloc, keeper),
-        None => Ok(Vec::new(alloc)),
+        Some(keeper) => history_in(alloc, keeper),
+        None => Ok(FoundHistory {
+            base: None,
+            batches: Vec::new(alloc),
+        }),
     }
 }
 
@@ -144,25 +164,40 @@ fn is_blank<D: Disk>(alloc: Global, files: &mut Files<D>) -> Result<bool, Inspec
     }
 }
 
-// The server that the keeper's rows make.
+// The server that the keeper's base and rows make.
 fn server_of<S: Alter + Drop>(
     alloc: Global,
     mut keeper: SqlKeeper<S>,
-) -> Result<Server, InspectFault>
+) -> Result<FoundServer, InspectFault>
     requires honest { (c : Held S) → HasCleanDisk (state S.Store c) }
-    ensures held { Serves S.Store keeper → IfOk result (λ server.
-        SomeLog (λ log. readable_in S.Store keeper ≡ whole log) server.sum) }
-    ensures made { IfOk result (λ server. SomeLog (λ log. ⊤) server.sum) }
+    ensures held { IfOk result (IsFoundOf
+        (λ history. Serves S.Store keeper → readable_in S.Store keeper ≡ whole history)) }
     ensures refused { Serves S.Store keeper
         → IfErr result (IsFlaw (readable_in S.Store keeper)) }
 {
-    match keeper.replay() {
-        Ok(server) => {
+    match replayed(&mut keeper) {
+        Ok(found) => {
             drop(keeper);
-            Ok(server)
+            Ok(found)
         }
         Err(fault) => Err(flaw_after(alloc, keeper.into_connection(), fault)),
     }
+}
+
+// The same, with the keeper as it was.
+fn replayed<S: Alter + Drop>(keeper: &mut SqlKeeper<S>) -> Result<FoundServer, SavedFault>
+    requires honest { (c : Held S) → HasCleanDisk (state S.Store c) }
+    ensures held { IfOk result (IsFoundOf
+        (λ history. Serves S.Store keeper.old → readable_in S.Store keeper.old ≡ whole history)) }
+    ensures refused { Serves S.Store keeper.old
+        → IfErr result (IsNoServer (readable_in S.Store keeper.old)) }
+    ensures left { Serves S.Store keeper.old
+        → IsLeft (state S.Store keeper.old.connection) (state S.Store keeper.new.connection) }
+{
+    let base = keeper.load_base()?;
+    let checkpoint = Checkpoint::of(&base);
+    let server = keeper.replay_since(base)?;
+    Ok(FoundServer { checkpoint, server })
 }
 
 // Why no server is made of what the connection shows, by the fault of the keeper that tried.
@@ -214,6 +249,9 @@ fn flaw_of<S: Alter + Drop>(keeper: &mut SqlKeeper<S>, row: Count) -> InspectFau
     ensures { Serves S.Store keeper.old → IsFirstBad (readable_in S.Store keeper.old) row
         → IsFlaw (readable_in S.Store keeper.old) result }
 {
+    if row.get() == 0 {
+        return InspectFault::BadCheckpoint;
+    }
     match keeper.load() {
         Ok(batches) => {
             drop(batches);
@@ -226,6 +264,7 @@ fn flaw_of<S: Alter + Drop>(keeper: &mut SqlKeeper<S>, row: Count) -> InspectFau
 // What is wrong with the first bad row, by the first that isn't read.
 #[tactic(auto, using(crate::proofs::Flaws::unreadable, crate::proofs::Flaws::not_legal_before, crate::proofs::Flaws::no_flaw))]
 fn flaw_by(unread: SavedFault, row: Count) -> InspectFault
+    requires { 0 < row }
     ensures { (held : Readable) → IsUnread held unread → IsFirstBad held row → IsFlaw held result }
 {
     match unread {
@@ -238,22 +277,22 @@ fn flaw_by(unread: SavedFault, row: Count) -> InspectFault
     }
 }
 
-// The batches in the keeper's rows.
-fn batches_of<S: Alter + Drop>(
+// The history of the keeper's base and rows.
+fn history_in<S: Alter + Drop>(
     alloc: Global,
     mut keeper: SqlKeeper<S>,
-) -> Result<Vec<Batch>, InspectFault>
+) -> Result<FoundHistory, InspectFault>
     requires honest { (c : Held S) → HasCleanDisk (state S.Store c) }
     ensures held { Serves S.Store keeper → IfOk result
-        (λ batches. readable_in S.Store keeper ≡ whole batches.items) }
-    ensures legal { IfOk result (λ batches. FollowAll nothing batches.items) }
+        (λ found. readable_in S.Store keeper ≡ whole (history_of found)) }
+    ensures leads { IfOk result (λ found. LeadsTo (history_of found) (end_of (history_of found))) }
     ensures refused { Serves S.Store keeper
         → IfErr result (IsFlaw (readable_in S.Store keeper)) }
 {
-    match keeper.load() {
-        Ok(batches) => {
+    match loaded(&mut keeper) {
+        Ok(found) => {
             drop(keeper);
-            legal_only(alloc, batches)
+            legal_only(alloc, found)
         }
         Err(SavedFault::BadRow(_)) => Err(flaw_in(alloc, keeper.into_connection())),
         Err(fault) => {
@@ -263,27 +302,78 @@ fn batches_of<S: Alter + Drop>(
     }
 }
 
-// Batches that were all read, if each may follow those before it.
-fn legal_only(alloc: Global, batches: Vec<Batch>) -> Result<Vec<Batch>, InspectFault>
-    ensures same { IfOk result (λ legal. legal.items ≡ batches.items) }
-    ensures legal { IfOk result (λ legal. FollowAll nothing legal.items) }
-    ensures refused { IfErr result (IsFlaw (whole batches.items)) }
+// The same, legal or not, with the keeper as it was.
+fn loaded<S: Alter + Drop>(keeper: &mut SqlKeeper<S>) -> Result<FoundHistory, SavedFault>
+    requires honest { (c : Held S) → HasCleanDisk (state S.Store c) }
+    ensures held { Serves S.Store keeper.old → IfOk result
+        (λ found. readable_in S.Store keeper.old ≡ whole (history_of found)) }
+    ensures base { IfOk result (λ found. IsSum (base_sum found.base)) }
+    ensures refused { Serves S.Store keeper.old
+        → IfErr result (IsUnread (readable_in S.Store keeper.old)) }
+    ensures left { Serves S.Store keeper.old
+        → IsLeft (state S.Store keeper.old.connection) (state S.Store keeper.new.connection) }
 {
-    match Server::replay(alloc, &batches) {
-        Ok(server) => {
-            drop(server);
-            Ok(batches)
-        }
+    let base = keeper.load_base()?;
+    match keeper.load_since(&base) {
+        Ok(batches) => Ok(FoundHistory { base, batches }),
         Err(fault) => {
-            drop(batches);
+            drop(base);
+            Err(fault)
+        }
+    }
+}
+
+// A history that was read to its end, if each batch may follow those before it.
+fn legal_only(alloc: Global, found: FoundHistory) -> Result<FoundHistory, InspectFault>
+    requires base { IsSum (base_sum found.base) }
+    ensures same { IfOk result (λ legal. legal ≡ found) }
+    ensures leads { IfOk result (λ legal. LeadsTo (history_of legal) (end_of (history_of legal))) }
+    ensures refused { IfErr result (IsFlaw (whole (history_of found))) }
+{
+    match follow_all(alloc, &found.base, found.batches.as_slice()) {
+        Ok(()) => Ok(found),
+        Err(fault) => {
+            drop(found);
             Err(refused_batch(fault))
         }
     }
 }
 
-// What is wrong with batches that are refused in this way.
+// Whether the batches may follow the base, one after another.
+fn follow_all(alloc: Global, base: &Option<Base>, batches: &[Batch]) -> Result<(), ReplayFault>
+    ensures legal { OnOk result (FollowAll (base_sum base.now) batches.now) }
+    ensures refused { IfErr result (IsNoLogAfter (base_sum base.now) batches.now) }
+{
+    let mut replay = begun(alloc, base)?;
+    for batch in batches {
+        let Ok(batch) = batch.copy(alloc) else {
+            drop(replay);
+            return Err(ReplayFault::Memory);
+        };
+        if let Err(fault) = replay.add(batch) {
+            drop(replay);
+            return Err(fault);
+        }
+    }
+    drop(replay);
+    Ok(())
+}
+
+// A replay that begins at the base.
+fn begun(alloc: Global, base: &Option<Base>) -> Result<Replay, ReplayFault>
+    ensures sum { IfOk result (λ replay. replay ≡ base_sum base.now) }
+    ensures refused { IfErr result (λ e. e ≡ ReplayFault.Memory) }
+{
+    match base {
+        None => Ok(Replay::new(alloc)),
+        Some(base) => Replay::resume(alloc, base.copy(alloc)?),
+    }
+}
+
+// What is wrong with a history whose batches are refused in this way.
 fn refused_batch(fault: ReplayFault) -> InspectFault
-    ensures { (batches : _) → IsNoLog batches fault → IsFlaw (whole batches) result }
+    ensures { (history : History) → IsNoLogAfter history.base history.log fault
+        → IsFlaw (whole history) result }
 {
     match fault {
         ReplayFault::Memory => InspectFault::Memory,
@@ -303,8 +393,8 @@ fn flaw_in<S: Alter + Drop>(alloc: Global, connection: Connection<S>) -> Inspect
     }
     match SqlKeeper::open(alloc, connection) {
         Ok(keeper) => match server_of(alloc, keeper) {
-            Ok(server) => {
-                drop(server);
+            Ok(found) => {
+                drop(found);
                 InspectFault::Store(SavedFault::Database)
             }
             Err(flaw) => flaw,

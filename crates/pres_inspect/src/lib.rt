@@ -3,6 +3,7 @@
 #![tactic(auto)]
 
 mod check;
+mod checkpoint;
 mod copied;
 mod fault;
 mod found;
@@ -10,8 +11,9 @@ mod history;
 mod tree;
 
 pub use check::{check_copied, check_run};
+pub use checkpoint::Checkpoint;
 pub use copied::{Copied, copied_from, is_in_use};
 pub use fault::InspectFault;
-pub use found::{found_batches, found_server};
+pub use found::{FoundHistory, FoundServer, found_history, found_server};
 pub use history::{history_of, history_run};
 pub use tree::{tree_of, tree_run};

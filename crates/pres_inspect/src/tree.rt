@@ -6,7 +6,7 @@ ghost use Rattle.pres_tree.specs.JsonPrinting.{json_of};
 ghost use Rattle.pres_tree.specs.Rows.{value_at};
 ghost use Rattle.pres_tree.specs.Scalars.{scalar_printing};
 ghost use Rattle.pres_inspect.specs.Copies.{image_of, IsRefusal};
-ghost use Rattle.pres_inspect.specs.Reports.{PrintsState, PrintsSomeState, tree_text};
+ghost use Rattle.pres_inspect.specs.Reports.{PrintsHistory, PrintsSomeHistory, tree_text, value_text};
 
 use crate::check::put;
 use crate::copied::{Copied, copied_from};
@@ -25,7 +25,7 @@ pub fn tree_run<W: Write>(
     output: &mut W,
 ) -> Result<(), InspectFault>
     ensures shown { OnOk result
-        (PrintsSomeState (tree_text path.now) (W.contents output.old) (W.contents output.new)) }
+        (PrintsSomeHistory (tree_text path.now) (W.contents output.old) (W.contents output.new)) }
 {
     let copied = copied_from(host, file)?;
     tree_of(host.alloc(), copied, path, output)
@@ -38,19 +38,19 @@ pub fn tree_of<W: Write>(
     path: &Path,
     output: &mut W,
 ) -> Result<(), InspectFault>
-    ensures shown { OnOk result (PrintsState (image_of copied) (tree_text path.now)
+    ensures shown { OnOk result (PrintsHistory (image_of copied) (tree_text path.now)
         (W.contents output.old) (W.contents output.new)) }
     ensures refused { IfErr result (IsRefusal (image_of copied)) }
 {
-    let server = found_server(alloc, copied)?;
-    let line = tree_line(alloc, &server, path)?;
-    drop(server);
+    let found = found_server(alloc, copied)?;
+    let line = tree_line(alloc, &found.server, path)?;
+    drop(found);
     put(output, line.as_slice())
 }
 
 // The line of the value at the path.
 fn tree_line(alloc: Global, server: &Server, path: &Path) -> Result<Vec<u8>, AllocError>
-    ensures { IfOk result (λ line. line.items ≡ tree_text path.now server.now.sum) }
+    ensures { IfOk result (λ line. line.items ≡ value_text path.now server.now.sum) }
 {
     let mut line = Vec::from_slice(alloc, b"tree ")?;
     add_value(alloc, server, path, &mut line)?;

@@ -1,7 +1,8 @@
-use Rattle.std.proofs.Common.{inr, subst, ◌∙◌}
+use Rattle.std.proofs.Common.{inr, ap, subst, ◌∙◌}
 use Rattle.std.proofs.lemmas.Result.{IfErr-weaker, on_ok_weaker}
 use Rattle.std.specs.Io.KnownBytes.{Appends}
 use Rattle.pres_inspect.specs.Copies.{image_of}
+use Rattle.pres_inspect.specs.Reports.{state_text}
 use Rattle.pres_inspect.proofs.Flaws.{no_row, told_refusal}
 use Rattle.pres_inspect.proofs.check.check_copied.Goals as goal
 
@@ -13,12 +14,15 @@ pub returns-clause-checked : goal.returns-clause-checked
 returns-clause-checked g c =
     let before = g.W.Write.contents c.args.output.now in
     let after = g.W.Write.contents c.put.new.output in
+    let sum = c.in-Ok.found.server.sum in
+    let it = c.in-Ok.ensures.held in
     on_ok_weaker c.put.result
     (λ printed. record {
-      sum = c.in-Ok.server.sum;
-      held = c.in-Ok.ensures.held;
-      made = c.in-Ok.ensures.made;
-      printed = subst (Appends before after) (c.as_bytes.ensures.value ∙ c.in_ok-text.ensures) printed;
+      history = it.history;
+      sum = sum;
+      held = it.held.0;
+      leads = it.leads;
+      printed = subst (Appends before after) (c.as_bytes.ensures.value ∙ c.in_ok-text.ensures ∙ ap (λ checkpoint. state_text checkpoint sum) it.held.1) printed;
     }) c.put.ensures.ok
 
 pub returns-clause-refused : goal.returns-clause-refused

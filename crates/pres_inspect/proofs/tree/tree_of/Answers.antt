@@ -9,11 +9,13 @@ pub returns-clause-shown : goal.returns-clause-shown
 returns-clause-shown g c =
     let before = g.W.Write.contents c.args.output.now in
     let after = g.W.Write.contents c.put.new.output in
+    let it = c.in_ok-found.ensures.held in
     on_ok_weaker c.put.result
     (λ printed. record {
-      sum = c.in_ok-server.server.sum;
-      held = c.in_ok-server.ensures.held;
-      made = c.in_ok-server.ensures.made;
+      history = it.history;
+      sum = c.in_ok-found.found.server.sum;
+      held = it.held.0;
+      leads = it.leads;
       printed = subst (Appends before after) (c.as_slice.ensures.value ∙ c.in_ok-line.ensures) printed;
     }) c.put.ensures.ok
 

@@ -3,32 +3,26 @@ use Rattle.std.specs.Prelude.{IfErr}
 use Rattle.std.proofs.lemmas.Result.{IfOk-weaker}
 use Rattle.sqlite.specs.Held.{Held, state}
 use Rattle.pres_keeper.specs.Keepers.{whole}
-use Rattle.pres_batch_rows.specs.RowContents.{shown_base, shown_rows}
-use Rattle.pres_saved.specs.Laws.{kept_whole}
 use Rattle.pres_saved.specs.SqlKeepers.{readable_in}
-use Rattle.pres_inspect.specs.Copies.{IsFlaw, ShowsWhileOpen}
+use Rattle.pres_inspect.specs.Copies.{IsFlaw, ShowsWhileOpen, history_of}
 use Rattle.pres_inspect.proofs.Flaws.{no_flaw, shows_left}
-use Rattle.pres_inspect.proofs.found.batches_of.Goals as goal
+use Rattle.pres_inspect.proofs.found.history_in.Goals as goal
 
 pub returns-in-Ok-clause-held : goal.returns-in-Ok-clause-held
 returns-in-Ok-clause-held g c = λ serves.
-    let was = state g.S.Store c.args.keeper.connection in
-    let all = kept_whole (shown_base was) (shown_rows was) c.in-Ok.batches.items (c.in-Ok.ensures.batches (c.requires.honest c.load.new.self.connection) serves) in
-    IfOk-weaker c.legal_only.result _ _ (λ legal same. all ∙ ap whole (sym same)) c.legal_only.ensures.same
+    IfOk-weaker c.legal_only.result _ _ (λ legal same. c.in-Ok.ensures.held serves ∙ ap (λ found. whole (history_of found)) (sym same)) c.legal_only.ensures.same
 
 pub returns-in-Ok-clause-refused : goal.returns-in-Ok-clause-refused
 returns-in-Ok-clause-refused g c = λ serves.
-    let was = state g.S.Store c.args.keeper.connection in
-    let all = kept_whole (shown_base was) (shown_rows was) c.in-Ok.batches.items (c.in-Ok.ensures.batches (c.requires.honest c.load.new.self.connection) serves) in
-    subst (λ held. IfErr c.legal_only.result (IsFlaw held)) (sym all) c.legal_only.ensures.refused
+    subst (λ held. IfErr c.legal_only.result (IsFlaw held)) (sym (c.in-Ok.ensures.held serves)) c.legal_only.ensures.refused
 
 pub returns-in-Err-BadRow-clause-refused : goal.returns-in-Err-BadRow-clause-refused
 returns-in-Err-BadRow-clause-refused g c = λ serves.
     let held = readable_in g.S.Store c.args.keeper in
-    let now = c.load.new.self in
+    let now = c.loaded.new.keeper in
     c.flaw_in.ensures held
     (subst (λ (h : Held g.row.S.Denot). ShowsWhileOpen (state g.S.Store h) held) (sym c.into_connection.ensures)
-    (shows_left g.S.Store c.args.keeper now (c.requires.honest c.args.keeper.connection) serves (c.in-Err-BadRow.ensures.left (c.requires.honest now.connection) serves)))
+    (shows_left g.S.Store c.args.keeper now (c.requires.honest c.args.keeper.connection) serves (c.in-Err-BadRow.ensures.left serves)))
 
 pub returns-in-Err-clause-refused : goal.returns-in-Err-clause-refused
 returns-in-Err-clause-refused g c = λ serves.
