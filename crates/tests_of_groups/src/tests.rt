@@ -2,8 +2,9 @@
 
 ghost use Rattle.std.specs.Prelude.{◌≡◌, ◌^◌};
 
+use pres_base::Base;
 use pres_faults::SavedFault;
-use pres_hub::{Answer, Core, Keeper, MemKeeper, NoBell, Request, Seat};
+use pres_hub::{Answer, Core, Keeper, MemKeeper, NoBell, Outcome, Request, Seat};
 use pres_server::{Batch, ClientId, Moment, Number, Server, SessionId, Stamp, Up, Why};
 use std::alloc::Global;
 use std::collections::VecDeque;
@@ -39,10 +40,11 @@ impl Refusing {
 }
 
 impl Keeper for Refusing {
-    ghost use Rattle.std.specs.Prelude.{◌≡◌, ◌++◌, ⊤};
+    ghost use Rattle.std.specs.Prelude.{◌≡◌, ⊤};
     ghost use Rattle.std.proofs.Common.{ap};
-    ghost use Rattle.pres_log.specs.Logs.{Log};
-    ghost use Rattle.pres_keeper.specs.Keepers.{whole};
+    ghost use Rattle.pres_server.specs.BaseSums.{sum_for};
+    ghost use Rattle.pres_server.specs.Histories.{begun_at, with_batches};
+    ghost use Rattle.pres_keeper.specs.Keepers.{BeginsWith, whole};
 
     ghost ready = { λ _. ⊤ };
 
@@ -50,17 +52,19 @@ impl Keeper for Refusing {
 
     ghost readable = { λ k. whole k.kept };
 
-    ghost keeps = { λ k log. k.kept ≡ log };
+    ghost keeps = { λ k history. k.kept ≡ history };
 
-    ghost stores = { λ old batches new. new.kept ≡ old.kept ++ batches };
+    ghost stores = { λ old batches new. new.kept ≡ with_batches old.kept batches };
+
+    ghost replaces = { λ old base new. new.kept ≡ begun_at (sum_for base) };
 
     ghost shut = { λ _ _. ⊥ };
 
-    ghost leaves = { λ _ _ _ _. ⊤ };
+    ghost leaves = { λ _ _ _. ⊤ };
 
     ghost may_find = { λ _ _. ⊥ };
 
-    ghost outlasts = { λ k log. (more : Log) × (k.kept ≡ log ++ more) };
+    ghost outlasts = { λ k history. BeginsWith history (whole k.kept) };
 
     ghost outlasting_is_found = { λ _ _ _ _ finds. absurd finds };
 
@@ -80,11 +84,22 @@ impl Keeper for Refusing {
         self.kept.commit_all(batches)
     }
 
+    fn checkpoint(&mut self, server: &Server) -> Result<(), SavedFault> {
+        if self.refuses() {
+            return Err(SavedFault::Database);
+        }
+        self.kept.checkpoint(server)
+    }
+
+    fn base(&mut self) -> Result<Option<Base>, SavedFault> {
+        self.kept.base()
+    }
+
     fn batches(&mut self) -> Result<Vec<Batch>, SavedFault> {
         self.kept.batches()
     }
 
-    fn server(&mut self) -> Result<Server, SavedFault> {
+    fn server(&mut self) -> Result<(Server, u64), SavedFault> {
         self.kept.server()
     }
 }
@@ -142,7 +157,32 @@ fn write(rt: &impl Abort, alloc: Global, client: &str, n: u64) -> Up {
     Up::decode(alloc, text.expect(rt, "memory").as_str()).expect(rt, "a message")
 }
 
-// The core gets the seat back. What its message was answered.
+// The client's first writes, as many as that.
+fn writes(rt: &impl Abort, alloc: Global, client: &str, count: u64) -> VecDeque<Up> {
+    let mut messages = VecDeque::new(alloc);
+    for n in 1..=count {
+        let message = write(rt, alloc, client, n);
+        messages.push_back(message).expect(rt, "memory");
+    }
+    messages
+}
+
+// What each message was answered.
+fn answers_text(rt: &impl Abort, alloc: Global, said: &[Outcome]) -> String {
+    let mut text = String::new(alloc);
+    for outcome in said {
+        let line = match outcome {
+            Ok(said) => said.number.to_string(alloc),
+            Err(fault) => fault.to_string(alloc),
+        };
+        text.push_str(line.expect(rt, "memory").as_str())
+            .expect(rt, "memory");
+        text.push_str(", ").expect(rt, "memory");
+    }
+    text
+}
+
+// The core gets the seat back. What its messages were answered.
 fn left<L: Ledger, K: Keeper + Drop, R: Abort>(
     rt: &R,
     alloc: Global,
@@ -150,22 +190,43 @@ fn left<L: Ledger, K: Keeper + Drop, R: Abort>(
     answer: Answer<L>,
 ) -> String {
     let (seat, said) = answer.into_parts();
-    let text = match said {
-        Ok(said) => said.number.to_string(alloc),
-        Err(fault) => fault.to_string(alloc),
-    };
+    let text = answers_text(rt, alloc, said.as_slice());
     let parting = core.leave(seat, Why::Lost, Moment::at(1000));
     let made = parting.made();
-    format!(in alloc; "{}, made {made}", text.expect(rt, "memory").as_str()).expect(rt, "memory")
+    format!(in alloc; "{}made {made}", text.as_str()).expect(rt, "memory")
 }
 
-// What these messages are answered, which the seats of as many clients say at once.
+// Adds what the seat says to the requests. The core gets a seat back that finds no memory.
+fn add_request<L: Ledger, K: Keeper + Drop>(
+    alloc: Global,
+    core: &mut Core<L, K, NoBell>,
+    requests: &mut VecDeque<Request<L>>,
+    seat: Seat<L>,
+    messages: VecDeque<Up>,
+) {
+    let request = match Request::of(alloc, seat, messages) {
+        Ok(request) => request,
+        Err((seat, messages)) => {
+            drop(messages);
+            drop(core.leave(seat, Why::Lost, Moment::at(1000)));
+            return;
+        }
+    };
+    if let Err(refused) = requests.push_back(request) {
+        let (seat, messages) = refused.value.into_parts();
+        drop(messages);
+        drop(core.leave(seat, Why::Lost, Moment::at(1000)));
+    }
+}
+
+// What the first messages of these writers are answered, so many of each, which the seats of as many
+// clients say at once.
 fn say_all_over<L: Ledger, K: Keeper + Drop, R: Abort>(
     rt: &R,
     alloc: Global,
     blank: Blank,
     keeper: K,
-    said: &[(&str, &str)],
+    said: &[(&str, &str, u64)],
 ) -> String
     requires name { blank.name ≡ L.name }
     requires parts { blank.parts ≡ L.parts }
@@ -174,14 +235,10 @@ fn say_all_over<L: Ledger, K: Keeper + Drop, R: Abort>(
 {
     let mut core = opened::<L, K, R>(rt, alloc, blank, keeper);
     let mut requests = VecDeque::new(alloc);
-    for (client, writer) in said {
+    for (client, writer, count) in said {
         let seat = joined(rt, alloc, &mut core, client);
-        let request = Request::of(seat, write(rt, alloc, writer, 1));
-        if let Err(refused) = requests.push_back(request) {
-            let (seat, message) = refused.value.into_parts();
-            drop(message);
-            drop(core.leave(seat, Why::Lost, Moment::at(1000)));
-        }
+        let messages = writes(rt, alloc, writer, *count);
+        add_request(alloc, &mut core, &mut requests, seat, messages);
     }
     let mut answers = Vec::with_capacity(alloc, requests.len()).expect(rt, "memory");
     core.say_all(&mut requests, Moment::at(1000), &mut answers);
@@ -198,6 +255,41 @@ fn say_all_over<L: Ledger, K: Keeper + Drop, R: Abort>(
     text
 }
 
+// What checkpoints of these rises answer, one after another, once alice joined and after each of her
+// writes.
+fn checkpoints_over<L: Ledger, K: Keeper + Drop, R: Abort>(
+    rt: &R,
+    alloc: Global,
+    blank: Blank,
+    keeper: K,
+    rises: &[u64],
+) -> String
+    requires name { blank.name ≡ L.name }
+    requires parts { blank.parts ≡ L.parts }
+    requires whole { blank.parts ≡ 2 ^ 53 }
+    requires ready { K.ready keeper }
+{
+    let mut core = opened::<L, K, R>(rt, alloc, blank, keeper);
+    let mut seat = joined(rt, alloc, &mut core, "alice");
+    let mut text = String::new(alloc);
+    for rise in rises {
+        let line = match core.checkpoint(*rise) {
+            Ok(Some(number)) => format!(in alloc; "{number}\n"),
+            Ok(None) => format!(in alloc; "none\n"),
+            Err(fault) => format!(in alloc; "{fault}\n"),
+        };
+        text.push_str(line.expect(rt, "memory").as_str())
+            .expect(rt, "memory");
+        let next = seat.q().get() + 1;
+        if let Err(fault) = core.say(&mut seat, write(rt, alloc, "alice", next), Moment::at(1000)) {
+            panic!(rt; "{fault}");
+        }
+    }
+    drop(core.leave(seat, Why::Lost, Moment::at(1000)));
+    drop(core.finish().into_keeper());
+    text
+}
+
 // What one client's message is answered, and that of another's seat that names the first one's
 // session.
 const IN_PLACE: &str = "4, made 2\nthe session is not open, made 1\n5, made 2\n";
@@ -210,13 +302,30 @@ const REFUSED: &str =
     "the database failed, made 1\nthe database failed, made 1\nthe database failed, made 1\n";
 
 // Three clients, each of whom says a message of its own.
-const THREE: [(&str, &str); 3] = [("alice", "alice"), ("bob", "bob"), ("carol", "carol")];
+const THREE: [(&str, &str, u64); 3] = [
+    ("alice", "alice", 1),
+    ("bob", "bob", 1),
+    ("carol", "carol", 1),
+];
+
+// What checkpoints answer, of which some aren't due.
+const WAITED: &str = "none\n2\nnone\n4\n5\nnone\n";
+
+// What they answer where the keeper refuses the first one.
+const AGAIN: &str = "the database failed\n2\n";
+
+// What two messages of one client and one of another are answered, which share a commit.
+const IN_LISTS: &str = "5, 5, made 3\n5, made 2\n";
 
 #[test]
 fn each_message_is_answered_in_its_place(rt: HostRuntime) {
     let alloc = rt.alloc();
     let keeper = MemKeeper::new(alloc);
-    let said = [("alice", "alice"), ("bob", "alice"), ("carol", "carol")];
+    let said = [
+        ("alice", "alice", 1),
+        ("bob", "alice", 1),
+        ("carol", "carol", 1),
+    ];
     let blank = Blank::new(1 << 53);
     let text = say_all_over::<Brand, MemKeeper, HostRuntime>(&rt, alloc, blank, keeper, &said);
     assert!(&rt; text.as_str() == IN_PLACE, "{text}");
@@ -232,10 +341,40 @@ fn messages_share_a_commit(rt: HostRuntime) {
 }
 
 #[test]
+fn messages_of_one_seat_share_a_commit(rt: HostRuntime) {
+    let alloc = rt.alloc();
+    let keeper = MemKeeper::new(alloc);
+    let said = [("alice", "alice", 2), ("bob", "bob", 1)];
+    let blank = Blank::new(1 << 53);
+    let text = say_all_over::<Brand, MemKeeper, HostRuntime>(&rt, alloc, blank, keeper, &said);
+    assert!(&rt; text.as_str() == IN_LISTS, "{text}");
+}
+
+#[test]
 fn a_refused_commit_refuses_each_message(rt: HostRuntime) {
     let alloc = rt.alloc();
     let keeper = Refusing::but(alloc, 4);
     let blank = Blank::new(1 << 53);
     let text = say_all_over::<Brand, Refusing, HostRuntime>(&rt, alloc, blank, keeper, &THREE);
     assert!(&rt; text.as_str() == REFUSED, "{text}");
+}
+
+#[test]
+fn a_checkpoint_waits_for_its_rise(rt: HostRuntime) {
+    let alloc = rt.alloc();
+    let keeper = MemKeeper::new(alloc);
+    let blank = Blank::new(1 << 53);
+    let rises = [2, 2, 2, 2, 1, 6];
+    let text = checkpoints_over::<Brand, MemKeeper, HostRuntime>(&rt, alloc, blank, keeper, &rises);
+    assert!(&rt; text.as_str() == WAITED, "{text}");
+}
+
+#[test]
+fn a_refused_checkpoint_is_due_again(rt: HostRuntime) {
+    let alloc = rt.alloc();
+    let keeper = Refusing::but(alloc, 2);
+    let blank = Blank::new(1 << 53);
+    let rises = [1, 1];
+    let text = checkpoints_over::<Brand, Refusing, HostRuntime>(&rt, alloc, blank, keeper, &rises);
+    assert!(&rt; text.as_str() == AGAIN, "{text}");
 }

@@ -1,9 +1,12 @@
 //! The tests, by what they are about.
 
 mod callers;
+mod checkpoint_stops;
+mod checkpoints;
 mod gates;
 mod groups;
 mod keepers;
+mod lists;
 mod refusing;
 mod rows;
 mod runs;

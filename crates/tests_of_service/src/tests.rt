@@ -2,6 +2,7 @@
 
 mod board;
 mod broken;
+mod checkpoints;
 mod command;
 mod connections;
 mod counters;
@@ -11,7 +12,9 @@ mod halts;
 mod looks;
 mod pages;
 mod script;
+mod streams;
 mod texts;
+mod together;
 mod visits;
 mod wakes;
 mod worlds;

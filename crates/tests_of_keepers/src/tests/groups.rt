@@ -38,8 +38,8 @@ fn results_text(rt: &impl Abort, alloc: Global, turns: &[TurnResult]) -> String 
     text
 }
 
-// What the engine says to these messages, each on a line.
-fn said<K: Keeper + Drop, R: Abort>(
+/// What the engine says to these messages, each on a line.
+pub(crate) fn said<K: Keeper + Drop, R: Abort>(
     rt: &R,
     alloc: Global,
     engine: &mut Engine<K>,
@@ -52,19 +52,19 @@ fn said<K: Keeper + Drop, R: Abort>(
     }
 }
 
-const HELLOS: &str = r#"{"m":"hello","s":["alice",1,1]}
+pub(crate) const HELLOS: &str = r#"{"m":"hello","s":["alice",1,1]}
 {"m":"hello","s":["bob",1,1]}"#;
 
-const WELCOMES: &str = r#"{"m":"welcome","ops":0,"s":["alice",1,1],"z":1}
+pub(crate) const WELCOMES: &str = r#"{"m":"welcome","ops":0,"s":["alice",1,1],"z":1}
 {"m":"welcome","ops":0,"s":["bob",1,1],"z":2}
 "#;
 
-// Alice writes, and bob's transaction reads what alice wrote.
-const WRITES: &str =
+/// Alice writes, and bob's transaction reads what alice wrote.
+pub(crate) const WRITES: &str =
     r#"{"m":"op","n":1,"op":{"op":"set","path":"/n","value":1},"q":1,"s":["alice",1,1]}
 {"m":"op","n":1,"op":{"expect":1,"op":"tx","path":"/n","value":2},"q":1,"s":["bob",1,1]}"#;
 
-const REPLIES: &str =
+pub(crate) const REPLIES: &str =
     r#"{"done":3,"m":"reply","n":1,"out":"wrote","q":1,"r":1,"s":["alice",1,1],"z":3}
 {"done":4,"m":"reply","n":1,"out":"wrote","q":1,"r":1,"s":["bob",1,1],"z":4}
 "#;
@@ -76,25 +76,25 @@ const OPENED: &str = r#"[{"e":"open","s":["alice",1,1]}]
 [{"e":"open","s":["bob",1,1]}]
 "#;
 
-const WRITTEN: &str = r#"[{"e":"open","s":["alice",1,1]}]
+pub(crate) const WRITTEN: &str = r#"[{"e":"open","s":["alice",1,1]}]
 [{"e":"open","s":["bob",1,1]}]
 [{"e":"op","n":1,"op":{"op":"set","path":"/n","value":1},"out":{"wrote":[["/n",1]]},"q":1,"s":["alice",1,1]}]
 [{"e":"op","n":1,"op":{"expect":1,"op":"tx","path":"/n","value":2},"out":{"wrote":[["/n",2]]},"q":1,"s":["bob",1,1]}]
 "#;
 
-// One client writes twice.
-const MORE: &str =
+/// One client writes twice.
+pub(crate) const MORE: &str =
     r#"{"m":"op","n":2,"op":{"op":"set","path":"/n","value":3},"q":2,"s":["alice",1,1]}
 {"m":"op","n":3,"op":{"op":"remove","path":"/n"},"q":3,"s":["alice",1,1]}"#;
 
-// What both batches hold, after those of before.
-const ADDED: &str =
+/// What both batches hold, after those of before.
+pub(crate) const ADDED: &str =
     r#"[{"e":"op","n":2,"op":{"op":"set","path":"/n","value":3},"out":{"wrote":[["/n",3]]},"q":2,"s":["alice",1,1]}]
 [{"e":"op","n":3,"op":{"op":"set","path":"/n","value":null},"out":{"wrote":[["/n",null]]},"q":3,"s":["alice",1,1]}]
 "#;
 
-// An engine over the keeper.
-fn opened<K: Keeper + Drop, R: Abort>(rt: &R, keeper: K) -> Engine<K>
+/// An engine over the keeper.
+pub(crate) fn opened<K: Keeper + Drop, R: Abort>(rt: &R, keeper: K) -> Engine<K>
     requires { K.ready keeper }
 {
     match Engine::open(keeper) {
@@ -145,7 +145,8 @@ fn a_commit_that_is_refused_refuses_all(rt: HostRuntime) {
 // The keeper after it was given the batches of these messages, all at once.
 fn given_all<K: Keeper + Drop, R: Abort>(rt: &R, alloc: Global, keeper: K, lines: &str) -> K {
     let mut keeper = keeper;
-    let mut group = Group::new(keeper.server().expect(rt, "a server"));
+    let (server, _) = keeper.server().expect(rt, "a server");
+    let mut group = Group::new(server);
     for input in inputs(rt, alloc, lines) {
         if group.add(input, Moment::at(1000)).is_err() {
             panic!(rt; "it waits");

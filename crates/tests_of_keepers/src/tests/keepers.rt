@@ -196,7 +196,8 @@ server => 5 entries, {"x":7}
 5000 restart bob => quiet
 server => 5 entries, {"x":7}"#;
 
-// Two batches that another program saved in format 1.
+// Two batches that another program saved in format 1. Their checkpoint is their base, and the next
+// batch has the third row. A checkpoint that is no base is row 0, before any other row.
 const FORMAT_ONE: &str =
     r#"sql CREATE TABLE meta(name TEXT PRIMARY KEY, value INTEGER NOT NULL) => run
 sql CREATE TABLE batch(k INTEGER PRIMARY KEY, moment INTEGER NOT NULL, body TEXT NOT NULL) => run
@@ -206,13 +207,44 @@ sql INSERT INTO batch(k, moment, body) VALUES(2, 1000, '[{"e":"op","n":1,"op":{"
 meta => 1
 batches => batches, 1 1000 [{"e":"open","s":["alice",1,1]}], 2 1000 [{"e":"op","n":1,"op":{"op":"set","path":"/a","value":1},"out":{"wrote":[["/a",1]]},"q":1,"s":["alice",1,1]}]
 meta => 2
+base => no checkpoint
+server => 2 entries, {"a":1}
+keep => kept
+base => 2, 1000 {"clients":[{"id":"alice","last":[1,1],"rows":[[2,"wrote"]]}],"number":2,"sessions":[{"listens":[],"plan":[],"q":1,"r":1,"s":["alice",1,1]}],"tree":{"a":1}}
+row 1 => no row
+row 2 => no row
+batches => batches
 server => 2 entries, {"a":1}
 1000 {"m":"bye","q":2,"s":["alice",1,1]} => {"m":"gone","r":2,"s":["alice",1,1],"why":"bye","z":3}
 row 3 => (3, 1000, [{"e":"ended","q":2,"rows":[],"s":["alice",1,1],"why":"bye"}])
+batches => batches, 3 1000 [{"e":"ended","q":2,"rows":[],"s":["alice",1,1],"why":"bye"}]
 server => 3 entries, {"a":1}
+sql INSERT INTO batch(k, moment, body) VALUES(4, 1000, '[') => run
+batches => BadRow 4
+keep => BadRow 4
+sql UPDATE checkpoint SET body = '{}' => run
+batches => BadRow 0
+server => BadRow 0
+keep => BadRow 0
+sql DELETE FROM batch => run
 checkpoint 1000 {} => kept
-batches => Database
-server => Database"#;
+batches => BadRow 0
+server => BadRow 0"#;
+
+// The retry rows of a client outlast a checkpoint, as its session does.
+const RESUMED: &str =
+    r#"1000 {"m":"hello","s":["alice",1,1]} => {"m":"welcome","ops":0,"s":["alice",1,1],"z":1}
+1000 {"m":"op","n":1,"op":{"op":"set","path":"/a","value":1},"q":1,"s":["alice",1,1]} => {"done":2,"m":"reply","n":1,"out":"wrote","q":1,"r":1,"s":["alice",1,1],"z":2}
+keep => kept
+batches => batches
+server => 2 entries, {"a":1}
+1000 restart alice => {"m":"gone","r":2,"s":["alice",1,1],"why":"restart","z":3}
+1000 {"m":"hello","s":["alice",1,2]} => {"m":"welcome","ops":1,"s":["alice",1,2],"z":4}
+1000 {"m":"op","n":1,"op":{"op":"set","path":"/a","value":1},"q":1,"s":["alice",1,2]} => {"done":2,"m":"reply","n":1,"out":"wrote","q":1,"r":1,"s":["alice",1,2],"z":5}
+server => 5 entries, {"a":1}
+keep => kept
+batches => batches
+server => 5 entries, {"a":1}"#;
 
 // Three batches are committed at once, all of them or none.
 const GROUPED: &str = r#"create => created
@@ -267,6 +299,7 @@ fn batches_are_committed_together(rt: HostRuntime) {
 fn servers_are_made_anew(rt: HostRuntime) {
     check_both(&rt, rt.alloc(), TWICE);
     check_both(&rt, rt.alloc(), RESTARTED);
+    check_both(&rt, rt.alloc(), RESUMED);
 }
 
 // What a step says over a keeper that is ready by a premise, and how the keeper is that it gives back.

@@ -3,6 +3,7 @@
 ghost use Rattle.std.specs.Prelude.{◌≡◌};
 
 use crate::tests::turns::root_text;
+use pres_base::Base;
 use pres_batch_json::print_entries;
 use pres_faults::SavedFault;
 use pres_hub::{Keeper, MemKeeper};
@@ -10,7 +11,8 @@ use pres_server::{Batch, Server};
 use std::alloc::Global;
 use std::process::Abort;
 
-/// Keeps in memory, but for the commits at chosen places, counted from 0, which it refuses.
+/// Keeps in memory, but for the commits and checkpoints at chosen places, counted from 0, which it
+/// refuses.
 #[derive(Drop)]
 pub(crate) struct Refusing {
     kept: MemKeeper,
@@ -19,7 +21,7 @@ pub(crate) struct Refusing {
 }
 
 impl Refusing {
-    /// Nothing is kept yet. The commits at these places are refused.
+    /// Nothing is kept yet. The commits and checkpoints at these places are refused.
     pub(crate) fn at(alloc: Global, refused: &'static [u64]) -> Refusing {
         Refusing {
             kept: MemKeeper::new(alloc),
@@ -28,7 +30,12 @@ impl Refusing {
         }
     }
 
-    // Whether the next commit is refused.
+    /// How many commits and checkpoints were asked for.
+    pub(crate) fn commits(&self) -> u64 {
+        self.commits
+    }
+
+    // Whether the next one is refused.
     fn refuses(&mut self) -> bool
         ensures { self.new.kept ≡ self.old.kept }
     {
@@ -39,10 +46,11 @@ impl Refusing {
 }
 
 impl Keeper for Refusing {
-    ghost use Rattle.std.specs.Prelude.{◌≡◌, ◌++◌, ⊤};
+    ghost use Rattle.std.specs.Prelude.{◌≡◌, ⊤};
     ghost use Rattle.std.proofs.Common.{ap};
-    ghost use Rattle.pres_log.specs.Logs.{Log};
-    ghost use Rattle.pres_keeper.specs.Keepers.{whole};
+    ghost use Rattle.pres_server.specs.BaseSums.{sum_for};
+    ghost use Rattle.pres_server.specs.Histories.{begun_at, with_batches};
+    ghost use Rattle.pres_keeper.specs.Keepers.{BeginsWith, whole};
 
     ghost ready = { λ _. ⊤ };
 
@@ -50,17 +58,19 @@ impl Keeper for Refusing {
 
     ghost readable = { λ k. whole k.kept };
 
-    ghost keeps = { λ k log. k.kept ≡ log };
+    ghost keeps = { λ k history. k.kept ≡ history };
 
-    ghost stores = { λ old batches new. new.kept ≡ old.kept ++ batches };
+    ghost stores = { λ old batches new. new.kept ≡ with_batches old.kept batches };
+
+    ghost replaces = { λ old base new. new.kept ≡ begun_at (sum_for base) };
 
     ghost shut = { λ _ _. ⊥ };
 
-    ghost leaves = { λ _ _ _ _. ⊤ };
+    ghost leaves = { λ _ _ _. ⊤ };
 
     ghost may_find = { λ _ _. ⊥ };
 
-    ghost outlasts = { λ k log. (more : Log) × (k.kept ≡ log ++ more) };
+    ghost outlasts = { λ k history. BeginsWith history (whole k.kept) };
 
     ghost outlasting_is_found = { λ _ _ _ _ finds. absurd finds };
 
@@ -80,11 +90,22 @@ impl Keeper for Refusing {
         self.kept.commit_all(batches)
     }
 
+    fn checkpoint(&mut self, server: &Server) -> Result<(), SavedFault> {
+        if self.refuses() {
+            return Err(SavedFault::Database);
+        }
+        self.kept.checkpoint(server)
+    }
+
+    fn base(&mut self) -> Result<Option<Base>, SavedFault> {
+        self.kept.base()
+    }
+
     fn batches(&mut self) -> Result<Vec<Batch>, SavedFault> {
         self.kept.batches()
     }
 
-    fn server(&mut self) -> Result<Server, SavedFault> {
+    fn server(&mut self) -> Result<(Server, u64), SavedFault> {
         self.kept.server()
     }
 }
@@ -107,9 +128,9 @@ pub(crate) fn log_text<K: Keeper>(rt: &impl Abort, alloc: Global, keeper: &mut K
     text
 }
 
-/// The value of the tree that the keeper's batches make.
+/// The value of the tree that the keeper's base and its batches make.
 pub(crate) fn tree_text<K: Keeper>(rt: &impl Abort, alloc: Global, keeper: &mut K) -> String {
-    let server = keeper.server().expect(rt, "rows");
+    let (server, _) = keeper.server().expect(rt, "rows");
     let text = root_text(rt, alloc, &server);
     drop(server);
     text

@@ -104,6 +104,42 @@ const MARKED_LOG: &str = r#"[{"e":"open","s":["bob",1,1]}]
 [{"e":"ended","q":null,"rows":[],"s":["bob",1,1],"why":"lost"}]
 "#;
 
+// A checkpoint waits until the number rose by that much since the last one.
+const CHECKPOINTS: &str = r#"1000 join alice => 1
+1000 checkpoint 2 => none
+1000 say alice {"m":"op","n":1,"op":{"op":"set","path":"/a","value":1},"q":1,"s":["alice",1,1]} => 2
+1000 checkpoint 2 => 2
+1000 checkpoint 1 => none
+1000 take alice 9 => 2, the last {"done":2,"m":"reply","n":1,"out":"wrote","q":1,"r":1,"s":["alice",1,1],"z":2}
+1000 join bob => 3
+1000 checkpoint 2 => none
+1000 checkpoint 1 => 3
+1000 say alice {"m":"beat","s":["alice",1,1]} => 3
+1000 lost alice => made 2, no fault
+1000 lost bob => made 1, no fault"#;
+
+const CHECKPOINTS_LOG: &str = r#"[{"e":"ended","q":null,"rows":[],"s":["alice",1,1],"why":"lost"}]
+[{"e":"ended","q":null,"rows":[],"s":["bob",1,1],"why":"lost"}]
+"#;
+
+const REFUSED_CHECKPOINT: &str = r#"1000 join alice => 1
+1000 say alice {"m":"op","n":1,"op":{"op":"set","path":"/a","value":1},"q":1,"s":["alice",1,1]} => 2
+1000 checkpoint 2 => the database failed
+1000 take alice 9 => 2, the last {"done":2,"m":"reply","n":1,"out":"wrote","q":1,"r":1,"s":["alice",1,1],"z":2}
+1000 lost alice => made 2, no fault"#;
+
+const LEFT_BEHIND: &str = r#"1000 join alice => 1
+1000 say alice {"m":"left","op":{"op":"set","path":"/b","value":true},"q":1,"s":["alice",1,1]} => 2
+1000 join bob => 3
+1000 checkpoint 3 => 3
+1000 lost alice => made 2, the database failed
+1000 lost bob => made 1, the database failed"#;
+
+const BEHIND_LOG: &str =
+    r#"[{"e":"ended","q":null,"rows":[["/b",true]],"s":["alice",1,1],"why":"restart"}]
+[{"e":"ended","q":null,"rows":[],"s":["bob",1,1],"why":"restart"}]
+"#;
+
 // What a run came to over a new keeper, of which these commits are refused.
 fn refusing(rt: &impl Abort, alloc: Global, commits: &'static [u64], lines: &str) -> RunResult {
     let (told, keeper) = run(rt, alloc, Refusing::at(alloc, commits), lines);
@@ -176,4 +212,38 @@ fn open_sessions_are_ended_at_the_start(rt: HostRuntime) {
     drop(keeper);
     told.expect_counts(&rt, (5, 0, 0, Some(0)));
     told.expect_log(&rt, STARTED_OVER_LOG);
+}
+
+#[test]
+fn a_checkpoint_waits_for_its_rise(rt: HostRuntime) {
+    let told = kept(&rt, rt.alloc(), CHECKPOINTS);
+    told.expect_counts(&rt, (5, 3, 0, Some(3)));
+    told.expect_log(&rt, CHECKPOINTS_LOG);
+    told.expect_tree(&rt, r#"{"a":1}"#);
+}
+
+#[test]
+fn a_refused_checkpoint_leaves_the_core(rt: HostRuntime) {
+    let told = refusing(&rt, rt.alloc(), &[2], REFUSED_CHECKPOINT);
+    told.expect_counts(&rt, (3, 2, 0, Some(2)));
+    told.expect_log(&rt, REFUSED_LOG);
+}
+
+// A start over the keeper ends the sessions behind its checkpoint, where that isn't done yet.
+fn started_behind(rt: &impl Abort, alloc: Global, keeper: Refusing) -> Refusing {
+    let (told, keeper) = run(rt, alloc, keeper, "2000 tick => 0");
+    told.expect_counts(rt, (5, 0, 0, Some(0)));
+    told.expect_log(rt, BEHIND_LOG);
+    told.expect_tree(rt, r#"{"b":true}"#);
+    keeper
+}
+
+#[test]
+fn sessions_behind_a_checkpoint_are_ended_once(rt: HostRuntime) {
+    let keeper = Refusing::at(rt.alloc(), &[4, 5]);
+    let (told, keeper) = run(&rt, rt.alloc(), keeper, LEFT_BEHIND);
+    told.expect_counts(&rt, (3, 3, 0, Some(3)));
+    drop(told);
+    let keeper = started_behind(&rt, rt.alloc(), keeper);
+    drop(started_behind(&rt, rt.alloc(), keeper));
 }

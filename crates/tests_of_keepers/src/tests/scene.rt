@@ -257,6 +257,17 @@ impl<L: Ledger, K: Keeper + Drop> Scene<L, K> {
         answer_text(rt, self.alloc, &answer)
     }
 
+    // What a checkpoint of this rise answers: the number, or `none` where it isn't due.
+    fn checkpoint(&mut self, rt: &impl Abort, rise: &str) -> String {
+        let rise: u64 = rise.parse().expect(rt, "a number");
+        let answer = match self.core.checkpoint(rise) {
+            Ok(Some(number)) => Ok(number),
+            Ok(None) => return String::from_str(self.alloc, "none").expect(rt, "memory"),
+            Err(fault) => Err(fault),
+        };
+        answer_text(rt, self.alloc, &answer)
+    }
+
     // What a step answers: a moment, a word and what it is about.
     fn step(&mut self, rt: &impl Abort, step: &str) -> String {
         let (millis, call) = step.split_once(' ').expect(rt, "a moment");
@@ -271,6 +282,7 @@ impl<L: Ledger, K: Keeper + Drop> Scene<L, K> {
             "see" => self.see(rt, client, more.parse().expect(rt, "a number")),
             "lost" => self.leave(rt, client, now),
             "tick" => self.tick(rt, now),
+            "checkpoint" => self.checkpoint(rt, rest),
             _ => panic!(rt; "no such step"),
         }
     }

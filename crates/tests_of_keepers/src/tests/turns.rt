@@ -2,6 +2,7 @@
 
 use crate::tests::words::{refused, said};
 use pres_batch_json::print_entries;
+use pres_faults::SavedFault;
 use pres_keeper::{Keeper, MemKeeper, Unsettled, settle};
 use pres_server::{
     Batch, Busy, ClientId, Down, Fault, Input, Moment, Path, ReplayFault, Server, Turn, Up,
@@ -108,7 +109,7 @@ pub(crate) fn turn<K: Keeper>(
 ) -> String {
     let came = given(rt, alloc, case);
     match keeper.server() {
-        Ok(server) => prepared(rt, alloc, keeper, server, came, stops),
+        Ok((server, _)) => prepared(rt, alloc, keeper, server, came, stops),
         Err(fault) => {
             drop(came);
             refused(rt, alloc, fault)
@@ -128,8 +129,8 @@ pub(crate) fn root_text(rt: &impl Abort, alloc: Global, server: &Server) -> Stri
 
 // How many entries the keeper's server has, and its tree.
 fn server_text<K: Keeper>(rt: &impl Abort, alloc: Global, keeper: &mut K) -> String {
-    let server = match keeper.server() {
-        Ok(server) => server,
+    let (server, _) = match keeper.server() {
+        Ok(made) => made,
         Err(fault) => return refused(rt, alloc, fault),
     };
     let number = server.number();
@@ -177,6 +178,26 @@ fn again<K: Keeper>(rt: &impl Abort, alloc: Global, keeper: &mut K) -> String {
     drop(batches);
     match kept {
         Ok(()) => said(rt, alloc, "kept"),
+        Err(fault) => refused(rt, alloc, fault),
+    }
+}
+
+// Whether a base was kept.
+fn kept_text(rt: &impl Abort, alloc: Global, kept: Result<(), SavedFault>) -> String {
+    match kept {
+        Ok(()) => said(rt, alloc, "kept"),
+        Err(fault) => refused(rt, alloc, fault),
+    }
+}
+
+// The base of the keeper's server takes the place of what is held.
+fn kept<K: Keeper>(rt: &impl Abort, alloc: Global, keeper: &mut K) -> String {
+    match keeper.server() {
+        Ok((server, _)) => {
+            let kept = keeper.checkpoint(&server);
+            drop(server);
+            kept_text(rt, alloc, kept)
+        }
         Err(fault) => refused(rt, alloc, fault),
     }
 }
@@ -233,7 +254,7 @@ fn replayed<K: Keeper>(rt: &impl Abort, alloc: Global, keeper: &mut K) -> String
 }
 
 // What a step says: `stop` and a moment with an input, whose batch is kept but not done; a moment
-// with an input, which says its answers; `server`, `batches`, `again`, `group` or `replay`.
+// with an input, which says its answers; `server`, `batches`, `again`, `group`, `keep` or `replay`.
 pub(crate) fn step<K: Keeper>(
     rt: &impl Abort,
     alloc: Global,
@@ -248,6 +269,7 @@ pub(crate) fn step<K: Keeper>(
         "batches" => listed(rt, alloc, keeper),
         "again" => again(rt, alloc, keeper),
         "group" => grouped(rt, alloc, keeper),
+        "keep" => kept(rt, alloc, keeper),
         "replay" => replayed(rt, alloc, keeper),
         _ => turn(rt, alloc, keeper, step, false),
     }

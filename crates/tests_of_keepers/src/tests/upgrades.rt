@@ -48,7 +48,7 @@ fn made<D: Disk + Drop>(rt: &impl Abort, alloc: Global, files: Files<D>) -> File
 }
 
 // A file in memory with these bytes, all of them synced.
-fn holding(rt: &impl Abort, alloc: Global, bytes: &[u8]) -> Memory
+pub(crate) fn holding(rt: &impl Abort, alloc: Global, bytes: &[u8]) -> Memory
     ensures { IsTrue (memory_is_usable result) }
 {
     let mut memory = Memory::new(alloc);

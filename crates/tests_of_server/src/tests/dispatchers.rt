@@ -111,17 +111,8 @@ fn a_session_that_is_slow_is_ended(rt: HostRuntime) {
     );
 }
 
-// What Alice takes after a write of her own.
-fn taken<K: Keeper + Drop>(
-    rt: &impl Abort,
-    alloc: Global,
-    dispatcher: &mut Dispatcher<K, Numbered>,
-) -> Vec<String> {
-    let mut outbox = join(rt, alloc, dispatcher, ALICE);
-    let op = format!(in alloc;
-        r#"{{"m":"op","n":1,"op":{{"op":"set","path":"/a","value":1}},"q":1,"s":{ALICE}}}"#
-    ).expect(rt, "memory");
-    say(rt, alloc, dispatcher, op.as_str());
+// The messages that can be taken.
+fn all_taken(rt: &impl Abort, alloc: Global, outbox: &mut Outbox) -> Vec<String> {
     let mut texts = Vec::new(alloc);
     for _ in 0..300 {
         let Some(message) = outbox.take() else {
@@ -132,6 +123,30 @@ fn taken<K: Keeper + Drop>(
             .expect(rt, "memory");
     }
     texts
+}
+
+// Where Alice takes her messages, after a write of her own.
+fn written<K: Keeper + Drop>(
+    rt: &impl Abort,
+    alloc: Global,
+    dispatcher: &mut Dispatcher<K, Numbered>,
+) -> Outbox {
+    let outbox = join(rt, alloc, dispatcher, ALICE);
+    let op = format!(in alloc;
+        r#"{{"m":"op","n":1,"op":{{"op":"set","path":"/a","value":1}},"q":1,"s":{ALICE}}}"#
+    ).expect(rt, "memory");
+    say(rt, alloc, dispatcher, op.as_str());
+    outbox
+}
+
+// What Alice takes after a write of her own.
+fn taken<K: Keeper + Drop>(
+    rt: &impl Abort,
+    alloc: Global,
+    dispatcher: &mut Dispatcher<K, Numbered>,
+) -> Vec<String> {
+    let mut outbox = written(rt, alloc, dispatcher);
+    all_taken(rt, alloc, &mut outbox)
 }
 
 // How many messages Alice took, and whether she is marked as lost when that is noted.
@@ -166,6 +181,57 @@ fn answers_are_put_on_lines(rt: HostRuntime) {
         answered(&rt, alloc, MemKeeper::new(alloc)),
         (true, 2, true)
     );
+}
+
+// What a checkpoint of this rise answers: a number, or none where it isn't due.
+fn kept<K: Keeper + Drop>(
+    rt: &impl Abort,
+    dispatcher: &mut Dispatcher<K, Numbered>,
+    rise: u64,
+) -> Option<u64> {
+    dispatcher.checkpoint(rise).expect(rt, "a keeper")
+}
+
+// What checkpoints answer after Alice's two entries and after Bob's Hello, and how many messages she
+// takes after the first of them.
+fn checkpointed<K: Keeper + Drop>(
+    rt: &impl Abort,
+    alloc: Global,
+    dispatcher: &mut Dispatcher<K, Numbered>,
+) -> ([Option<u64>; 5], usize) {
+    let mut outbox = written(rt, alloc, dispatcher);
+    let early = kept(rt, dispatcher, 3);
+    let first = kept(rt, dispatcher, 2);
+    let again = kept(rt, dispatcher, 1);
+    let count = all_taken(rt, alloc, &mut outbox).len();
+    drop(join(rt, alloc, dispatcher, BOB));
+    let short = kept(rt, dispatcher, 2);
+    let second = kept(rt, dispatcher, 1);
+    ([early, first, again, short, second], count)
+}
+
+// The same over what the keeper holds, and the number after it.
+fn checkpointed_over<K: Keeper + Drop>(
+    rt: &impl Abort,
+    alloc: Global,
+    keeper: K,
+) -> ([Option<u64>; 5], usize, u64)
+    requires ready { K.ready keeper }
+{
+    let mut dispatcher = started(rt, alloc, keeper);
+    let (numbers, count) = checkpointed(rt, alloc, &mut dispatcher);
+    let number = dispatcher.number();
+    drop(dispatcher.into_keeper());
+    (numbers, count, number)
+}
+
+// Each counts from the one before, and what was put on the lines stays.
+#[test]
+fn a_checkpoint_waits_for_its_rise(rt: HostRuntime) {
+    let alloc = rt.alloc();
+    let (numbers, count, number) = checkpointed_over(&rt, alloc, MemKeeper::new(alloc));
+    assert_eq!(rt; numbers, [None, Some(2), None, None, Some(3)]);
+    assert_eq!(rt; (count, number), (2, 3));
 }
 
 // Alice's bell is 1, and Bob's is 2.

@@ -16,8 +16,8 @@ pub(crate) struct Board {
     grown: Condvar,
 }
 
-// Whether the part stands in these bytes.
-fn has_part(bytes: &[u8], part: &str) -> bool {
+/// Whether the part stands in these bytes.
+pub(crate) fn has_part(bytes: &[u8], part: &str) -> bool {
     bytes
         .windows(part.len().max(1))
         .any(|window| window == part.as_bytes())

@@ -7,6 +7,7 @@ use std::alloc::Global;
 use std::process::Abort;
 use std::sync::Wait;
 use std::thread::Threads;
+use std::time::Clock;
 
 // The pieces once more.
 fn copies(rt: &impl Abort, alloc: Global, pieces: &[Vec<u8>]) -> Vec<Vec<u8>> {
@@ -21,7 +22,7 @@ fn copies(rt: &impl Abort, alloc: Global, pieces: &[Vec<u8>]) -> Vec<Vec<u8>> {
 }
 
 // The messages of a stream with these pieces and failures, and how its connection ended.
-fn broken<R: Wait + Threads + Abort + Sync>(
+fn broken<R: Wait + Threads + Clock + Abort + Sync>(
     rt: &R,
     alloc: Global,
     pieces: &[Vec<u8>],
@@ -56,7 +57,11 @@ fn expect_whole(rt: &impl Abort, told: Heard, outcome: Outcome) {
 
 // How many reads, or how many writes, fail in turn of the connection whose frames are bad, until a run
 // has no failure.
-fn failures<R: Wait + Threads + Abort + Sync>(rt: &R, alloc: Global, in_reads: bool) -> u32 {
+fn failures<R: Wait + Threads + Clock + Abort + Sync>(
+    rt: &R,
+    alloc: Global,
+    in_reads: bool,
+) -> u32 {
     let pieces = pieces(rt, alloc, BAD);
     for number in 1..10_000 {
         let (read, write) = if in_reads { (number, 0) } else { (0, number) };
@@ -85,7 +90,7 @@ fn each_failed_write_ends_the_session(rt: HostRuntime) {
 
 // How a connection ends whose stream gives these lines, if any, and then nothing for this many
 // reads, and then ends.
-fn ended_silent<R: Wait + Threads + Abort + Sync>(
+fn ended_silent<R: Wait + Threads + Clock + Abort + Sync>(
     rt: &R,
     alloc: Global,
     lines: Option<&str>,

@@ -14,6 +14,7 @@ use std::process::Abort;
 use std::sync::Wait;
 use std::sync::ledger::{Blank, Ledger};
 use std::thread::Threads;
+use std::time;
 
 // One moment.
 #[derive(Drop)]
@@ -73,7 +74,7 @@ fn tick<L: Ledger, R: Wait + Abort>(rt: &R, hub: &Hub<L, MemKeeper, NoBell, Open
 
 // Whether a session is open in what the keeper holds.
 fn is_open(rt: &impl Abort, mut keeper: MemKeeper) -> bool {
-    let server = keeper.server().expect(rt, "rows");
+    let (server, _) = keeper.server().expect(rt, "rows");
     drop(keeper);
     let is_open = server.first_open().is_some();
     drop(server);
@@ -104,7 +105,7 @@ fn reported<L: Ledger>(
 }
 
 // One connection to a new hub, with a ledger that the caller picks, and then a tick.
-fn served_with<L: Ledger + Send + Sync, R: Wait + Threads + Abort + Sync>(
+fn served_with<L: Ledger + Send + Sync, R: Wait + Threads + time::Clock + Abort + Sync>(
     rt: &R,
     alloc: Global,
     blank: Blank,
@@ -126,7 +127,7 @@ fn served_with<L: Ledger + Send + Sync, R: Wait + Threads + Abort + Sync>(
 }
 
 /// One connection to a new hub, and then a tick.
-pub(crate) fn served<R: Wait + Threads + Abort + Sync>(
+pub(crate) fn served<R: Wait + Threads + time::Clock + Abort + Sync>(
     rt: &R,
     alloc: Global,
     stream: Script,
@@ -135,13 +136,17 @@ pub(crate) fn served<R: Wait + Threads + Abort + Sync>(
 }
 
 /// The pieces of a stream: the request, and a frame for each line, whose first word is its kind;
-/// after `nothing` a read gives nothing.
+/// after `nothing` a read gives nothing. One behind `+` comes together with the one before it.
 pub(crate) fn pieces(rt: &impl Abort, alloc: Global, lines: &str) -> Vec<Vec<u8>> {
     let mut pieces = Vec::new(alloc);
     let mut head = Vec::new(alloc);
     head.extend_from_slice(HEAD).expect(rt, "memory");
     pieces.push(head).expect(rt, "memory");
     for line in lines.lines() {
+        let (is_joined, line) = match line.strip_prefix("+ ") {
+            Some(line) => (true, line),
+            None => (false, line),
+        };
         let (kind, text) = line.split_once(' ').unwrap_or((line, ""));
         let piece = match kind {
             "nothing" => Vec::new(alloc),
@@ -151,7 +156,11 @@ pub(crate) fn pieces(rt: &impl Abort, alloc: Global, lines: &str) -> Vec<Vec<u8>
             "ping" => frame(rt, alloc, 9, b""),
             _ => frame(rt, alloc, 8, b""),
         };
-        pieces.push(piece).expect(rt, "memory");
+        if !is_joined {
+            pieces.push(piece).expect(rt, "memory");
+        } else if let Some(last) = pieces.last_mut() {
+            last.extend_from_slice(&piece).expect(rt, "memory");
+        }
     }
     pieces
 }
@@ -166,7 +175,7 @@ fn long(rt: &impl Abort, alloc: Global) -> String {
 }
 
 // What a connection of these lines is answered, how it ended, and what was counted.
-fn answered<R: Wait + Threads + Abort + Sync>(
+fn answered<R: Wait + Threads + time::Clock + Abort + Sync>(
     rt: &R,
     alloc: Global,
     lines: &str,
@@ -176,9 +185,9 @@ fn answered<R: Wait + Threads + Abort + Sync>(
     (said(rt, alloc, traces), served)
 }
 
-// A connection of these lines must be answered so, and closed, and make this many entries, of which
-// this many were accepted.
-fn check_closed<R: Wait + Threads + Abort + Sync>(
+/// A connection of these lines must be answered so, and closed, and make this many entries, of which
+/// this many were accepted.
+pub(crate) fn check_closed<R: Wait + Threads + time::Clock + Abort + Sync>(
     rt: &R,
     alloc: Global,
     lines: &str,

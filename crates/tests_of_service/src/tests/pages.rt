@@ -18,10 +18,10 @@ use std::thread;
 use std::thread::Threads;
 use std::time::Clock;
 
-// Requests the end once this is set.
+/// Requests the end once this is set.
 #[derive(Drop)]
-struct Flag<'a> {
-    asked: &'a AtomicBool,
+pub(crate) struct Flag<'a> {
+    pub(crate) asked: &'a AtomicBool,
 }
 
 impl EndRequest for Flag<'_> {

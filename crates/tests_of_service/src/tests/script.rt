@@ -1,5 +1,6 @@
 //! A stream of known bytes, and the frames of RFC 6455, section 5.2.
 
+use pres_websocket::Nonblocking;
 use rtrb::{Consumer, Producer, RingBuffer};
 use std::alloc::{AllocError, Global};
 use std::io;
@@ -98,6 +99,9 @@ impl Read for Script {
     }
 }
 
+// its reads never wait
+impl Nonblocking for Script {}
+
 impl Write for Script {
     fn write(&mut self, buf: &[u8]) -> io::Result<usize> {
         self.writes = self.writes.saturating_add(1);
@@ -195,8 +199,8 @@ fn first_frame(bytes: &[u8]) -> Option<(u8, &[u8], &[u8])> {
     Some((opcode, payload, behind))
 }
 
-// The texts of these frames, each on a line, and `close` for a close.
-fn texts_in(rt: &impl Abort, alloc: Global, frames: &[u8]) -> String {
+/// The texts of these frames, each on a line, and `close` for a close.
+pub(crate) fn texts_in(rt: &impl Abort, alloc: Global, frames: &[u8]) -> String {
     let mut rest = frames;
     let mut said = String::new(alloc);
     for _ in 0..1000 {

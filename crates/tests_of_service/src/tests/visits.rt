@@ -15,9 +15,9 @@ use std::thread::Threads;
 use std::time::{Clock, Duration};
 use std::{fs, thread};
 
-// Who visits a server, and what the client's lines are.
+/// Who visits a server, and what the client's lines are.
 #[derive(Clone, Copy)]
-struct Visitor {
+pub(crate) struct Visitor {
     id: &'static str,
     incarnation: u64,
     lines: &'static str,
@@ -46,8 +46,8 @@ fn serve<R: Net<Listener = TcpListener, Stream = TcpStream> + Threads + Wait + C
     (status, output)
 }
 
-// The exit status of the visitor's client, which tries again until the server listens.
-fn visit<
+/// The exit status of the visitor's client, which tries again until the server listens.
+pub(crate) fn visit<
     R: Net<Listener = TcpListener, Stream = TcpStream> + RandomSource + Clock + Wait + Copy,
     W: Write,
 >(rt: &R, alloc: Global, address: &str, visitor: Visitor, output: &mut W) -> u8 {
@@ -72,8 +72,8 @@ fn visit<
     4
 }
 
-// What a server and its visitor print. A second visitor may come once the first one got this.
-fn meet<
+/// What a server and its visitor print. A second visitor may come once the first one got this.
+pub(crate) fn meet<
     R: Net<Listener = TcpListener, Stream = TcpStream>
         + RandomSource
         + Threads
@@ -133,7 +133,8 @@ fn said<R: Wait + Abort>(
     format!(in alloc; "{visited}\n{told}{status} {ended}").expect(rt, "memory")
 }
 
-const FIRST: Visitor = Visitor {
+/// It writes and listens.
+pub(crate) const FIRST: Visitor = Visitor {
     id: "alice",
     incarnation: 1,
     lines: "listen /a\nset /a 1\n",
@@ -147,13 +148,15 @@ done 2 3
 connected false
 0 number 4";
 
-const SECOND: Visitor = Visitor {
+/// It comes later, and listens.
+pub(crate) const SECOND: Visitor = Visitor {
     id: "alice",
     incarnation: 2,
     lines: "listen /a",
 };
 
-const SECOND_SAID: &str = "0
+/// What it is told.
+pub(crate) const SECOND_SAID: &str = "0
 connected true
 value /a 6 1
 connected false

@@ -136,11 +136,11 @@ fn until_the_end(stream: &mut Wakeable<'_>) -> Result<usize, ErrorKind> {
 // The bytes and the end are one report, whether the last read was full or not.
 #[test]
 fn all_bytes_come_and_then_the_end(rt: HostRuntime) {
-    for sent in [3, 64, 1_000, 640] {
+    for sent in [3, 64, 1_000, 640, 4_096, 5_000] {
         let crowd = StreamCount::new();
         let (mut stream, _bell, mut far) = waking(&rt, rt.alloc(), LONG_MILLIS, &crowd);
         let start = Instant::now(&rt).expect(&rt, "a clock");
-        far.write_all([7u8; 1_000].get(..sent).unwrap_or(&[]))
+        far.write_all([7u8; 5_000].get(..sent).unwrap_or(&[]))
             .expect(&rt, "a connection");
         drop(far);
         assert_eq!(rt; until_the_end(&mut stream), Ok(sent));

@@ -144,6 +144,9 @@ const BAD: &[(&str, &str)] = &[
     ("clients a\ncall a", "bad line 2\nstatus 1\n"),
     ("clients a\ncall a wait 1", "bad line 2\nstatus 1\n"),
     ("clients a\nnosuch 1", "bad line 2\nstatus 1\n"),
+    ("clients a\ncheckpoint 1", "bad line 2\nstatus 1\n"),
+    ("clients a\ncheckpoint ", "bad line 2\nstatus 1\n"),
+    ("clients a\nCheckpoint", "bad line 2\nstatus 1\n"),
     ("clients a\ntick 1\n\ntick 2", "bad line 3\nstatus 1\n"),
     (
         "clients a\ncall a od-remove /x",
@@ -261,6 +264,47 @@ down 5
 > note alice done 1 2
 > number 5
 > tree {"a":1}
+> status 0"#;
+
+// So it is where the server starts again from a base that has the answer.
+const KEPT_ANSWER: &str = r#"clients alice
+call alice online
+up 1 1000
+down 1
+> note alice connected true
+call alice set /a 1
+up 2 1000
+checkpoint
+restart-server 1000
+call alice lost
+> note alice connected false
+call alice online
+up 3 1000
+down 3
+> note alice connected true
+up 4 1000
+down 4
+> note alice done 1 2
+> number 5
+> tree {"a":1}
+> status 0"#;
+
+// What a session left is carried out once where the server starts again from a base that has it, and
+// from one that has its end.
+const KEPT_PLAN: &str = r#"clients alice
+call alice online
+up 1 1000
+down 1
+> note alice connected true
+call alice od-set /b true
+up 2 1000
+checkpoint
+restart-server 2000
+checkpoint
+restart-server 3000
+restart-server 4000
+> number 3
+> tree {"b":true}
 > status 0"#;
 
 // What was sent in a session that was left comes late, and its answers are passed over.
@@ -688,6 +732,19 @@ fn lines_of(rt: &impl Abort, alloc: Global, script: &str, told: bool) -> String 
     lines
 }
 
+// The script with a checkpoint behind the line at the place.
+fn with_checkpoint(rt: &impl Abort, alloc: Global, script: &str, place: usize) -> String {
+    let mut lines = String::new(alloc);
+    for (at, line) in script.lines().enumerate() {
+        lines.push_str(line).expect(rt, "memory");
+        lines.push('\n').expect(rt, "memory");
+        if at == place {
+            lines.push_str("checkpoint\n").expect(rt, "memory");
+        }
+    }
+    lines
+}
+
 // What was made, without the packets.
 fn without_packets(rt: &impl Abort, alloc: Global, made: &str) -> String {
     let mut lines = String::new(alloc);
@@ -731,6 +788,8 @@ fn clients_and_a_server_get_on(rt: HostRuntime) {
         LEFT,
         RESTARTED,
         LOST_ANSWER,
+        KEPT_ANSWER,
+        KEPT_PLAN,
         LATE,
         OLD,
         AGAIN,
@@ -774,6 +833,21 @@ fn scripts_make_what_they_say(rt: HostRuntime) {
         (RESENT, RESENT_MAKES),
     ] {
         check(&rt, rt.alloc(), script, makes);
+    }
+}
+
+#[test]
+fn checkpoints_are_never_seen(rt: HostRuntime) {
+    let alloc = rt.alloc();
+    for (script, makes) in [
+        (STOPPED, STOPPED_MAKES),
+        (UNANSWERED, UNANSWERED_MAKES),
+        (REFUSED, REFUSED_MAKES),
+    ] {
+        for place in 0..script.lines().count() {
+            let kept = with_checkpoint(&rt, alloc, script, place);
+            check(&rt, alloc, kept.as_str(), makes);
+        }
     }
 }
 
