@@ -60,27 +60,46 @@ def free_port():
                 pass
 
 
-def batches_of(file):
-    """The rows of a server's file that nobody has open: those of a copy, so that the file stays as it is."""
+def saved_in(file):
+    """The checkpoint of a server's file that nobody has open, none where it has none, and the rows of its batches since: those of a
+    copy, so that the file stays as it is."""
     with tempfile.TemporaryDirectory(dir=os.path.dirname(file)) as folder:
         copy = os.path.join(folder, "copy")
         for end in ("", "-wal"):
             if os.path.exists(file + end):
                 shutil.copyfile(file + end, copy + end)
         with contextlib.closing(sqlite3.connect(copy)) as database:
-            return database.execute("SELECT k, moment, body FROM batch ORDER BY k").fetchall()
+            checkpoint = database.execute("SELECT k, moment, body FROM checkpoint").fetchone()
+            return checkpoint, database.execute("SELECT k, moment, body FROM batch ORDER BY k").fetchall()
+
+
+def writes_in(file):
+    """The number of the last entry, and the numbers of the entries of all writes, as the file has them."""
+    checkpoint, rows = saved_in(file)
+    number, writes = 0, []
+    if checkpoint is not None:
+        base = json.loads(checkpoint[2])
+        number, writes = base["number"], sorted(done for client in base["clients"] for done, _ in client["rows"])
+    entries = [entry for _, _, body in rows for entry in json.loads(body)]
+    return number + len(entries), writes + [number + at for at, entry in enumerate(entries, 1) if entry.get("n")]
+
+
+def size_of(file):
+    """How many bytes a server's file takes, with its log."""
+    return sum(os.path.getsize(file + end) for end in ("", "-wal") if os.path.exists(file + end))
 
 
 class Server:
     """The program, serving a file at a port of this machine, by another program's words before it, and in another environment
-    than this one's, where they are given. It is killed at the end of a `with`."""
+    than this one's, where they are given; one that `may_end` serves until its input ends. It is killed at the end of a `with`."""
 
-    def __init__(self, program, file, port=None, before=(), environment=None):
+    def __init__(self, program, file, port=None, before=(), environment=None, may_end=False):
         self.port = port or free_port()
-        words = [*before, program, "serve", "127.0.0.1:%d" % self.port, file]
+        words = [*before, program, "serve", "127.0.0.1:%d" % self.port, file, *["--until-stdin-ends"] * may_end]
         self.started = time.perf_counter()
         self.process = subprocess.Popen(
-            words, stdout=subprocess.PIPE, stderr=subprocess.PIPE, text=True, env=environment)
+            words, stdin=subprocess.PIPE if may_end else None, stdout=subprocess.PIPE, stderr=subprocess.PIPE, text=True,
+            env=environment)
 
     def __enter__(self):
         self.wait()
@@ -98,8 +117,21 @@ class Server:
             sys.exit("the server doesn't listen: %s" % (line + self.process.stderr.read()).strip())
         return time.perf_counter() - self.started
 
+    def begin_end(self):
+        """Ends the input of one that may end."""
+        self.process.stdin.close()
+        self.process.stdin = None
+
+    def end(self):
+        """The same, and waits until it ends: what it printed from then on."""
+        self.begin_end()
+        said, _ = self.process.communicate(timeout=PATIENCE)
+        return said
+
     def kill(self):
         """Kills it: what it had said on its stream for faults."""
+        if self.process.stdout.closed:
+            return ""
         self.process.kill()
         _, said = self.process.communicate()
         return said.strip()

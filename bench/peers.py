@@ -90,7 +90,7 @@ def start_peer(kind, words_of, folder, stack, environment=None):
     """The process and the port of a peer that is started in a folder of its own, and ends with the stack; none where it isn't
     installed. Its environment is another than this one's where one is given."""
     folder = os.path.join(folder, kind)
-    os.makedirs(folder)
+    os.makedirs(folder, exist_ok=True)
     port = free_port()
     words = words_of(folder, port)
     program = shutil.which(words[0], path=os.environ["PATH"] + ":/usr/sbin:/sbin")
@@ -100,10 +100,10 @@ def start_peer(kind, words_of, folder, stack, environment=None):
     process = subprocess.Popen([program, *words[1:]], stdout=log, stderr=log, env=environment)
     stack.callback(process.wait)
     stack.callback(process.kill)
-    for _ in range(200):
+    for _ in range(2000):
         if is_up(kind, port):
             return process, port
-        time.sleep(0.1)
+        time.sleep(0.01)
     sys.exit("%s doesn't come up" % words[0])
 
 

@@ -2,6 +2,7 @@
 """Measures the program of bench/saved, whose path is the first word, beside stock sqlite3 and the disk."""
 
 import argparse
+import contextlib
 import os
 import sqlite3
 import statistics
@@ -12,6 +13,7 @@ import time
 
 sys.dont_write_bytecode = True
 from memory import peak_of
+from peers import verdict
 
 TABLE = "CREATE TABLE batch(k INTEGER PRIMARY KEY, moment INTEGER NOT NULL, body TEXT NOT NULL)"
 INSERT = "INSERT INTO batch(k, moment, body) VALUES(?1, ?2, ?3)"
@@ -144,6 +146,36 @@ def time_reads(program, folder, rounds, count):
     remove(path)
 
 
+def base_of(path):
+    """How many bytes the body of the checkpoint has, and how many rows there are beside it."""
+    with contextlib.closing(sqlite3.connect(path)) as database:
+        size, = database.execute("SELECT length(CAST(body AS BLOB)) FROM checkpoint").fetchone()
+        rows, = database.execute("SELECT count(*) FROM batch").fetchone()
+    return size, rows
+
+
+def server_of(program, path, rounds):
+    """The least milliseconds in which the file was opened and its server made, and the peak memory of that."""
+    runs = [run(program, "server", path) for _ in range(rounds)]
+    return min((sum(lines[word][1] for word in ("opened", "server")) / 1e3, peak) for lines, _, peak in runs)
+
+
+def time_checkpoint(program, folder, rounds, count):
+    path = os.path.join(folder, "checkpoint")
+    run(program, "commit", path, str(count))
+    rows, peak_of_rows = server_of(program, path, rounds)
+    lines, _, peak = run(program, "checkpoint", path)
+    size, left = base_of(path)
+    assert (lines["checkpoint"][0], left) == (count, 0)
+    base, peak_of_base = server_of(program, path, rounds)
+    print("a checkpoint of %d batches: %.1f ms, %.2f MB, peak memory %.1f MB" % (
+        count, lines["checkpoint"][1] / 1e3, size / 2**20, peak))
+    print("to open the file and make its server: %.1f ms and %.1f MB over the rows, %.1f ms and %.1f MB over the checkpoint" % (
+        rows, peak_of_rows, base, peak_of_base))
+    print(verdict("5 times as fast (%.1f)" % (rows / base), rows >= 5 * base))
+    remove(path)
+
+
 def time_turns(program, folder, count):
     path = os.path.join(folder, "turns")
     run(program, "commit", path, str(count))
@@ -167,6 +199,7 @@ def main():
         time_commits(program, folder, args.rounds, args.commits)
         time_turns(program, folder, args.commits)
         time_reads(program, folder, args.rounds, args.batches)
+        time_checkpoint(program, folder, args.rounds, args.batches)
 
 
 if __name__ == "__main__":

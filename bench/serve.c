@@ -3,6 +3,10 @@
 //   load write KIND PORT CLIENTS SECONDS   clients with one write in flight each; KIND: presence, redis, mqtt,
 //                                          etcd, loop_append, loop_page or loop_place
 //   load make KIND PORT CLIENTS WRITES     so many writes by clients with one write in flight each
+//   load live KIND PORT CLIENTS WRITES STEP so many writes by clients with one write in flight each, some of which close their connection
+//                                          behind a write and come back, and of some writes a stale transaction in their place, beside
+//                                          sessions that listen; a line for each STEP of them, and one at the end, which comes early
+//                                          where the server ends; KIND: presence, or redis without the sessions
 //   load sync FILE append|page|place SECONDS
 //                                          the disk alone: 200 bytes or 4 KiB behind the file's end, or 2 KiB over old bytes
 //                                          in the three writes of a commit, synced
@@ -102,8 +106,11 @@ static void print_times(const char *name, Times *times) {
 
 // ---- connections
 
+static void (*at_end)(void); // what is done, if anything, where the server ends the connection
+
 // A call of the system failed.
 static void die(const char *what) {
+    if (at_end && (errno == EPIPE || errno == ECONNRESET || errno == ECONNREFUSED)) at_end();
     fprintf(stderr, "load: %s: %s\n", what, strerror(errno));
     exit(1);
 }
@@ -147,6 +154,7 @@ static void receive(Conn *c, int flags) {
     if (got < 0 && errno != EAGAIN) die("recv");
     if (got < 0 && flags == 0) refuse("message", silence);
     if (got < 0) return;
+    if (got == 0 && at_end) at_end();
     if (got == 0) refuse("message", the_end);
     c->have += got;
 }
@@ -233,6 +241,9 @@ static void listen_to(Conn *c, const char *path) {
     say(c, "{\"m\":\"on\",\"path\":\"%s\",\"q\":%ld," SESSION "}", path, ++c->q, OF(c));
     hear(c, "snap");
 }
+
+// Says that it is there.
+static void presence_stay(Conn *c) { say(c, "{\"m\":\"beat\"," SESSION "}", OF(c)); }
 
 static void leave_path(Conn *c, const char *path) {
     say(c, "{\"m\":\"off\",\"path\":\"%s\",\"q\":%ld," SESSION "}", path, ++c->q, OF(c));
@@ -473,6 +484,124 @@ static void time_ahead(long writes) {
     printf("waiting=%.1f ahead=%.1f\n", writes / waited, writes / (now() - start));
 }
 
+// ---- clients that live with a server
+
+#define STALE 100     // of how many writes of a client one is a stale transaction, which redis is asked a key for
+#define CLOSED 5000   // behind how many writes of a client it closes its connection
+#define HEARERS 8     // how many sessions listen
+#define HEARD 16      // to how many places each of them
+#define STAYS 10      // after how many seconds they say that they are there
+#define PATIENCE 60   // how many seconds no answer may come
+
+// What was asked, and what was answered.
+typedef struct { long asked, answered, pushes; } Lived;
+
+static Lived lived;
+
+static void print_lived(void) {
+    printf("asked=%ld answered=%ld pushes=%ld\n", lived.asked, lived.answered, lived.pushes);
+    exit(0);
+}
+
+static int is_stale(Conn *c, long n) { return (n + atoi(c->id + 1)) % STALE == 0; }
+
+static void live_ask(const Kind *kind, Conn *c) {
+    int is_presence = !strcmp(kind->name, "presence");
+    lived.asked++;
+    if (!is_stale(c, c->n + 1)) {
+        kind->ask(c);
+        return;
+    }
+    c->n++, c->q++;
+    c->sent = now();
+    char out[64], key[32];
+    int len = snprintf(key, sizeof key, "place:%d", place_of(c));
+    if (is_presence)
+        say(c, "{\"m\":\"op\",\"n\":%ld,\"op\":{\"expect\":0,\"op\":\"tx\",\"path\":\"/place/%d\",\"value\":1},\"q\":%ld," SESSION "}",
+            c->n, place_of(c), c->q, OF(c));
+    else send_all(c, out, snprintf(out, sizeof out, "*2\r\n$6\r\nEXISTS\r\n$%d\r\n%s\r\n", len, key));
+}
+
+static int live_answered(const Kind *kind, Conn *c) {
+    if (!is_stale(c, c->n) || !strcmp(kind->name, "presence")) return kind->answered(c);
+    return has(c, ":", 1, 4);
+}
+
+// Closes the connection, and makes the last write, whose answer isn't waited for, once more over a new one.
+static void come_back(const Kind *kind, Conn *c) {
+    long n = c->n;
+    close(c->fd);
+    kind->open(c);
+    if (!strcmp(kind->name, "presence") && c->n != n && c->n != n - 1) refuse("last write", (Text){c->id, strlen(c->id)});
+    c->n = n - 1;
+    look_at(c);
+    lived.asked--;
+    live_ask(kind, c);
+}
+
+// A session that listens to its places.
+static void hear_places(Conn *c) {
+    char path[32];
+    open_session(c);
+    for (int k = 0; k < HEARD; k++) {
+        snprintf(path, sizeof path, "/place/%d", (atoi(c->id + 1) * HEARD + k) * (PLACES / HEARERS / HEARD) % PLACES);
+        listen_to(c, path);
+    }
+    look_at(c);
+}
+
+static void take_places(Conn *c) {
+    receive(c, MSG_DONTWAIT);
+    for (Text text; next(c, &text);) {
+        long z = number(text, "\"z\":");
+        if (!is(text, "push") || z <= c->seen) refuse("push", text);
+        c->seen = z;
+        lived.pushes++;
+    }
+}
+
+static void live(const Kind *kind, int clients, long writes, long step) {
+    int hearers = strcmp(kind->name, "presence") ? 0 : HEARERS;
+    Conn *conns = conns_of(clients, "y"), *heard = conns_of(hearers, "h");
+    struct epoll_event events[64];
+    double longest = 0, start, stayed;
+    long had = 0, made = 0;
+    for (int i = 0; i < clients; i++) kind->open(&conns[i]), had += conns[i].n, look_at(&conns[i]);
+    for (int i = 0; i < hearers; i++) hear_places(&heard[i]);
+    printf("had=%ld\n", had);
+    fflush(stdout);
+    at_end = print_lived;
+    start = stayed = now();
+    for (int i = 0; i < clients; i++) live_ask(kind, &conns[i]);
+    while (lived.answered < writes) {
+        int ready = epoll_wait(watch, events, 64, PATIENCE * 1000);
+        if (ready == 0) refuse("answer", silence);
+        for (int i = 0; i < ready; i++) {
+            Conn *c = events[i].data.ptr;
+            if (*c->id == 'h') {
+                take_places(c);
+                continue;
+            }
+            receive(c, MSG_DONTWAIT);
+            if (!live_answered(kind, c)) continue;
+            double spent = now() - c->sent;
+            longest = spent > longest ? spent : longest;
+            lived.answered++;
+            live_ask(kind, c);
+            if (c->n % CLOSED == 0) come_back(kind, c);
+            if (lived.answered % step) continue;
+            printf("made=%ld rate=%.1f longest=%.3f\n", made += step, step / (now() - start), longest * 1e3);
+            fflush(stdout);
+            longest = 0;
+            start = now();
+        }
+        if (now() - stayed < STAYS) continue;
+        for (int i = 0; i < hearers; i++) presence_stay(&heard[i]);
+        stayed = now();
+    }
+    print_lived();
+}
+
 // ---- the disk alone
 
 // A file that is written to and synced: behind its end, or in turn over old places.
@@ -603,8 +732,6 @@ static void presence_listen(Conn *c, const char *place) {
     snprintf(path, sizeof path, "/%s", place);
     listen_to(c, path);
 }
-
-static void presence_stay(Conn *c) { say(c, "{\"m\":\"beat\"," SESSION "}", OF(c)); }
 
 static void presence_tell(Conn *c, const char *news) { set(c, "/news", news); }
 
@@ -1012,11 +1139,12 @@ int main(int count, char **words) {
     watch = epoll_create1(0);
     if (count < 3) return 2;
     const char *use = words[1];
-    int has_kind = (!strcmp(use, "write") || !strcmp(use, "make") || !strcmp(use, "hold")) && count == 6;
+    int has_kind = ((!strcmp(use, "write") || !strcmp(use, "make") || !strcmp(use, "hold")) && count == 6) || !strcmp(use, "live");
     Text kind = {words[2], strlen(words[2])};
     port = atoi(words[has_kind ? 3 : 2]);
     if (!strcmp(use, "write") && count == 6) time_writes(kind_of(words[2]), atoi(words[4]), atof(words[5]));
     else if (!strcmp(use, "make") && count == 6) make_writes(kind_of(words[2]), atoi(words[4]), atol(words[5]));
+    else if (!strcmp(use, "live") && count == 7) live(kind_of(words[2]), atoi(words[4]), atol(words[5]), atol(words[6]));
     else if (!strcmp(use, "ahead") && count == 4) time_ahead(atol(words[3]));
     else if (!strcmp(use, "sync") && count == 5) time_syncs(words[2], words[3], atof(words[4]));
     else if (!strcmp(use, "loop") && count == 4) serve_in_a_loop(words[2], words[3]);
