@@ -6,3 +6,4 @@ pub mod Nulls
 pub mod OneNull
 pub mod Parts
 pub mod Plans
+pub mod ClientTexts

@@ -24,7 +24,7 @@ use Rattle.pres_batch_json.specs.Entries.{list_json}
 use Rattle.pres_base.specs.declared.parts.ClientPart.{ClientPart}
 use Rattle.pres_base.specs.declared.parts.BaseParts.{BaseParts}
 use Rattle.pres_base.specs.Bases.{IsBase, are_done, last_in}
-use Rattle.pres_base_json.specs.Forms.{answer_json, client_json, session_part_json, body_text}
+use Rattle.pres_base_json.specs.Forms.{answer_json, client_json, session_part_json, body_text, clients_text}
 use Rattle.pres_base_json.specs.Reads.{answer_with_one_null, client_with_one_null, with_one_null}
 
 -- ---- the body
@@ -51,6 +51,9 @@ body_same p =
     (codes "clients", array (items_of clients)) ∷ (codes "number", whole p.number) ∷ (codes "sessions", list_json session_part_json p.sessions)
     ∷ (codes "tree", json_of scalar_printing p.tree) ∷ []
     )))) (clients_same p.clients)
+
+pub clients_text_same : (clients : List ClientPart) → clients_text (map client_with_one_null clients) ≡ clients_text clients
+clients_text_same clients = ap (λ all. compact_text (array (items_of all))) (clients_same clients)
 
 -- ---- the base
 

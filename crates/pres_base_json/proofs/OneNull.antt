@@ -133,3 +133,8 @@ text_same batches moment o p e = let read = found_then (parts_in batches moment)
 
 pub text_beside : (batches moment : ℕ) (o : Option Data) (p : BaseParts) → option_and_then (parts_in batches moment) o ≡ Some p → p.batches ≡ batches
 text_beside batches moment o p e = let read = found_then (parts_in batches moment) o p e in beside batches moment read.0 p read.2
+
+pub clients_same : (o : Option Data) (clients : List ClientPart) → option_and_then (list_of client_part_in) o ≡ Some clients → map client_with_one_null clients ≡ clients
+clients_same o clients e =
+    let read = found_then (list_of client_part_in) o clients e in
+    list_same client_part_in client_with_one_null client_same read.0 clients read.2

@@ -17,8 +17,9 @@ use Rattle.pres_base.specs.declared.parts.SessionPart.{SessionPart}
 use Rattle.pres_base.specs.declared.parts.BaseParts.{BaseParts}
 use Rattle.pres_base.specs.Bases.{are_done, last_in, most_sessions}
 use Rattle.pres_base.specs.InternalRows.{none_covered}
-use Rattle.pres_base_json.specs.Forms.{body_text}
-use Rattle.pres_base_json.specs.Reads.{parts_in, IsBody}
+use Rattle.pres_batch_json.specs.Reads.{list_of}
+use Rattle.pres_base_json.specs.Forms.{body_text, clients_text}
+use Rattle.pres_base_json.specs.Reads.{client_part_in, parts_in, IsBody}
 
 -- ---- the checks of a base
 
@@ -66,3 +67,13 @@ base_of_body batches moment text = option_and_then (base_of_parts text) (option_
 -- it is that of which the text is the body
 abbrev pub BodyIsRead : ℕ → ℕ → List ℕ → BaseParts → Type 0
 BodyIsRead batches moment text p = IsBody batches moment text p ↔ (base_of_body batches moment text ≡ Some p)
+
+-- ---- the answers of a text
+
+-- the clients, none where they have another text
+abbrev pub clients_printed : List ℕ → List ClientPart → Option (List ClientPart)
+clients_printed text clients = if bytes_eq (clients_text clients) text then Some clients else None
+
+-- the clients that the text is read as, none where it isn't the text of answers
+unfoldable pub clients_of_text : List ℕ → Option (List ClientPart)
+clients_of_text text = option_and_then (clients_printed text) (option_and_then (list_of client_part_in) (read text))

@@ -53,3 +53,10 @@ base_json p =
 -- its text, without a space
 abbrev pub body_text : BaseParts → List ℕ
 body_text p = compact_text (base_json p)
+
+-- The answers that are saved beside a checkpoint: clients with answers to their writes, as in the body.
+abbrev pub clients_json : List ClientPart → Data
+clients_json = list_json client_json
+
+abbrev pub clients_text : List ClientPart → List ℕ
+clients_text clients = compact_text (clients_json clients)

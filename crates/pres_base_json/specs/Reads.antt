@@ -17,7 +17,7 @@ use Rattle.pres_base.specs.declared.parts.ClientPart.{ClientPart}
 use Rattle.pres_base.specs.declared.parts.SessionPart.{SessionPart}
 use Rattle.pres_base.specs.declared.parts.BaseParts.{BaseParts}
 use Rattle.pres_base.specs.Bases.{IsBase}
-use Rattle.pres_base_json.specs.Forms.{body_text}
+use Rattle.pres_base_json.specs.Forms.{body_text, clients_text}
 
 -- ---- the parts that a JSON value holds
 
@@ -75,6 +75,11 @@ pub record IsBody (batches moment : ℕ) (text : List ℕ) (p : BaseParts) : Typ
   pub held : option_and_then (parts_in batches moment) (read text) ≡ Some p
   pub exact : body_text p ≡ text
   pub base : IsBase p
+
+-- The text is that of answers: these are what it holds, and it is the text that is printed of them.
+pub record AreAnswers (text : List ℕ) (clients : List ClientPart) : Type 0 where
+  pub held : option_and_then (list_of client_part_in) (read text) ≡ Some clients
+  pub exact : clients_text clients ≡ text
 
 -- ---- what is printed, read again
 

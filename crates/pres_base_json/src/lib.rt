@@ -3,6 +3,7 @@
 
 mod answers;
 mod body;
+mod clients;
 mod form;
 pub mod laws;
 mod part;
@@ -10,3 +11,4 @@ mod plain;
 mod plan;
 
 pub use body::{print_base, read_base};
+pub use clients::{print_answers, read_answers};
