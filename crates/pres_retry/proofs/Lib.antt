@@ -1,3 +1,4 @@
+pub mod Above
 pub mod Offsets
 pub mod Puts
 pub mod Records

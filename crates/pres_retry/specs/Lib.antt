@@ -1,3 +1,4 @@
+pub mod Above
 pub mod Faults
 pub mod Offsets
 pub mod Shelves

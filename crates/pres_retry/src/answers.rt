@@ -1,12 +1,14 @@
 //! The answers to the writes of one client.
 
-ghost use Rattle.std.specs.Prelude.{◌≡◌, ◌≢◌, ◌+◌, ◌-◌, ◌++◌, ◌∷◌, ◌<◌, ◌≤◌, ℕ, [], length, slice_get, IfErr, IfOk, OnOk};
+ghost use Rattle.std.specs.Prelude.{◌≡◌, ◌≢◌, ◌+◌, ◌-◌, ◌++◌, ◌∷◌, ◌<◌, ◌≤◌, ℕ, [], drop, length, nat_lt, slice_get, Some, IfErr, IfOk, OnOk};
 ghost use Rattle.std.specs.Option.{option_map};
 ghost use Rattle.std.specs.Iterator.{YieldsFirstBy, item_count};
 ghost use Rattle.pres_ids.specs.Numbers.{greatest_number};
+ghost use Rattle.pres_retry.specs.Above.{AreRising, rows_above};
 ghost use Rattle.pres_retry.specs.Shelves.{shelf_length, numbers_in, AreFull, kept_at, stale_at};
 ghost use Rattle.pres_retry.specs.Tables.{row};
 ghost use Rattle.pres_retry.specs.Verdicts.{lent_kept, lent_row, verdict, status_of};
+ghost use Rattle.pres_retry.specs.declared.table.Row.{Row};
 ghost use Rattle.pres_retry.specs.declared.fault.RetryFault.TheVariants.{Memory};
 
 use crate::fault::RetryFault;
@@ -268,18 +270,50 @@ impl Answers {
     pub fn copy(&self, alloc: Global) -> Result<Answers, AllocError>
         ensures { IfOk result (λ made. made ≡ self.now) }
     {
-        // it ensures that they are few
-        let _ = self.count().get();
-        let mut made = Answers::new(alloc);
-        for answer in self.iter() {
-            let Some(n) = made.count().next() else {
-                unreachable!()
-            };
-            let Ok(()) = made.push(alloc, n, answer.done, answer.kept.copy(alloc)?) else {
-                return Err(AllocError);
-            };
+        self.iter().copied(alloc)
+    }
+
+    // Whether the write at the place was done after the number.
+    fn is_above(&self, place: usize, number: Count) -> bool
+        requires { place < length self.now }
+        ensures { (row : Row) → slice_get self.now place ≡ Some row
+            → result ≡ nat_lt number row.done }
+    {
+        let Some(answer) = self.at(place) else {
+            unreachable!()
+        };
+        number.get() < answer.done.get()
+    }
+
+    // How many writes were done at the number or before it, by halves. It takes no memory.
+    fn count_up_to(&self, number: Count) -> usize
+        requires { AreRising 0 self.now }
+        ensures { drop result self.now ≡ rows_above number self.now }
+    {
+        let mut low = 0;
+        let mut high = self.count().get() as usize;
+        'halves: while low < high {
+            let middle = low + (high - low) / 2;
+            if self.is_above(middle, number) {
+                high = middle;
+            } else {
+                low = middle + 1;
+            }
         }
-        Ok(made)
+        low
+    }
+
+    /// The answers to the writes that were done after the number, copied; each write was done after
+    /// the one before it. It reads few of the others, and copies none.
+    pub fn copy_above(&self, alloc: Global, number: Count) -> Result<Answers, AllocError>
+        requires { AreRising 0 self.now }
+        ensures { IfOk result (λ made. made ≡ rows_above number self.now) }
+    {
+        let later = AnswersIter {
+            answers: self,
+            place: self.count_up_to(number),
+        };
+        later.copied(alloc)
     }
 
     /// Keeps the answer to the next write. Memory is the one refusal.
@@ -316,6 +350,26 @@ impl<'a> Model for AnswersIter<'a> {
     ghost Value = { List Row };
 
     ghost view = { λ it. drop it.place it.answers.now };
+}
+
+impl AnswersIter<'_> {
+    // Those that are left, copied.
+    fn copied(self, alloc: Global) -> Result<Answers, AllocError>
+        ensures { IfOk result (λ made. made ≡ self.entry) }
+    {
+        // it ensures that they are few
+        let _ = self.answers.count().get();
+        let mut made = Answers::new(alloc);
+        for answer in self {
+            let Some(n) = made.count().next() else {
+                unreachable!()
+            };
+            let Ok(()) = made.push(alloc, n, answer.done, answer.kept.copy(alloc)?) else {
+                return Err(AllocError);
+            };
+        }
+        Ok(made)
+    }
 }
 
 impl<'a> Iterator for AnswersIter<'a> {
