@@ -1,2 +1,3 @@
+pub mod AnswersApart
 pub mod Bases
 pub mod InternalRows

@@ -4,6 +4,7 @@
 mod base;
 mod check;
 mod copies;
+pub mod laws;
 mod parts;
 mod plans;
 
