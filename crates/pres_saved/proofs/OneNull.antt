@@ -17,8 +17,9 @@ use Rattle.pres_retry.specs.Tables.{Table, rows_of}
 use Rattle.pres_base.specs.declared.parts.ClientPart.{ClientPart}
 use Rattle.pres_base.specs.declared.parts.BaseParts.{BaseParts}
 use Rattle.pres_base.specs.Bases.{IsBase}
+use Rattle.pres_base.specs.AnswersApart.{answers_for}
 use Rattle.pres_base_json.specs.Reads.{answer_with_one_null, client_with_one_null, with_one_null}
-use Rattle.pres_server.specs.BaseSums.{answers_for, sum_for}
+use Rattle.pres_server.specs.BaseSums.{sum_for}
 use Rattle.pres_server.proofs.BaseSums.{rows_above}
 use Rattle.pres_server.proofs.Clients.{client_same, same_by_cmp, clients_total}
 use Rattle.pres_keeper.specs.Keepers.{KeepsOneNull}

@@ -25,10 +25,11 @@ use Rattle.pres_base.specs.declared.parts.ClientPart.{ClientPart}
 use Rattle.pres_base.specs.declared.parts.SessionPart.{SessionPart}
 use Rattle.pres_base.specs.declared.parts.BaseParts.{BaseParts}
 use Rattle.pres_base.specs.Bases.{are_done, IsOpenPart}
+use Rattle.pres_base.specs.AnswersApart.{answers_for}
 use Rattle.pres_server.specs.InternalParts.{is_live}
 use Rattle.pres_server.specs.Sums.{OpenSession, last_by, live_of, part_in}
 use Rattle.pres_server.specs.Histories.{IsOpenSession, AreAnswers}
-use Rattle.pres_server.specs.BaseSums.{open_for, sessions_for, is_gone_for, gone_for, answers_for, listeners_for, sum_for, BaseHasSum, BaseIsKept}
+use Rattle.pres_server.specs.BaseSums.{open_for, sessions_for, is_gone_for, gone_for, listeners_for, sum_for, BaseHasSum, BaseIsKept}
 use Rattle.pres_server.specs.InternalBases.{lasts_in}
 use Rattle.pres_server.proofs.Clients.{client_same, clients_apart, same_by_cmp}
 

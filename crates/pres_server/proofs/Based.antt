@@ -16,6 +16,7 @@ use Rattle.pres_ids.specs.declared.id.Stamp.{Stamp}
 use Rattle.pres_ids.specs.Ids.{ClientId, client_cmp, same_session, stamp_of}
 use Rattle.pres_retry.specs.declared.table.Row.{Row}
 use Rattle.pres_retry.specs.Tables.{Table, rows_of}
+use Rattle.pres_retry.specs.Above.{rows_above, AreRising}
 use Rattle.pres_plan.specs.Plans.{IsPlan}
 use Rattle.pres_fan.specs.declared.listeners.Listener.{Listener}
 use Rattle.pres_fan.specs.Listeners.{same_listener, listener_of, paths_of}
@@ -25,11 +26,13 @@ use Rattle.pres_base.specs.declared.parts.ClientPart.{ClientPart}
 use Rattle.pres_base.specs.declared.parts.SessionPart.{SessionPart}
 use Rattle.pres_base.specs.declared.parts.BaseParts.{BaseParts}
 use Rattle.pres_base.specs.Bases.{are_done, last_in, IsOpenPart, IsBase}
+use Rattle.pres_base.specs.AnswersApart.{answers_for}
+use Rattle.pres_base.proofs.AnswersApart.{rising}
 use Rattle.pres_server.specs.InternalParts.{same_stamp, session_with, is_live}
 use Rattle.pres_server.specs.Sums.{Sum, OpenSession, OpenSessions, last_by, live_of, part_in, is_open_in}
 use Rattle.pres_server.specs.Histories.{IsOpenSession, AreAnswers, IsSum}
-use Rattle.pres_server.specs.BaseSums.{open_for, is_gone_for, gone_for, answers_for, listeners_for, sum_for}
-use Rattle.pres_server.specs.InternalBases.{client_part, session_part, parts_of, AreLasts, lasts_in}
+use Rattle.pres_server.specs.BaseSums.{open_for, is_gone_for, gone_for, listeners_for, sum_for}
+use Rattle.pres_server.specs.InternalBases.{client_part, client_part_above, session_part, parts_of, AreLasts, lasts_in}
 use Rattle.pres_server.proofs.Clients.{client_same, client_itself, client_sym, clients_total, clients_apart, same_by_cmp, session_same}
 use Rattle.pres_server.proofs.Keyed.{in_order}
 use Rattle.pres_server.proofs.BaseSums as bases
@@ -53,6 +56,11 @@ sessions_same : (ls : List Listener) (es : OpenSessions) → map (λ (s : Sessio
 sessions_same ls [] = refl
 sessions_same ls (e ∷ es) = ap (λ l. e ∷ l) (sessions_same ls es)
 
+-- clients with the answers alone that were made after a number
+pub clients_above : (n : ℕ) (table : Table) (es : List (ClientId × Stamp)) → map (client_part_above n table) es ≡ map (λ (c : ClientPart). record { id = c.id; last = c.last; rows = rows_above n c.rows }) (map (client_part table) es)
+clients_above n table [] = refl
+clients_above n table (e ∷ es) = ap (λ l. client_part_above n table e ∷ l) (clients_above n table es)
+
 -- each entry is found by its own client
 module _ (e : ClientId × OpenSession) (es : OpenSessions) where
   still_found : (fs : OpenSessions) → AllByRecursion (λ k. client_cmp e.0 k ≡ Less) (keys_of fs) → AllByRecursion (λ f. find client_cmp f.0 es ≡ Some f.1) fs → AllByRecursion (λ f. find client_cmp f.0 (e ∷ es) ≡ Some f.1) fs
@@ -68,9 +76,12 @@ each_found (e ∷ es) h = (
 
 -- ---- what holds of each part
 
-done_of : (n : ℕ) (o : Option (List Row)) → IfSome o (AreAnswers n) → are_done 0 n (unwrap_or o []) ≡ true
+pub done_of : (n : ℕ) (o : Option (List Row)) → IfSome o (AreAnswers n) → are_done 0 n (unwrap_or o []) ≡ true
 done_of n None h = refl
 done_of n (Some rows) h = h.1
+
+pub answers_rise : (n : ℕ) (o : Option (List Row)) → IfSome o (AreAnswers n) → AreRising 0 (unwrap_or o [])
+answers_rise n o h = rising 0 n (unwrap_or o []) (done_of n o h)
 
 each_done : (n : ℕ) (table : Table) → ((c : ClientId) → IfSome (find client_cmp c table) (AreAnswers n)) → (es : List (ClientId × Stamp)) → All (λ (c : ClientPart). IsTrue (are_done 0 n c.rows)) (map (client_part table) es)
 each_done n table f [] = All-nil (λ (c : ClientPart). IsTrue (are_done 0 n c.rows))

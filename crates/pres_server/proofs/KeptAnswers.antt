@@ -27,7 +27,7 @@ use Rattle.pres_server.proofs.Touching.{part_carried}
 -- ---- writes that were done one after another
 
 -- of the test of a first row
-first_done : (a n d : ℕ) (rest : Bool) → (nat_lt a d && nat_le d n && rest) ≡ true → (a < d) × (d ≤ n) × (rest ≡ true)
+pub first_done : (a n d : ℕ) (rest : Bool) → (nat_lt a d && nat_le d n && rest) ≡ true → (a < d) × (d ≤ n) × (rest ≡ true)
 first_done a n d rest h =
     let p = and_parts (nat_lt a d && nat_le d n) rest h in
     let q = and_parts (nat_lt a d) (nat_le d n) p.0 in
@@ -37,7 +37,7 @@ done_from : (a n d : ℕ) (rest : Bool) → a < d → d ≤ n → rest ≡ true 
 done_from a n d rest h k r = and_from _ _ (and_from _ _ (lt-ltb a d h) (le-leb d n k)) r
 
 -- they were done before any later number
-done_more : (a n m : ℕ) (rows : List Row) → n ≤ m → are_done a n rows ≡ true → are_done a m rows ≡ true
+pub done_more : (a n m : ℕ) (rows : List Row) → n ≤ m → are_done a n rows ≡ true → are_done a m rows ≡ true
 done_more a n m [] l h = refl
 done_more a n m (row ∷ later) l h =
     let p = first_done a n row.done (are_done row.done n later) h in
@@ -45,7 +45,7 @@ done_more a n m (row ∷ later) l h =
     done_from a m row.done (are_done row.done m later) p.0 (omega arith) (done_more row.done n m later l p.2)
 
 -- a write more, which is done by the next entry
-done_next : (a n : ℕ) (kept : Kept) (rows : List Row) → a ≤ n → are_done a n rows ≡ true → are_done a (n + 1) (rows ++ row (n + 1) kept ∷ []) ≡ true
+pub done_next : (a n : ℕ) (kept : Kept) (rows : List Row) → a ≤ n → are_done a n rows ≡ true → are_done a (n + 1) (rows ++ row (n + 1) kept ∷ []) ≡ true
 done_next a n kept [] l h = done_from a (n + 1) (n + 1) true (omega arith) (omega arith) refl
 done_next a n kept (x ∷ later) l h =
     let p = first_done a n x.done (are_done x.done n later) h in

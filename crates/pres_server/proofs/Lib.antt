@@ -23,3 +23,4 @@ pub mod Resumed
 pub mod Based
 pub mod Overlaid
 pub mod Grouped
+pub mod AnswersStay

@@ -25,11 +25,12 @@ use Rattle.pres_base.specs.declared.parts.ClientPart.{ClientPart}
 use Rattle.pres_base.specs.declared.parts.SessionPart.{SessionPart}
 use Rattle.pres_base.specs.declared.parts.BaseParts.{BaseParts}
 use Rattle.pres_base.specs.Bases.{IsOpenPart, IsBase}
+use Rattle.pres_base.specs.AnswersApart.{answers_for}
 use Rattle.pres_server.specs.declared.index.Index.{Index}
 use Rattle.pres_server.specs.InternalSessions.{Session, last_stamp}
 use Rattle.pres_server.specs.InternalIndex.{session_at, gone_at}
 use Rattle.pres_server.specs.InternalSums.{open_of, sum_in, Agrees}
-use Rattle.pres_server.specs.BaseSums.{open_for, sessions_for, answers_for, listeners_for, sum_for}
+use Rattle.pres_server.specs.BaseSums.{open_for, sessions_for, listeners_for, sum_for}
 use Rattle.pres_server.specs.InternalBases.{lasts_in, with_answers, reopened, live_in}
 use Rattle.pres_server.proofs.Clients.{client_same, client_sym, clients_total, same_by_cmp}
 use Rattle.pres_server.proofs.Heard.{find_behind, keys_behind}

@@ -1,17 +1,16 @@
 -- The sum that a base stands for, and what holds of it.
-use Rattle.std.specs.Prelude.{Bool, not, nat_lt, is_some, All, List, map, filter, length}
+use Rattle.std.specs.Prelude.{◌≡◌, ℕ, Bool, not, is_some, All, List, map}
 use Rattle.std.specs.List.{flat_map}
 use Rattle.std.specs.FinMap.Entries.{find, where_key}
 use Rattle.pres_ids.specs.declared.id.Stamp.{Stamp}
 use Rattle.pres_ids.specs.Ids.{ClientId, client_cmp, stamp_of}
-use Rattle.pres_retry.specs.Tables.{Table}
 use Rattle.pres_plan.specs.Plans.{IsPlan}
 use Rattle.pres_fan.specs.declared.listeners.Listener.{Listener}
 use Rattle.pres_fan.specs.Listeners.{listener_of}
-use Rattle.pres_base.specs.declared.parts.ClientPart.{ClientPart}
 use Rattle.pres_base.specs.declared.parts.SessionPart.{SessionPart}
 use Rattle.pres_base.specs.declared.parts.BaseParts.{BaseParts}
 use Rattle.pres_base.specs.Bases.{IsBase}
+use Rattle.pres_base.specs.AnswersApart.{answers_for, parts_above}
 use Rattle.pres_server.specs.Sums.{Sum, OpenSession, OpenSessions}
 use Rattle.pres_server.specs.Histories.{IsSum}
 
@@ -33,10 +32,6 @@ is_gone_for p client = not (is_some (find client_cmp client (sessions_for p)))
 abbrev pub gone_for : BaseParts → List (ClientId × Stamp)
 gone_for p = where_key client_cmp (is_gone_for p) (map (λ c. (c.id, c.last)) p.clients)
 
--- the answers of those clients that have any
-abbrev pub answers_for : List ClientPart → Table
-answers_for clients = filter (λ e. nat_lt 0 (length e.1)) (map (λ c. (c.id, c.rows)) clients)
-
 -- who listens to what
 abbrev pub listeners_for : List SessionPart → List Listener
 listeners_for sessions = flat_map (λ s. map (listener_of s.session) s.listens) sessions
@@ -53,6 +48,14 @@ sum_for p = record {
   sessions = sessions_for p;
   listeners = listeners_for p.sessions;
 }
+
+-- these are the parts of a base with the sum, with the answers alone that were made after the number
+pub record IsBaseAbove (number : ℕ) (sum : Sum) (parts : BaseParts) : Type 0 where
+  -- the base with all answers
+  pub whole : BaseParts
+  pub is_base : IsBase whole
+  pub has_sum : sum_for whole ≡ sum
+  pub above : parts ≡ parts_above number whole
 
 -- ---- what holds of it
 

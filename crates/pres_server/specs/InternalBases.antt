@@ -7,6 +7,7 @@ use Rattle.pres_ids.specs.declared.id.Stamp.{Stamp}
 use Rattle.pres_ids.specs.Ids.{ClientId, client_cmp, stamp_of}
 use Rattle.pres_retry.specs.declared.table.Row.{Row}
 use Rattle.pres_retry.specs.Tables.{Table, rows_of}
+use Rattle.pres_retry.specs.Above.{rows_above}
 use Rattle.pres_fan.specs.declared.listeners.Listener.{Listener}
 use Rattle.pres_fan.specs.Listeners.{paths_of}
 use Rattle.pres_base.specs.declared.parts.ClientPart.{ClientPart}
@@ -23,6 +24,10 @@ use Rattle.pres_server.specs.Sums.{Sum, OpenSession, part_in}
 -- a client, with the stamp of its last session
 abbrev pub client_part : Table → ClientId × Stamp → ClientPart
 client_part table e = record { id = e.0; last = e.1; rows = rows_of e.0 table }
+
+-- the same, with the answers alone that were made after the number
+abbrev pub client_part_above : ℕ → Table → ClientId × Stamp → ClientPart
+client_part_above number table e = record { id = e.0; last = e.1; rows = rows_above number (rows_of e.0 table) }
 
 -- an open session of a client
 abbrev pub session_part : List Listener → ClientId × OpenSession → SessionPart

@@ -21,3 +21,4 @@ pub mod BaseSums
 pub mod InternalBases
 pub mod Groups
 pub mod InternalGroups
+pub mod AnswersStay

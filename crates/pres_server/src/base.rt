@@ -5,10 +5,11 @@ ghost use Rattle.std.specs.BTreeMap.{get, IsOrdered};
 ghost use Rattle.pres_ids.specs.declared.id.Stamp.{Stamp};
 ghost use Rattle.pres_ids.specs.Ids.{ClientId, client_cmp};
 ghost use Rattle.pres_retry.specs.Tables.{rows_of};
+ghost use Rattle.pres_retry.specs.Above.{rows_above, AreRising};
 ghost use Rattle.pres_plan.specs.Plans.{IsPlan};
 ghost use Rattle.pres_server.specs.InternalSessions.{last_stamp};
 ghost use Rattle.pres_server.specs.InternalSums.{open_of, sessions_in};
-ghost use Rattle.pres_server.specs.InternalBases.{client_part, session_part, AreLastsAt};
+ghost use Rattle.pres_server.specs.InternalBases.{client_part_above, session_part, AreLastsAt};
 
 use crate::client_sessions::ClientSessions;
 use crate::index::Index;
@@ -16,7 +17,7 @@ use pres_base::{ClientPart, SessionPart};
 use pres_plan::Plan;
 use pres_retry::Answers;
 use pres_session::Live;
-use pres_wire::{ClientId, SessionId, Stamp};
+use pres_wire::{ClientId, Count, SessionId, Stamp};
 use pres_write::Items;
 use std::alloc::{AllocError, Global};
 use std::collections::BTreeMap;
@@ -41,25 +42,37 @@ impl ClientSessions {
 }
 
 impl Index {
-    // Copies of the answers to the client's writes.
-    fn copy_answers(&self, alloc: Global, client: &ClientId) -> Result<Answers, AllocError>
-        ensures { IfOk result (λ made. made ≡ rows_of client.now self.now.retry) }
+    // Copies of the answers to the client's writes that were made after the number.
+    fn copy_answers(
+        &self,
+        alloc: Global,
+        client: &ClientId,
+        number: Count,
+    ) -> Result<Answers, AllocError>
+        requires { AreRising 0 (rows_of client.now self.now.retry) }
+        ensures { IfOk result
+            (λ made. made ≡ rows_above number (rows_of client.now self.now.retry)) }
     {
         match self.retry.answers(client) {
-            Some(answers) => answers.copy(alloc),
+            Some(answers) => answers.copy_above(alloc, number),
             None => Ok(Answers::new(alloc)),
         }
     }
 
-    /// The clients of its base.
-    pub(crate) fn client_parts(&self, alloc: Global) -> Result<Items<ClientPart>, AllocError>
+    /// The clients of its base, with the answers alone that were made after the number.
+    pub(crate) fn client_parts(
+        &self,
+        alloc: Global,
+        number: Count,
+    ) -> Result<Items<ClientPart>, AllocError>
+        requires { (client : ClientId) → AreRising 0 (rows_of client self.now.retry) }
         ensures { IfOk result (λ made. (lasts : List (ClientId × Stamp)) × AreLastsAt self.now lasts
-            × (made ≡ map (client_part self.now.retry) lasts)) }
+            × (made ≡ map (client_part_above number self.now.retry) lasts)) }
     {
         let lasts = self.places.lasts(alloc)?;
         let mut made = Vec::with_capacity(alloc, lasts.len())?;
         for (id, last) in lasts {
-            let rows = self.copy_answers(alloc, &id)?;
+            let rows = self.copy_answers(alloc, &id, number)?;
             made.push(ClientPart { id, last, rows })?;
         }
         Ok(Items::of(made))

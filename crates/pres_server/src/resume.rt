@@ -8,7 +8,8 @@ ghost use Rattle.pres_ids.specs.Ids.{ClientId, client_cmp};
 ghost use Rattle.pres_retry.specs.Tables.{rows_of};
 ghost use Rattle.pres_fan.specs.Listeners.{IsListeners, listener_of};
 ghost use Rattle.pres_base.specs.Bases.{IsOpenPart, IsBase};
-ghost use Rattle.pres_server.specs.BaseSums.{answers_for, listeners_for, sum_for};
+ghost use Rattle.pres_base.specs.AnswersApart.{answers_for};
+ghost use Rattle.pres_server.specs.BaseSums.{listeners_for, sum_for};
 ghost use Rattle.pres_server.specs.InternalBases.{lasts_in, live_in, with_answers};
 ghost use Rattle.pres_server.specs.InternalSums.{Agrees};
 

@@ -19,7 +19,8 @@ ghost use Rattle.pres_server.specs.Groups.{state_from, MakesBatch};
 ghost use Rattle.pres_server.specs.InternalGroups.{IsGroup, IsOneOp, entry_by};
 ghost use Rattle.pres_server.specs.Histories.{IsSum};
 ghost use Rattle.pres_server.specs.Replays.{resumed};
-ghost use Rattle.pres_server.specs.BaseSums.{sum_for};
+ghost use Rattle.pres_server.specs.BaseSums.{sum_for, IsBaseAbove};
+ghost use Rattle.pres_base.specs.AnswersApart.{parts_above};
 ghost use Rattle.pres_server.specs.InternalBases.{AreLasts, parts_of};
 
 use crate::ahead::OpEffect;
@@ -166,16 +167,17 @@ impl Server {
         Log::above(self.number, self.batches)
     }
 
-    // The parts of its base.
-    fn parts(&self) -> Result<BaseParts, AllocError>
+    // The parts of its base, with the answers alone that were made after the number.
+    fn parts_above(&self, above: Count) -> Result<BaseParts, AllocError>
         ensures parts { IfOk result (λ parts. (lasts : List (ClientId × Stamp))
-            × AreLasts self.now.sum lasts × (parts ≡ parts_of self.now.sum lasts)) }
+            × AreLasts self.now.sum lasts
+            × (parts ≡ parts_above above (parts_of self.now.sum lasts))) }
         ensures plans { IfOk result (λ _. All (λ e. IsPlan e.1.plan) self.now.sum.sessions) }
         ensures sum { IsSum self.now.sum }
     {
         let batches = count_of(self.batches);
         let number = count_of(self.number);
-        let clients = self.index.client_parts(self.alloc)?;
+        let clients = self.index.client_parts(self.alloc, above)?;
         let sessions = self.index.session_parts(self.alloc)?;
         let tree = self.index.tree.copy(self.alloc)?;
         Ok(BaseParts {
@@ -194,7 +196,16 @@ impl Server {
         ensures base { IfOk result (λ base. sum_for base ≡ self.now.sum) }
         ensures busy { IfErr result (λ e. e ≡ OutOfMemory) }
     {
-        let Ok(parts) = self.parts() else {
+        self.base_above(Count::zero())
+    }
+
+    /// The same with the answers alone that were made after the number: with those before them it is
+    /// a base of the server. It copies no others. The one refusal is Busy, where memory is refused.
+    pub fn base_above(&self, number: Count) -> Result<Base, Fault>
+        ensures base { IfOk result (λ base. IsBaseAbove number self.now.sum base) }
+        ensures busy { IfErr result (λ e. e ≡ OutOfMemory) }
+    {
+        let Ok(parts) = self.parts_above(number) else {
             return Err(Fault::Busy);
         };
         let Ok(base) = Base::from_parts(parts) else {

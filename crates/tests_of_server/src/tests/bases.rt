@@ -4,7 +4,7 @@ use crate::tests::turns::check;
 use pres_plan::{Action, PlanRow};
 use pres_retry::{Answers, KeptRef};
 use pres_server::{
-    Base, BaseParts, Batch, ClientPart, Moment, Path, Replay, Server, SessionId, SessionPart,
+    Base, BaseParts, Batch, ClientPart, Count, Moment, Path, Replay, Server, SessionId, SessionPart,
 };
 use pres_tree::{Tree, TreeJson};
 use pres_write::settle;
@@ -162,6 +162,20 @@ pub(crate) fn base_text(rt: &impl Abort, alloc: Global, server: &Server) -> Stri
     parts_text(rt, alloc, base_of(rt, server).parts())
 }
 
+/// What the server's base says, with the answers alone that were made after the number.
+pub(crate) fn base_above_text(
+    rt: &impl Abort,
+    alloc: Global,
+    server: &Server,
+    number: &str,
+) -> String {
+    let number = Count::new(number.parse().expect(rt, "a number")).expect(rt, "a number");
+    let Ok(base) = server.base_above(number) else {
+        panic!(rt; "out of memory");
+    };
+    parts_text(rt, alloc, base.parts())
+}
+
 /// The server that begins from the base.
 pub(crate) fn begun(rt: &impl Abort, alloc: Global, base: Base) -> Server {
     let Ok(replay) = Replay::resume(alloc, base) else {
@@ -316,6 +330,42 @@ seen
 
 value /
 => {"u":{"a":7}}"#;
+
+// The answers of two clients, the last of them stale.
+const ABOVE: &str = r#"1000 {"m":"hello","s":["alice",1,1]}
+=> {"m":"welcome","ops":0,"s":["alice",1,1],"z":1}
+
+1000 {"m":"hello","s":["bob",1,1]}
+=> {"m":"welcome","ops":0,"s":["bob",1,1],"z":2}
+
+1000 {"m":"op","n":1,"op":{"op":"set","path":"/a","value":1},"q":1,"s":["alice",1,1]}
+=> {"done":3,"m":"reply","n":1,"out":"wrote","q":1,"r":1,"s":["alice",1,1],"z":3}
+
+1000 {"m":"op","n":1,"op":{"op":"set","path":"/b","value":1},"q":1,"s":["bob",1,1]}
+=> {"done":4,"m":"reply","n":1,"out":"wrote","q":1,"r":1,"s":["bob",1,1],"z":4}
+
+1000 {"m":"op","n":2,"op":{"op":"set","path":"/a","value":2},"q":2,"s":["alice",1,1]}
+=> {"done":5,"m":"reply","n":2,"out":"wrote","q":2,"r":2,"s":["alice",1,1],"z":5}
+
+1000 {"m":"op","n":2,"op":{"expect":2,"op":"tx","path":"/b","value":3},"q":2,"s":["bob",1,1]}
+=> {"done":6,"m":"reply","n":2,"out":{"stale":1},"q":2,"r":2,"s":["bob",1,1],"z":6}
+
+above 0
+=> 6 1000 {"clients":[{"id":"alice","last":[1,1],"rows":[[3,"wrote"],[5,"wrote"]]},{"id":"bob","last":[1,1],"rows":[[4,"wrote"],[6,{"stale":1}]]}],"number":6,"sessions":[{"listens":[],"plan":[],"q":2,"r":2,"s":["alice",1,1]},{"listens":[],"plan":[],"q":2,"r":2,"s":["bob",1,1]}],"tree":{"a":2,"b":1}}
+
+above 4
+=> 6 1000 {"clients":[{"id":"alice","last":[1,1],"rows":[[5,"wrote"]]},{"id":"bob","last":[1,1],"rows":[[6,{"stale":1}]]}],"number":6,"sessions":[{"listens":[],"plan":[],"q":2,"r":2,"s":["alice",1,1]},{"listens":[],"plan":[],"q":2,"r":2,"s":["bob",1,1]}],"tree":{"a":2,"b":1}}
+
+above 5
+=> 6 1000 {"clients":[{"id":"alice","last":[1,1],"rows":[]},{"id":"bob","last":[1,1],"rows":[[6,{"stale":1}]]}],"number":6,"sessions":[{"listens":[],"plan":[],"q":2,"r":2,"s":["alice",1,1]},{"listens":[],"plan":[],"q":2,"r":2,"s":["bob",1,1]}],"tree":{"a":2,"b":1}}
+
+above 6
+=> 6 1000 {"clients":[{"id":"alice","last":[1,1],"rows":[]},{"id":"bob","last":[1,1],"rows":[]}],"number":6,"sessions":[{"listens":[],"plan":[],"q":2,"r":2,"s":["alice",1,1]},{"listens":[],"plan":[],"q":2,"r":2,"s":["bob",1,1]}],"tree":{"a":2,"b":1}}"#;
+
+#[test]
+fn answers_after_a_number_are_in_a_base(rt: HostRuntime) {
+    check(&rt, rt.alloc(), ABOVE);
+}
 
 #[test]
 fn answers_and_plans_outlast_a_base(rt: HostRuntime) {

@@ -5,13 +5,14 @@
 //! `abandon`, whose commit is refused; or a question about the server: `seen`, `log`, `moments`,
 //! `counts`, `value` and a path, `history` and a client; or `replay`, from which on the server is
 //! one that is rebuilt from all batches, or that and numbers of batches, whose result is what
-//! becomes of these in a server of their own; or `base`, whose result is the server's base,
+//! becomes of these in a server of their own; or `base`, whose result is the server's base, `above`
+//! and a number, whose result is that with the answers alone that were made after the number,
 //! `resume`, from which on the server is one that begins from its base, or `add again`, whose
 //! result is what becomes of all batches after its base; or `group` and, each on a line, a moment
 //! and an input, whose turns share a commit, or the same after `abandon group`, whose commit is
 //! refused.
 
-use crate::tests::bases::{base_text, refused_after, resumed};
+use crate::tests::bases::{base_above_text, base_text, refused_after, resumed};
 use crate::tests::groups::{grouped, refused_group};
 use crate::tests::replays::{ordered, replayed};
 use crate::tests::said::expect_said;
@@ -229,6 +230,7 @@ fn answer(
     match question.split_once(' ') {
         Some(("value", path)) => value(rt, alloc, server, path),
         Some(("history", client)) => history(rt, alloc, server, client),
+        Some(("above", number)) => base_above_text(rt, alloc, server, number),
         _ => match question {
             "log" => log_text(rt, alloc, log),
             "moments" => moments(rt, alloc, log),

@@ -1,14 +1,14 @@
 use Rattle.std.proofs.Common.{sym, ◌∙◌, ap, ◌++◌, ◌∷◌, [], map, append_assoc, append-nil}
-use Rattle.pres_server.specs.InternalBases.{client_part}
+use Rattle.pres_server.specs.InternalBases.{client_part_above}
 use Rattle.pres_server.proofs.Keyed.{found}
 use Rattle.pres_server.proofs.index.Index.client_parts.Goals as goal
 
 pub loop-id-init : goal.loop-id-init
-loop-id-init c = ap (λ l. l ++ map (client_part c.args.self.now.retry) c.into_iter-id-iterator.result) c.in_ok-made.ensures.items
+loop-id-init c = ap (λ l. l ++ map (client_part_above c.args.number c.args.self.now.retry) c.into_iter-id-iterator.result) c.in_ok-made.ensures.items
 
 pub loop-id-preserved : goal.loop-id-preserved
 loop-id-preserved c =
-    let part = client_part c.args.self.now.retry in
+    let part = client_part_above c.args.number c.args.self.now.retry in
     let made = c.loop-id.made.items in
     let rest = map part c.next.new.self in
     ap (λ l. l ++ rest) c.in_ok-push.ensures.items
@@ -19,7 +19,7 @@ loop-id-preserved c =
 
 pub returns : goal.returns
 returns c =
-    let part = client_part c.args.self.now.retry in
+    let part = client_part_above c.args.number c.args.self.now.retry in
     let made = c.loop-id.made.items in (
       c.in_ok-lasts.lasts.entries,
       record { ordered = c.in_ok-lasts.ensures.ordered; found = λ q. found q c.in_ok-lasts.lasts.entries ∙ c.in_ok-lasts.ensures.found q },
