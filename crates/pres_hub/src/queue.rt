@@ -27,6 +27,17 @@ const PAUSE_PART: u32 = 8;
 // is said.
 const LEAST_PACE_MICROS: u64 = 800;
 
+// How long it takes for a caller to be back with its next request, as a share of all processors. After a
+// group that took less time than its callers need nobody is waited for either: the wait would be longer
+// than what it spares.
+const CALLER_MICROS: u64 = 40;
+
+// The shortest time of a group after which this many callers are waited for.
+fn least_pace(callers: usize) -> Duration {
+    let back = (callers as u64).saturating_mul(CALLER_MICROS);
+    Duration::from_micros(LEAST_PACE_MICROS.max(back))
+}
+
 /// Requests that are said together, and room for their answers.
 pub(crate) struct Group<L: Ledger> {
     pub(crate) requests: VecDeque<Request<L>>,
@@ -234,7 +245,7 @@ impl<L: Ledger> Queue<L> {
     /// Some caller leads from now on: whether it waits for more first.
     pub(crate) fn lead(&mut self) -> bool {
         self.is_led = true;
-        self.lacks_callers() && self.pace >= Duration::from_micros(LEAST_PACE_MICROS)
+        self.lacks_callers() && self.pace >= least_pace(self.expected)
     }
 
     /// How long that caller waits for more, and how many requests wait now. None where it goes on.
