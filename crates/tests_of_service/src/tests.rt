@@ -17,4 +17,5 @@ mod texts;
 mod together;
 mod visits;
 mod wakes;
+mod world_scripts;
 mod worlds;
