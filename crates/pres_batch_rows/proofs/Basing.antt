@@ -13,7 +13,7 @@ use Rattle.sqlite.specs.Tree.{Trees}
 use Rattle.sqlite.specs.State.{State, Shown}
 use Rattle.sqlite.proofs.Callers.{reads_as}
 use Rattle.pres_batch_rows.specs.RowContents.{shown_row, shown_base, whole_of}
-use Rattle.pres_batch_rows.specs.TableStates.{IsOfFormatTwo}
+use Rattle.pres_batch_rows.specs.TableStates.{HoldsCheckpoint}
 use Rattle.pres_batch_rows.specs.TableOpening.{greatest_in}
 use Rattle.pres_batch_rows.specs.SavedCheckpoints.{base_in, saved_base}
 use Rattle.pres_batch_rows.proofs.CheckpointStatements.{base_text, base_is, queried, columns}
@@ -79,7 +79,7 @@ answer_same of db rows unordered a =
     let kept : a.kept ≡ map (λ r. output q (env_of r)) all = a.distinct ∙ ap (map (output q)) staged ∙ map-map (output q) env_of all in
     ap of a.shown ∙ unordered a.kept a.ordered a.same ∙ ap (λ os. of (map shows os)) kept ∙ ap of (map-map shows (λ r. output q (env_of r)) all)
 
-module _ (old new : State) (rows : List Row) (it : IsOfFormatTwo old.now) (h : Shown base_text [] old new rows) where
+module _ (old new : State) (rows : List Row) (it : HoldsCheckpoint old.now) (h : Shown base_text [] old new rows) where
   answered : IsAnswer (queried 3 columns) (overlay old.now.trees []) [] rows
   answered =
       let means = base_is old.now.schema it.tables in

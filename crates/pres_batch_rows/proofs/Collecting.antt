@@ -10,7 +10,7 @@ collected kept (row ∷ more) old new h =
     collected kept more h.0 new h.2 ∙ ap (λ rows. rows ++ more) h.1 ∙ append_assoc (kept old) (row ∷ []) more
 
 -- what holds of the rows that were taken
-pub taken_so : {T E : Type 0} (takes : T → RowContent → T → Type 0) (P Q : List RowContent → Type 0) (old new : T) (r : Result (Unit {0}) E) → ((rows : List RowContent) → P rows → Q rows)
+pub taken_so : {T A E : Type 0} (takes : T → A → T → Type 0) (P Q : List A → Type 0) (old new : T) (r : Result (Unit {0}) E) → ((rows : List A) → P rows → Q rows)
     → OnOk r (TakesRows takes P old new) → OnOk r (TakesRows takes Q old new)
 taken_so takes P Q old new (Ok _) so it = record { rows = it.rows; taken = it.taken; held = so it.rows it.held }
 taken_so takes P Q old new (Err e) so it = tt

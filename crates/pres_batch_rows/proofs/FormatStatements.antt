@@ -35,7 +35,7 @@ named project = record {
 
 -- the rowid of each, and the row that it becomes
 abbrev pub raised : Query
-raised = named (col 1 0 ∷ col 1 0 ∷ col 1 1 ∷ lit (Int (pos 2)) ∷ [])
+raised = named (col 1 0 ∷ col 1 0 ∷ col 1 1 ∷ lit (Int (pos 3)) ∷ [])
 
 -- the value of each
 abbrev pub asked : Query

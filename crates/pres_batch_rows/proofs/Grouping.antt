@@ -12,11 +12,11 @@ use Rattle.sqlite.specs.State.{State, HasCleanDisk, IsUnchanged, IsRolledBack, S
 use Rattle.sqlite.proofs.StateLemmas.{survives_then}
 use Rattle.sqlite.proofs.Callers.{statement_of, runs_as}
 use Rattle.pres_batch_rows.specs.declared.row.SavedRow.{SavedRow}
-use Rattle.pres_batch_rows.specs.RowContents.{RowContent, HasMoment, saved_of, stored, stored_from, rows_in, checkpoints_in, shown_row, shown_rows, saved_rows, AreBelow}
+use Rattle.pres_batch_rows.specs.RowContents.{RowContent, HasMoment, saved_of, stored, stored_from, rows_in, checkpoints_in, answers_in, shown_row, shown_rows, saved_rows, AreBelow}
 use Rattle.pres_batch_rows.specs.TableStates.{AreNumbered, CanTake, IsIdle, AddsRows, Holds, IsLeft, Lasts, Outlasts}
 use Rattle.pres_batch_rows.proofs.Statements.{insert_text, insert_is, insert_plain}
 use Rattle.pres_batch_rows.proofs.Inserting.{params_for, does_insert, put_above, below_push, rising_push}
-use Rattle.pres_batch_rows.proofs.Formats.{first_two, two_saved, idle_saved, numbered_push}
+use Rattle.pres_batch_rows.proofs.Formats.{first_two, first_three, three_saved, idle_saved, numbered_push}
 use Rattle.pres_batch_rows.proofs.Growing.{saved_next}
 
 -- ---- lists
@@ -51,6 +51,7 @@ numbered_all k (s ∷ all) rows h = subst AreNumbered (append_assoc rows (stored
 pub record HasPut (old now : State) (k : ℕ) (all : List RowContent) : Type 0 where
   pub rows : rows_in now ≡ rows_in old ++ stored_from k all
   pub base : checkpoints_in now ≡ checkpoints_in old
+  pub answers : answers_in now ≡ answers_in old
   pub format : now.now.trees 0 ≡ old.now.trees 0
   pub schema : now.now.schema ≡ old.now.schema
   pub committed : now.committed ≡ old.committed
@@ -60,10 +61,11 @@ pub record HasPut (old now : State) (k : ℕ) (all : List RowContent) : Type 0 w
 -- the next number comes after those that were put
 can_put : (old now : State) (k : ℕ) (all : List RowContent) → CanTake old k → HasPut old now k all → CanTake now (k + length all)
 can_put old now k all can has =
-    let two = can.ours in
+    let it = can.ours in
     let rows = rows_in old ++ stored_from k all in
     record {
-      ours = two_saved old now (checkpoints_in old) rows two has.schema has.format has.rows has.base (rising_all k all (rows_in old) can.below two.rising) (numbered_all k all (rows_in old) two.numbered) two.base_numbered;
+      ours = three_saved old now (checkpoints_in old) rows (answers_in old) it has.schema has.format has.rows has.base has.answers (rising_all k all (rows_in old) can.below it.rising) (numbered_all k all (rows_in old) it.numbered) it.base_numbered
+          it.answers_rising it.answers_numbered;
       below = subst (AreBelow (k + length all)) (sym has.rows) (below_all k all (rows_in old) can.below);
     }
 
@@ -72,6 +74,7 @@ pub put_none : {S : Type 0} (g : Ghosts S) (was : Held S) (held : State) (k : �
 put_none g was held k same = record {
   rows = ap (λ (d : Database). d.trees 2) same.0.now_is ∙ sym (append-nil (rows_in (state g was)));
   base = ap (λ (d : Database). d.trees 3) same.0.now_is;
+  answers = ap (λ (d : Database). d.trees 4) same.0.now_is;
   format = ap (λ (d : Database). d.trees 0) same.0.now_is;
   schema = ap (λ (d : Database). d.schema) same.0.now_is;
   committed = same.0.committed_is;
@@ -100,15 +103,16 @@ put_next old held next k all s count idle has ran =
     let shown = ran.1 in
     let number = k + length all in
     let can = can_put old held k all (idle.ready has.was_open) has in
-    let three = can.ours.tables in
+    let four = can.ours.tables in
     let schema = held.now.schema in
-    let ours = first_two schema three in
+    let ours = first_two schema (first_three schema four) in
     let w = runs_as insert_text (params_for number s) held next schema refl _ (insert_is schema ours) (insert_plain schema ours) count ran.0 in
-    let made = does_insert held.step_limit (mode_of held) number s held.now next.now (statement_of insert_text (understood schema insert_text)) w.tally three w.changed in
+    let made = does_insert held.step_limit (mode_of held) number s held.now next.now (statement_of insert_text (understood schema insert_text)) w.tally four w.changed in
     let longer = append_assoc (rows_in old) (stored_from k all) (stored number s ∷ []) ∙ ap (λ l. rows_in old ++ l) (sym (stored_push k all s)) in
     record {
       rows = made.1 ∙ put_above number s (rows_in held) can.below ∙ ap (λ l. l ++ stored number s ∷ []) has.rows ∙ longer;
       base = made.2 ∙ has.base;
+      answers = made.4 ∙ has.answers;
       format = made.3 ∙ has.format;
       schema = made.0 ∙ has.schema;
       committed = shown.committed_is ∙ has.committed;
@@ -123,26 +127,27 @@ survives_more old held next = survives_then old held next (λ _. ⊥) (λ _. ⊥
 
 -- what a crash may leave besides the rows before: all of these after them, and only where the store was open
 abbrev pub WithRows : State → ℕ → List RowContent → Trees → Type 0
-WithRows s k all = Holds s (checkpoints_in s) (rows_in s ++ stored_from k all)
+WithRows s k all = Holds s (checkpoints_in s) (rows_in s ++ stored_from k all) (answers_in s)
 
 pub survives_commit : (old held end : State) (k : ℕ) (all : List RowContent) → (HasCleanDisk end → HasPut old held k all) → Survives old held (λ _. ⊥) → Survives held end (λ db. db ≡ held.now.trees) → Survives old end (WithRows old k all)
 survives_commit old held end k all has = survives_then old held end (λ _. ⊥) (λ db. db ≡ held.now.trees) (WithRows old k all) (λ _ _ none. absurd none)
     (λ clean db is.
     let it = has clean in
-    (it.was_open, ap (λ (t : Trees). t 2) is ∙ it.rows, ap (λ (t : Trees). t 3) is ∙ it.base, ap (λ (t : Trees). t 0) is ∙ it.format))
+    (it.was_open, ap (λ (t : Trees). t 2) is ∙ it.rows, ap (λ (t : Trees). t 3) is ∙ it.base, ap (λ (t : Trees). t 0) is ∙ it.format, ap (λ (t : Trees). t 4) is ∙ it.answers))
 
 pub lasts_all : (old new : State) (k : ℕ) (all : List RowContent) → ((db : Trees) → IsTrue new.is_open → new.may_leave db → db ≡ new.committed.trees) → AddsRows old new k all → Lasts new
 lasts_all old new k all settled adds db may = settled db adds.is_open may ∙ ap (λ (d : Database). d.trees) adds.committed
 
 pub outlasts_all : (old new : State) (k : ℕ) (all : List RowContent) → (IsTrue old.is_open → old.may_leave old.committed.trees) → (IsTrue old.is_open → old.now ≡ old.committed) → Survives old new (WithRows old k all) → HasCleanDisk new
-    → (base rows : List Row) → Outlasts base rows old → Outlasts base rows new
-outlasts_all old new k all stays settled kept clean base rows last db may = elim (kept.crash clean db may) [
+    → (base rows answers : List Row) → Outlasts base rows answers old → Outlasts base rows answers new
+outlasts_all old new k all stays settled kept clean base rows answers last db may = elim (kept.crash clean db may) [
   | inl before ↦ last db before
   | inr more ↦
       let it = last old.committed.trees (stays more.0) in
       let now : rows_in old ≡ rows ++ it.0 = ap (λ (d : Database). d.trees 2) (settled more.0) ∙ it.1 in
       let kept_base : checkpoints_in old ≡ base = ap (λ (d : Database). d.trees 3) (settled more.0) ∙ it.2 in
-      (it.0 ++ stored_from k all, more.1 ∙ ap (λ l. l ++ stored_from k all) now ∙ append_assoc rows it.0 (stored_from k all), more.2 ∙ kept_base)
+      let kept_answers : answers_in old ≡ answers = ap (λ (d : Database). d.trees 4) (settled more.0) ∙ it.3 in
+      (it.0 ++ stored_from k all, more.1 ∙ ap (λ l. l ++ stored_from k all) now ∙ append_assoc rows it.0 (stored_from k all), more.2 ∙ kept_base, more.4 ∙ kept_answers)
 ]
 
 -- ---- what is kept from call to call
@@ -150,9 +155,9 @@ outlasts_all old new k all stays settled kept clean base rows last db may = elim
 pub awaits_all : (old new : State) (k : ℕ) (all : List RowContent) → IsIdle old k → AddsRows old new k all → IsIdle new (k + length all)
 awaits_all old new k all idle adds =
     let can = idle.ready adds.was_open in
-    let two = can.ours in
-    idle_saved old new (checkpoints_in old) (rows_in old ++ stored_from k all) (k + length all) two adds (rising_all k all (rows_in old) can.below two.rising) (numbered_all k all (rows_in old) two.numbered) two.base_numbered
-    (below_all k all (rows_in old) can.below)
+    let it = can.ours in
+    idle_saved old new (checkpoints_in old) (rows_in old ++ stored_from k all) (answers_in old) (k + length all) it adds (rising_all k all (rows_in old) can.below it.rising) (numbered_all k all (rows_in old) it.numbered) it.base_numbered
+    it.answers_rising it.answers_numbered (below_all k all (rows_in old) can.below)
 
 -- ---- what the rows save
 

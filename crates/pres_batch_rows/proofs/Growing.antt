@@ -44,7 +44,7 @@ pub saved_next : (rows : List Row) (last : ℕ) (s : RowContent) → s.moment �
 saved_next rows last s low text behind before holds count =
     let number : last + 1 ≡ behind + 1 + length (map shown_row rows) = omega (arith, saved_count (behind + 1) (map shown_row rows) before holds, count) in
     ap (saved_rows behind) (map_push shown_row rows (stored (last + 1) s))
-    ∙ saved_push (behind + 1) (last + 1) (map shown_row rows) (shown_row (stored (last + 1) s)) before s holds number (reads_stored (last + 1) s low text)
+    ∙ saved_push saved_row (behind + 1) (last + 1) (map shown_row rows) (shown_row (stored (last + 1) s)) before s holds number (reads_stored (last + 1) s low text)
 
 -- the row that was added is the last that is saved
 pub saved_more : (old new : State) (last : ℕ) (s : RowContent) → s.moment ≤ last_moment → IsUtf8 s.body → AddsRow old new (last + 1) s

@@ -34,11 +34,11 @@ use Rattle.sqlite.specs.State.{State, HasCleanDisk, mode_of, Executes, ExecutesI
 use Rattle.sqlite_resolve.specs.declared.compiled.Compiled.{Compiled}
 use Rattle.std.proofs.lemmas.Bool.{cases_Bool}
 use Rattle.sqlite.proofs.Callers.{IsPlain, command_of, statement_of, runs_as, one_step}
-use Rattle.pres_batch_rows.specs.Schemas.{batch, checkpoint_schema}
-use Rattle.pres_batch_rows.specs.RowContents.{RowContent, stored, rows_in, checkpoints_in, AreBelow}
-use Rattle.pres_batch_rows.specs.TableStates.{HasThreeTables, CanTake, IsIdle, Awaits, AddsRow, Holds, IsLeft, Lasts, Outlasts}
+use Rattle.pres_batch_rows.specs.Schemas.{batch, answer_schema}
+use Rattle.pres_batch_rows.specs.RowContents.{RowContent, stored, rows_in, checkpoints_in, answers_in, AreBelow}
+use Rattle.pres_batch_rows.specs.TableStates.{HasFourTables, CanTake, IsIdle, Awaits, AddsRow, Holds, IsLeft, Lasts, Outlasts}
 use Rattle.pres_batch_rows.proofs.Statements.{insert_text, terms, insert_is, insert_plain}
-use Rattle.pres_batch_rows.proofs.Formats.{first_two, idle_saved, numbered_push, awaits_left}
+use Rattle.pres_batch_rows.proofs.Formats.{first_two, first_three, idle_saved, numbered_push, awaits_left}
 use Rattle.sqlite_value.proofs.OrderLemmas.{value_cmp_total}
 use Rattle.sqlite_schema.specs.declared.command.Command.TheVariants.{Select, InsertOr, Update, Delete, CreateTable, CreateIndex, DropTable, DropIndex, Begin, Commit, Rollback, Savepoint, Release, RollbackTo, Nothing, CreateView, DropView, Rows}
 use Rattle.sqlite_schema.specs.declared.command.Returning.{Returning}
@@ -91,19 +91,19 @@ none_flat : {A B : Type 0} (f : A → List B) (xs : List A) → ((x : A) → f x
 none_flat f [] none = refl
 none_flat f (x ∷ xs) none = rw (none x) (none_flat f xs none)
 
-nothing_works : (schema : Schema) (keys : Keys) (depth tree : ℕ) (news : List Row) → works schema keys depth tree [] news ≡ []
+pub nothing_works : (schema : Schema) (keys : Keys) (depth tree : ℕ) (news : List Row) → works schema keys depth tree [] news ≡ []
 nothing_works schema keys depth tree news =
     none_flat (λ child. filter_map (work_for schema keys depth tree [] news child) child.references) schema.tables (λ child.
     none_filtered (work_for schema keys depth tree [] news child) child.references (λ ref. no_work depth tree child ref _ _))
 
--- the row is put, and the rows of the other two tables are kept
-pub does_insert : (limit : Option ℕ) (mode : Mode) (k : ℕ) (b : RowContent) (db after : Database) (text : List ℕ) (tally : Tally) → HasThreeTables db.schema
+-- the row is put, and the rows of the other tables are kept
+pub does_insert : (limit : Option ℕ) (mode : Mode) (k : ℕ) (b : RowContent) (db after : Database) (text : List ℕ) (tally : Tally) → HasFourTables db.schema
     → Does limit mode (params_for k b) db text None (Insert 1 (Values terms 4)) (Ok (tally, after))
-    → (after.schema ≡ db.schema) × (after.trees 2 ≡ put_row (stored k b) (db.trees 2)) × (after.trees 3 ≡ db.trees 3) × (after.trees 0 ≡ db.trees 0)
+    → (after.schema ≡ db.schema) × (after.trees 2 ≡ put_row (stored k b) (db.trees 2)) × (after.trees 3 ≡ db.trees 3) × (after.trees 0 ≡ db.trees 0) × (after.trees 4 ≡ db.trees 4)
 does_insert limit mode k b db after text tally has does =
     let params = params_for k b in
     let trees = db.trees in
-    let schema : Schema = record db.schema { tables = checkpoint_schema.tables ++ has.others } in
+    let schema : Schema = record db.schema { tables = answer_schema.tables ++ has.others } in
     let table : Table = record batch { tree = 2 } in
     let done = went (subst (λ tables. Does limit mode params (record db { schema = record db.schema { tables = tables } }) text None (Insert 1 (Values terms 4)) (Ok (tally, after))) has.tables does) in
     let now = ap (λ (p : Tally × Database). p.1) (same_value (went (went done.2).2).2) in
@@ -119,6 +119,7 @@ does_insert limit mode k b db after text tally has does =
       ap (λ (t : Trees). t 2) is ∙ applied.rows ∙ edit,
       ap (λ (t : Trees). t 3) is ∙ kept.1.1.0 (λ e. omega (arith, e)),
       ap (λ (t : Trees). t 0) is ∙ kept.0 (λ e. omega (arith, e)),
+      ap (λ (t : Trees). t 4) is ∙ kept.1.1.1.0 (λ e. omega (arith, e)),
     )
 
 pub put_above : (k : ℕ) (b : RowContent) (rows : List Row) → AreBelow k rows → put_row (stored k b) rows ≡ rows ++ stored k b ∷ []
@@ -161,14 +162,15 @@ pub commits : (old new : State) (k : ℕ) (b : RowContent) (count : ℕ) → IsI
 commits old new k b count idle h =
     let was_open = open_if_executed old new insert_text (params_for k b) count idle.alone h in
     let can = idle.ready was_open in
-    let three = can.ours.tables in
-    let has = first_two old.now.schema three in
+    let four = can.ours.tables in
+    let has = first_two old.now.schema (first_three old.now.schema four) in
     let schema = old.now.schema in
     let w = runs_as insert_text (params_for k b) old new schema refl _ (insert_is schema has) (insert_plain schema has) count h in
-    let made = does_insert old.step_limit (mode_of old) k b old.now new.now (statement_of insert_text (understood schema insert_text)) w.tally three w.changed in
+    let made = does_insert old.step_limit (mode_of old) k b old.now new.now (statement_of insert_text (understood schema insert_text)) w.tally four w.changed in
     record {
       rows = made.1 ∙ put_above k b (rows_in old) can.below;
       base = made.2;
+      answers = made.4;
       format = made.3;
       schema = made.0;
       committed = rw idle.alone at w.shown.committed_is;
@@ -222,9 +224,9 @@ left_later old held new settled alone first after =
 
 -- ---- a crash
 
--- these rows, beside the same checkpoint in the same format
+-- these rows, beside the same checkpoint and the same answers in the same format
 abbrev Beside : State → List Row → Trees → Type 0
-Beside s rows db = (db 2 ≡ rows) × (db 3 ≡ checkpoints_in s) × (db 0 ≡ s.now.trees 0)
+Beside s rows db = (db 2 ≡ rows) × (db 3 ≡ checkpoints_in s) × (db 0 ≡ s.now.trees 0) × (db 4 ≡ answers_in s)
 
 may_leave : (s : State) (k : ℕ) (b : RowContent) (db : Trees) (text : List ℕ) → CanTake s k → MayCommit s None (Insert 1 (Values terms 4)) text (params_for k b) db
     → Beside s (rows_in s ++ stored k b ∷ []) db
@@ -235,13 +237,14 @@ may_leave s k b db text can (inr may) =
       ap (λ (t : Trees). t 2) may.5 ∙ made.1 ∙ put_above k b (rows_in s) can.below,
       ap (λ (t : Trees). t 3) may.5 ∙ made.2,
       ap (λ (t : Trees). t 0) may.5 ∙ made.3,
+      ap (λ (t : Trees). t 4) may.5 ∙ made.4,
     )
 
 -- what a crash may leave other than the rows before
 leaves : (s : State) (k : ℕ) (b : RowContent) (db : Trees) → CanTake s k → CommitsBy insert_text (params_for k b) s db → Beside s (rows_in s ++ stored k b ∷ []) db
 unfolding CommitsBy
 leaves s k b db can h =
-    let has = first_two s.now.schema can.ours.tables in
+    let has = first_two s.now.schema (first_three s.now.schema can.ours.tables) in
     let known = sym h.1.is in
     let bare = subst IsPlain (sym known) (insert_plain s.now.schema has) in
     let command : h.0.command ≡ Insert 1 (Values terms 4) = ap command_of known ∙ insert_is s.now.schema has in
@@ -269,15 +272,15 @@ rising_push k b (r ∷ rows) h rising = (all_push (rowid r) k b rows h.0 rising.
 pub awaits_more : (old new : State) (k : ℕ) (b : RowContent) → IsIdle old k → AddsRow old new k b → IsIdle new (k + 1)
 awaits_more old new k b idle adds =
     let can = idle.ready adds.was_open in
-    let two = can.ours in
-    idle_saved old new (checkpoints_in old) (rows_in old ++ stored k b ∷ []) (k + 1) two adds (rising_push k b (rows_in old) can.below two.rising) (numbered_push k b (rows_in old) two.numbered) two.base_numbered
-    (below_push k b (rows_in old) can.below)
+    let it = can.ours in
+    idle_saved old new (checkpoints_in old) (rows_in old ++ stored k b ∷ []) (answers_in old) (k + 1) it adds (rising_push k b (rows_in old) can.below it.rising) (numbered_push k b (rows_in old) it.numbered) it.base_numbered
+    it.answers_rising it.answers_numbered (below_push k b (rows_in old) can.below)
 
 -- ---- the row is added where the statement was understood
 
 -- what a crash may leave in addition to what it left before: the rows with one more, and only where the store was open
 abbrev pub WithRow : State → ℕ → RowContent → Trees → Type 0
-WithRow s k b = Holds s (checkpoints_in s) (rows_in s ++ stored k b ∷ [])
+WithRow s k b = Holds s (checkpoints_in s) (rows_in s ++ stored k b ∷ []) (answers_in s)
 
 module _ (old mid new : State) (k : ℕ) (b : RowContent) (awaits : Awaits old k) (first : Survives old mid (λ _. ⊥)) (same : HasCleanDisk mid → IsUnchanged old mid) (settled : old.in_transaction ≡ false → IsTrue old.is_open → old.now ≡ old.committed) where
   idle_then : HasCleanDisk mid → IsIdle mid k
@@ -293,6 +296,7 @@ module _ (old mid new : State) (k : ℕ) (b : RowContent) (awaits : Awaits old k
       record {
         rows = adds.rows ∙ ap (λ (d : Database). d.trees 2 ++ stored k b ∷ []) now;
         base = adds.base ∙ ap (λ (d : Database). d.trees 3) now;
+        answers = adds.answers ∙ ap (λ (d : Database). d.trees 4) now;
         format = adds.format ∙ ap (λ (d : Database). d.trees 0) now;
         schema = adds.schema ∙ ap (λ (d : Database). d.schema) now;
         committed = adds.committed;
@@ -316,6 +320,7 @@ module _ (old mid new : State) (k : ℕ) (b : RowContent) (awaits : Awaits old k
         left.0 ∙ ap (λ (d : Database). d.trees 2 ++ stored k b ∷ []) stays.now_is,
         left.1 ∙ ap (λ (d : Database). d.trees 3) stays.now_is,
         left.2 ∙ ap (λ (d : Database). d.trees 0) stays.now_is,
+        left.3 ∙ ap (λ (d : Database). d.trees 4) stays.now_is,
       )) first two
 
 -- ---- what a crash leaves after it
@@ -324,12 +329,13 @@ pub lasts : (old new : State) (k : ℕ) (b : RowContent) → ((db : Trees) → I
 lasts old new k b settled adds db may = settled db adds.is_open may ∙ ap (λ (d : Database). d.trees) adds.committed
 
 pub outlasts : (old new : State) (k : ℕ) (b : RowContent) → (IsTrue old.is_open → old.may_leave old.committed.trees) → (IsTrue old.is_open → old.now ≡ old.committed) → Survives old new (WithRow old k b) → HasCleanDisk new
-    → (base rows : List Row) → Outlasts base rows old → Outlasts base rows new
-outlasts old new k b stays settled kept clean base rows last db may = elim (kept.crash clean db may) [
+    → (base rows answers : List Row) → Outlasts base rows answers old → Outlasts base rows answers new
+outlasts old new k b stays settled kept clean base rows answers last db may = elim (kept.crash clean db may) [
   | inl before ↦ last db before
   | inr more ↦
       let it = last old.committed.trees (stays more.0) in
       let now : rows_in old ≡ rows ++ it.0 = ap (λ (d : Database). d.trees 2) (settled more.0) ∙ it.1 in
       let kept_base : checkpoints_in old ≡ base = ap (λ (d : Database). d.trees 3) (settled more.0) ∙ it.2 in
-      (it.0 ++ stored k b ∷ [], more.1 ∙ ap (λ all. all ++ stored k b ∷ []) now ∙ append_assoc rows it.0 (stored k b ∷ []), more.2 ∙ kept_base)
+      let kept_answers : answers_in old ≡ answers = ap (λ (d : Database). d.trees 4) (settled more.0) ∙ it.3 in
+      (it.0 ++ stored k b ∷ [], more.1 ∙ ap (λ all. all ++ stored k b ∷ []) now ∙ append_assoc rows it.0 (stored k b ∷ []), more.2 ∙ kept_base, more.4 ∙ kept_answers)
 ]

@@ -1,11 +1,13 @@
 pub mod Statements
 pub mod CheckpointStatements
+pub mod AnswerStatements
 pub mod FormatStatements
 pub mod Plain
 pub mod Refusals
 pub mod Formats
 pub mod Inserting
 pub mod Deleting
+pub mod Telling
 pub mod Checkpointing
 pub mod Migrating
 pub mod Making

@@ -36,20 +36,20 @@ abbrev env_of : Row → Env
 env_of r = [] ∷ r ∷ []
 
 abbrev raised_row : Row
-raised_row = Int (pos 1) ∷ Int (pos 1) ∷ Text (codes "format") ∷ Int (pos 2) ∷ []
+raised_row = Int (pos 1) ∷ Int (pos 1) ∷ Text (codes "format") ∷ Int (pos 3) ∷ []
 
-raised_rows : (db : Trees) (rows : List Row) → db 0 ≡ row_of_format 1 ∷ [] → IsAnswer raised (overlay db []) [] rows → rows ≡ raised_row ∷ []
+raised_rows : (db : Trees) (rows : List Row) (n : ℕ) → db 0 ≡ row_of_format n ∷ [] → IsAnswer raised (overlay db []) [] rows → rows ≡ raised_row ∷ []
 unfolding unary binary value_cmp lib.Ieee.is_nan lib.Ieee.lt
-raised_rows db rows is a =
-    let out = output raised (env_of (row_of_format 1)) in
-    let staged : a.staged ≡ env_of (row_of_format 1) ∷ [] = a.grouped ∙ rw is refl in
+raised_rows db rows n is a =
+    let out = output raised (env_of (row_of_format n)) in
+    let staged : a.staged ≡ env_of (row_of_format n) ∷ [] = a.grouped ∙ rw is refl in
     let kept : a.kept ≡ out ∷ [] = a.distinct ∙ ap (map (output raised)) staged in
     let ordered : a.ordered ≡ out ∷ [] = sorted_unique (output_cmp raised) (output_cmp_total raised) (out ∷ []) a.ordered (tt, tt) (subst (λ l. IsPermutation l a.ordered) kept a.same) a.sorted in
     a.shown ∙ ap (λ xs. page raised [] (map (λ (o : Output). o.1) xs)) ordered
 
 pub does_raise : (limit : Option ℕ) (mode : Mode) (db after : Database) (text : List ℕ) (tally : Tally) → HasOurTables db.schema → IsUnreferred db.schema.tables 0
     → Does limit mode [] db text None (Update 0 (record { lets = []; body = raised })) (Ok (tally, after))
-    → (after.schema ≡ db.schema) × (db.trees 0 ≡ row_of_format 1 ∷ [] → after.trees 0 ≡ row_of_format 2 ∷ [])
+    → (after.schema ≡ db.schema) × ((n : ℕ) → db.trees 0 ≡ row_of_format n ∷ [] → after.trees 0 ≡ row_of_format 3 ∷ [])
     × AllByRecursion (λ (t : Table). t.tree ≢ 0 → after.trees t.tree ≡ db.trees t.tree) db.schema.tables
 unfolding unary value_cmp lib.Ieee.is_nan lib.Ieee.lt
 does_raise limit mode db after text tally ours unreferred does =
@@ -66,9 +66,9 @@ does_raise limit mode db after text tally ours unreferred does =
     let applied = one_step db.schema mode.keys trees written.0 edit (nothing_works db.schema 0 unreferred mode.keys (taken_by trees edit) edit.news) written.1 in
     let is : after.trees ≡ written.0 = ap (λ (d : Database). d.trees) now ∙ ends in (
       ap (λ (d : Database). d.schema) now,
-      λ one.
-          let rows : given.0 ≡ raised_row ∷ [] = raised_rows trees given.0 one (given.1.answer Null) in
-          let put : edited trees edit ≡ row_of_format 2 ∷ [] = ap (λ all. edited trees (edit_of trees table (ids_of all) Given 1 all)) rows ∙ rw (one, cast_int (pos 2)) refl in
+      λ n one.
+          let rows : given.0 ≡ raised_row ∷ [] = raised_rows trees given.0 n one (given.1.answer Null) in
+          let put : edited trees edit ≡ row_of_format 3 ∷ [] = ap (λ all. edited trees (edit_of trees table (ids_of all) Given 1 all)) rows ∙ rw (one, cast_int (pos 3)) refl in
           ap (λ (t : Trees). t 0) is ∙ applied.rows ∙ put,
       subst (λ (l : Trees). AllByRecursion (λ (t : Table). t.tree ≢ 0 → l t.tree ≡ trees t.tree) db.schema.tables) (sym is) applied.tables,
     )

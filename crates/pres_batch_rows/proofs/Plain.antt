@@ -24,6 +24,7 @@ use Rattle.sqlite.proofs.StateLemmas.{survives_weaker}
 use Rattle.pres_batch_rows.specs.TableOpening.{format_text}
 use Rattle.pres_batch_rows.proofs.Statements.{select_text}
 use Rattle.pres_batch_rows.proofs.CheckpointStatements.{base_text}
+use Rattle.pres_batch_rows.proofs.AnswerStatements.{answers_text}
 
 -- the text is a SELECT that doesn't read the time
 abbrev pub IsSelect : Checked Parsed → Type 0
@@ -37,6 +38,10 @@ rows_are_read = (_, refl, refl)
 pub base_is_read : IsSelect (first base_text)
 unfolding everything
 base_is_read = (_, refl, refl)
+
+pub answers_are_read : IsSelect (first answers_text)
+unfolding everything
+answers_are_read = (_, refl, refl)
 
 pub format_is_read : IsSelect (first format_text)
 unfolding everything

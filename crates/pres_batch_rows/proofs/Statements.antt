@@ -14,9 +14,9 @@ use Rattle.sqlite.specs.Collation.TheVariants.{Binary}
 use Rattle.sqlite_tied.specs.Compute.{everything}
 use Rattle.sqlite.specs.Listing.{understood, reads_listing}
 use Rattle.sqlite.proofs.Callers.{IsPlain, command_of, statement_of}
-use Rattle.pres_batch_rows.specs.TableCreation.{meta_text, batch_text, checkpoint_text, set_format_text}
+use Rattle.pres_batch_rows.specs.TableCreation.{meta_text, batch_text, checkpoint_text, answer_text, set_format_text}
 use Rattle.pres_batch_rows.specs.TableStates.{HasOurTables}
-use Rattle.pres_batch_rows.specs.Schemas.{meta, batch, no_schema, meta_schema, saved_schema, checkpoint_schema}
+use Rattle.pres_batch_rows.specs.Schemas.{meta, batch, no_schema, meta_schema, saved_schema, checkpoint_schema, answer_schema}
 
 abbrev pub insert_text : List ℕ
 insert_text = codes "INSERT INTO batch(k, moment, body) VALUES(?1, ?2, ?3)"
@@ -27,18 +27,22 @@ select_text = codes "SELECT k, moment, body FROM batch ORDER BY k"
 abbrev pub terms : List Term
 terms = col 0 0 ∷ lit Null ∷ col 0 1 ∷ col 0 2 ∷ []
 
-abbrev pub query : Query
-query = record {
-  from = inner 2 end;
+-- the rows of a table in the order of their numbers
+abbrev pub listed : ℕ → List Term → Query
+listed tree project = record {
+  from = inner tree end;
   filter = [];
   group = None;
-  project = col 1 0 ∷ col 1 2 ∷ col 1 3 ∷ [];
+  project = project;
   distinct = false;
   collations = [];
   order = (col 1 0, record { collation = Binary; descending = false }) ∷ [];
   limit = lit (Int (negsuc 0));
   offset = lit (Int (pos 0));
 }
+
+abbrev pub query : Query
+query = listed 2 (col 1 0 ∷ col 1 2 ∷ col 1 3 ∷ [])
 
 pub meta_is : table_defined_by meta_text ≡ Ok meta
 unfolding understood everything
@@ -101,7 +105,11 @@ pub create_checkpoint_is : (command_of (understood saved_schema checkpoint_text)
 unfolding understood everything
 create_checkpoint_is = (refl, refl)
 
-pub set_format_is : command_of (understood checkpoint_schema set_format_text) ≡ Insert 0 (Values set_format_terms 3)
+pub create_answer_is : (command_of (understood checkpoint_schema answer_text) ≡ CreateTable) × (statement_of answer_text (understood checkpoint_schema answer_text) ≡ answer_text)
+unfolding understood everything
+create_answer_is = (refl, refl)
+
+pub set_format_is : command_of (understood answer_schema set_format_text) ≡ Insert 0 (Values set_format_terms 3)
 unfolding understood everything
 set_format_is = refl
 
@@ -117,6 +125,10 @@ pub checkpoint_plain : IsPlain (understood saved_schema checkpoint_text)
 unfolding understood everything
 checkpoint_plain = (refl, refl)
 
-pub set_format_plain : IsPlain (understood checkpoint_schema set_format_text)
+pub answer_plain : IsPlain (understood checkpoint_schema answer_text)
+unfolding understood everything
+answer_plain = (refl, refl)
+
+pub set_format_plain : IsPlain (understood answer_schema set_format_text)
 unfolding understood everything
 set_format_plain = (refl, refl)

@@ -12,8 +12,8 @@ use Rattle.sqlite.specs.Held.{Held, state}
 use Rattle.pres_faults.specs.declared.saved_fault.SavedFault.{SavedFault}
 use Rattle.pres_faults.specs.declared.saved_fault.SavedFault.TheVariants.{NotOurs}
 use Rattle.pres_faults.specs.SavedFaults.{fault_of}
-use Rattle.pres_batch_rows.specs.Schemas.{checkpoint_schema}
-use Rattle.pres_batch_rows.specs.RowContents.{rows_in, checkpoints_in, row_of_format}
+use Rattle.pres_batch_rows.specs.Schemas.{answer_schema}
+use Rattle.pres_batch_rows.specs.RowContents.{rows_in, checkpoints_in, answers_in, row_of_format}
 
 abbrev pub meta_text : List ℕ
 meta_text = codes "CREATE TABLE meta(name TEXT PRIMARY KEY, value INTEGER NOT NULL)"
@@ -24,25 +24,29 @@ batch_text = codes "CREATE TABLE batch(k INTEGER PRIMARY KEY, moment INTEGER NOT
 abbrev pub checkpoint_text : List ℕ
 checkpoint_text = codes "CREATE TABLE checkpoint(k INTEGER PRIMARY KEY, moment INTEGER NOT NULL, body TEXT NOT NULL)"
 
+abbrev pub answer_text : List ℕ
+answer_text = codes "CREATE TABLE answer(i INTEGER PRIMARY KEY, body TEXT NOT NULL)"
+
 abbrev pub set_format_text : List ℕ
 set_format_text = codes "INSERT INTO meta(name, value) VALUES('format', 1)"
 
 abbrev pub raise_text : List ℕ
-raise_text = codes "UPDATE meta SET value = 2 WHERE name = 'format'"
+raise_text = codes "UPDATE meta SET value = 3 WHERE name = 'format'"
 
--- the three tables, committed: no saved row, no checkpoint, and the format 2
+-- the four tables, committed: no saved row, no checkpoint, no answer, and the format 3
 pub record IsMade (s : State) : Type 0 where
-  pub schema : s.now.schema ≡ checkpoint_schema
+  pub schema : s.now.schema ≡ answer_schema
   pub rows : rows_in s ≡ []
   pub base : checkpoints_in s ≡ []
-  pub format : s.now.trees 0 ≡ row_of_format 2 ∷ []
+  pub answers : answers_in s ≡ []
+  pub format : s.now.trees 0 ≡ row_of_format 3 ∷ []
   pub committed : s.committed ≡ s.now
   pub is_open : IsTrue s.is_open
   pub mode : s.in_transaction ≡ false
 
 -- the same of what a crash leaves
 abbrev pub HoldsFormat : Trees → Type 0
-HoldsFormat db = (db 2 ≡ []) × (db 3 ≡ []) × (db 0 ≡ row_of_format 2 ∷ [])
+HoldsFormat db = (db 2 ≡ []) × (db 3 ≡ []) × (db 0 ≡ row_of_format 3 ∷ []) × (db 4 ≡ [])
 
 -- a name that is taken is another's table
 abbrev pub making_fault : Error → SavedFault
@@ -66,13 +70,13 @@ module _ {S : Type 0} (g : Ghosts S) where
 
   -- the tables are made, one after the other
   abbrev pub CarriesTables : Held S → (Held S → Type 0) → Type 0
-  CarriesTables from Next = Carries meta_text from (λ one. Carries batch_text one (λ two. Carries checkpoint_text two Next))
+  CarriesTables from Next = Carries meta_text from (λ one. Carries batch_text one (λ two. Carries checkpoint_text two (λ three. Carries answer_text three Next)))
 
-  -- in one transaction, what the five statements leave is committed
+  -- in one transaction, what the six statements leave is committed
   abbrev pub Makes : Held S → State → Type 0
   Makes old new =
-      CarriesTables (begun old) (λ three. Carries set_format_text three (λ four. Carries raise_text four (λ five.
-      (new.now ≡ (state g five).now) × (new.committed ≡ (state g five).now))))
+      CarriesTables (begun old) (λ four. Carries set_format_text four (λ five. Carries raise_text five (λ six.
+      (new.now ≡ (state g six).now) × (new.committed ≡ (state g six).now))))
 
   -- one of the statements is refused after those before it were carried out, or the commit is
   abbrev pub FailsToMake : Held S → Error → Type 0
@@ -80,7 +84,8 @@ module _ {S : Type 0} (g : Ghosts S) where
       Refuses meta_text e (begun old)
       ⊎ (Carries meta_text (begun old) (Refuses batch_text e)
       ⊎ (Carries meta_text (begun old) (λ one. Carries batch_text one (Refuses checkpoint_text e))
+      ⊎ (Carries meta_text (begun old) (λ one. Carries batch_text one (λ two. Carries checkpoint_text two (Refuses answer_text e)))
       ⊎ (CarriesTables (begun old) (Refuses set_format_text e)
-      ⊎ (CarriesTables (begun old) (λ three. Carries set_format_text three (Refuses raise_text e))
-      ⊎ CarriesTables (begun old) (λ three. Carries set_format_text three (λ four. Carries raise_text four (λ five.
-      (to : Held S) × FailsToCommit (state g five) (state g to) e)))))))
+      ⊎ (CarriesTables (begun old) (λ four. Carries set_format_text four (Refuses raise_text e))
+      ⊎ CarriesTables (begun old) (λ four. Carries set_format_text four (λ five. Carries raise_text five (λ six.
+      (to : Held S) × FailsToCommit (state g six) (state g to) e))))))))

@@ -12,8 +12,8 @@ use Rattle.sqlite.specs.State.{State, HasCleanDisk}
 use Rattle.sqlite.specs.Held.{Held, held_code, state}
 use Rattle.sqlite_trees.specs.View.{is_int}
 use Rattle.sqlite_schema.specs.Rules.{parent_key}
-use Rattle.pres_batch_rows.specs.Schemas.{saved_schema, checkpoint_schema}
-use Rattle.pres_batch_rows.specs.RowContents.{RowContent, stored, stored_from, row_of_format, rows_in, checkpoints_in, AreBelow}
+use Rattle.pres_batch_rows.specs.Schemas.{saved_schema, checkpoint_schema, answer_schema}
+use Rattle.pres_batch_rows.specs.RowContents.{RowContent, stored, stored_from, with_answers, row_of_format, rows_in, checkpoints_in, answers_in, AreBelow}
 
 -- the connection, and the number of the last row
 pub record TableState (S : Type 0) : Type 0 where
@@ -45,12 +45,24 @@ AreNumbered = AllByRecursion (λ r. IsTrue (is_int (rowid r)))
 abbrev pub IsUnreferred : List Table → ℕ → Type 0
 IsUnreferred all tree = AllByRecursion (λ t. AllByRecursion (λ ref. IfSome (parent_key all ref) (λ key. key.0 ≢ tree)) t.references) all
 
--- The three tables of format 2 come first, whatever follows, and no table refers to the two whose rows are deleted.
+-- The tables meta, batch and checkpoint come first, whatever follows, and no table refers to the two whose rows are deleted.
 pub record HasThreeTables (schema : Schema) : Type 0 where
   pub others : List Table
   pub tables : schema.tables ≡ checkpoint_schema.tables ++ others
   pub unreferred : IsUnreferred schema.tables 2
   pub base_unreferred : IsUnreferred schema.tables 3
+
+-- The four tables of format 3 come first, whatever follows, and no table refers to the two whose rows are deleted.
+pub record HasFourTables (schema : Schema) : Type 0 where
+  pub others : List Table
+  pub tables : schema.tables ≡ answer_schema.tables ++ others
+  pub unreferred : IsUnreferred schema.tables 2
+  pub base_unreferred : IsUnreferred schema.tables 3
+
+-- the tables of the batches and of the checkpoint are ours, and the rows of the batches rise by their numbers
+pub record HoldsCheckpoint (db : Database) : Type 0 where
+  pub tables : HasThreeTables db.schema
+  pub rising : IsTable (db.trees 2)
 
 -- The tables are the two of format 1, and no others. The rows of the batches rise by their numbers.
 pub record IsOfFormatOne (db : Database) : Type 0 where
@@ -59,23 +71,33 @@ pub record IsOfFormatOne (db : Database) : Type 0 where
   pub rising : IsTable (db.trees 2)
   pub numbered : AreNumbered (db.trees 2)
 
--- The tables are those of format 2. The rows of the batches rise by their numbers.
+-- The tables are the three of format 2, and no others. The rows of the batches rise by their numbers.
 pub record IsOfFormatTwo (db : Database) : Type 0 where
-  pub tables : HasThreeTables db.schema
+  pub schema : db.schema ≡ checkpoint_schema
   pub format : db.trees 0 ≡ row_of_format 2 ∷ []
   pub rising : IsTable (db.trees 2)
   pub numbered : AreNumbered (db.trees 2)
   pub base_numbered : AreNumbered (db.trees 3)
 
--- the tables are ours, of format 1 or 2
+-- The tables are those of format 3. The rows of the batches and of the answers rise by their numbers.
+pub record IsOfFormatThree (db : Database) : Type 0 where
+  pub tables : HasFourTables db.schema
+  pub format : db.trees 0 ≡ row_of_format 3 ∷ []
+  pub rising : IsTable (db.trees 2)
+  pub numbered : AreNumbered (db.trees 2)
+  pub base_numbered : AreNumbered (db.trees 3)
+  pub answers_rising : IsTable (db.trees 4)
+  pub answers_numbered : AreNumbered (db.trees 4)
+
+-- the tables are ours, of format 1, 2 or 3
 abbrev pub IsOurs : Database → Type 0
-IsOurs db = IsOfFormatOne db ⊎ IsOfFormatTwo db
+IsOurs db = IsOfFormatOne db ⊎ (IsOfFormatTwo db ⊎ IsOfFormatThree db)
 
 -- ---- between the calls
 
--- the tables are those of format 2, and this number comes after those of all rows
+-- the tables are those of format 3, and this number comes after those of all rows
 pub record CanTake (s : State) (k : ℕ) : Type 0 where
-  pub ours : IsOfFormatTwo s.now
+  pub ours : IsOfFormatThree s.now
   pub below : AreBelow k (rows_in s)
 
 -- no transaction is open, and while the store is, the row with this number may come
@@ -92,10 +114,11 @@ Serves g t = Awaits (state g t.connection) (t.last + 1)
 
 -- ---- what the calls leave
 
--- this checkpoint and these rows, in the same format, and all of it committed
-pub record IsSaved (old new : State) (kept all : List Row) : Type 0 where
+-- this checkpoint, these rows and these answers, in the same format, and all of it committed
+pub record IsSaved (old new : State) (kept all told : List Row) : Type 0 where
   pub rows : rows_in new ≡ all
   pub base : checkpoints_in new ≡ kept
+  pub answers : answers_in new ≡ told
   pub format : new.now.trees 0 ≡ old.now.trees 0
   pub schema : new.now.schema ≡ old.now.schema
   pub committed : new.committed ≡ new.now
@@ -103,17 +126,17 @@ pub record IsSaved (old new : State) (kept all : List Row) : Type 0 where
   pub was_open : IsTrue old.is_open
   pub is_open : IsTrue new.is_open
 
--- these rows more, in their order, beside the same checkpoint
+-- these rows more, in their order, beside the same checkpoint and the same answers
 abbrev pub AddsRows : State → State → ℕ → List RowContent → Type 0
-AddsRows old new k all = IsSaved old new (checkpoints_in old) (rows_in old ++ stored_from k all)
+AddsRows old new k all = IsSaved old new (checkpoints_in old) (rows_in old ++ stored_from k all) (answers_in old)
 
 -- one row more
 abbrev pub AddsRow : State → State → ℕ → RowContent → Type 0
 AddsRow old new k saved = AddsRows old new k (saved ∷ [])
 
--- the checkpoint alone, and no row
-abbrev pub IsCheckpointed : State → State → ℕ → RowContent → Type 0
-IsCheckpointed old new k saved = IsSaved old new (stored k saved ∷ []) []
+-- the checkpoint alone, no row, and these answers more behind those before, numbered on
+abbrev pub IsCheckpointed : State → State → ℕ → RowContent → List (List ℕ) → Type 0
+IsCheckpointed old new k saved bodies = IsSaved old new (stored k saved ∷ []) [] (with_answers (answers_in old) bodies)
 
 -- the database is as it was
 pub record IsSame (old new : State) : Type 0 where
@@ -128,17 +151,17 @@ pub record IsLeft (old new : State) : Type 0 where
 
 -- ---- what a crash leaves
 
--- this checkpoint and these rows, in the same format, and only where the store was open
-abbrev pub Holds : State → List Row → List Row → Trees → Type 0
-Holds s base rows db = IsTrue s.is_open × (db 2 ≡ rows) × (db 3 ≡ base) × (db 0 ≡ s.now.trees 0)
+-- this checkpoint, these rows and these answers, in the same format, and only where the store was open
+abbrev pub Holds : State → List Row → List Row → List Row → Trees → Type 0
+Holds s base rows answers db = IsTrue s.is_open × (db 2 ≡ rows) × (db 3 ≡ base) × (db 0 ≡ s.now.trees 0) × (db 4 ≡ answers)
 
 -- what a crash leaves is the database as it is shown
 abbrev pub Lasts : State → Type 0
 Lasts s = (db : Trees) → s.may_leave db → db ≡ s.now.trees
 
--- whatever a crash leaves has this checkpoint, and begins with these rows
-abbrev pub Outlasts : List Row → List Row → State → Type 0
-Outlasts base rows s = (db : Trees) → s.may_leave db → (more : List Row) × (db 2 ≡ rows ++ more) × (db 3 ≡ base)
+-- whatever a crash leaves has this checkpoint and these answers, and begins with these rows
+abbrev pub Outlasts : List Row → List Row → List Row → State → Type 0
+Outlasts base rows answers s = (db : Trees) → s.may_leave db → (more : List Row) × (db 2 ≡ rows ++ more) × (db 3 ≡ base) × (db 4 ≡ answers)
 
 -- what is shown is one of what a crash may leave
 abbrev pub MayStay : State → Type 0

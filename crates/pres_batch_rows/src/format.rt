@@ -4,15 +4,16 @@ ghost use Rattle.std.specs.Prelude.{◌≡◌, ◌⊎◌, ◌+◌, ◌≤◌, []
 ghost use Rattle.sqlite.specs.Held.{state};
 ghost use Rattle.sqlite.specs.State.{HasCleanDisk, IsUnchanged, Survives};
 ghost use Rattle.sqlite.specs.View.{doubt};
-ghost use Rattle.pres_batch_rows.specs.TableStates.{IsOfFormatOne, IsOurs, IsLeft};
+ghost use Rattle.pres_batch_rows.specs.TableStates.{IsOfFormatOne, IsOfFormatTwo, IsOurs, IsLeft};
 ghost use Rattle.pres_batch_rows.specs.TableOpening.{format_fault, HasFormat, LacksFormat, IsFound, OpensAs, FailsToOpen, OpeningLeaves, last_in};
 ghost use Rattle.pres_batch_rows.specs.TableCreation.{making_fault};
-ghost use Rattle.pres_batch_rows.specs.Migrations.{IsMigrated, HoldsFormatTwo, Migrates, FailsToMigrate};
-ghost use Rattle.pres_batch_rows.specs.RowContents.{AreBelow, rows_in, shown_rows};
+ghost use Rattle.pres_batch_rows.specs.Migrations.{IsMigrated, HoldsFormatThree, MigratesOne, FailsToMigrateOne, MigratesTwo, FailsToMigrateTwo};
+ghost use Rattle.pres_batch_rows.specs.RowContents.{AreBelow, rows_in, checkpoints_in, shown_rows, shown_base};
 
-use crate::last::{last_in_two, last_number};
+use crate::format_one::migrate_one;
+use crate::format_two::migrate_two;
+use crate::last::{last_number, last_saved};
 use crate::make::making_fault;
-use crate::migrate::migrate;
 use crate::row::whole_at;
 use pres_faults::SavedFault;
 use sqlite::{Alter, Connection, Error};
@@ -27,11 +28,11 @@ fn format_fault(error: Error) -> SavedFault
     }
 }
 
-// Reads the format, which must be 1 or 2.
+// Reads the format, which must be 1, 2 or 3.
 fn read_format<S: Alter>(connection: &mut Connection<S>) -> Result<u64, SavedFault>
     ensures ok { HasCleanDisk (state S.Store connection.new) → IfOk result (λ format.
         HasFormat format (state S.Store connection.old) (state S.Store connection.new)) }
-    ensures named { IfOk result (λ format. (format ≡ 1) ⊎ (format ≡ 2)) }
+    ensures named { IfOk result (λ format. (format ≡ 1) ⊎ ((format ≡ 2) ⊎ (format ≡ 3))) }
     ensures err { HasCleanDisk (state S.Store connection.new)
         → IfErr result
         (LacksFormat (state S.Store connection.old) (state S.Store connection.new)) }
@@ -57,46 +58,81 @@ fn read_format<S: Alter>(connection: &mut Connection<S>) -> Result<u64, SavedFau
     let Some(format) = whole_at(&row, 0) else {
         return Err(SavedFault::Version);
     };
-    if format == 1 || format == 2 {
+    if format == 1 || format == 2 || format == 3 {
         Ok(format)
     } else {
         Err(SavedFault::Version)
     }
 }
 
-// Brings the tables of format 1 to format 2, and gives the number of the last row.
-fn upgrade<S: Alter>(connection: &mut Connection<S>) -> Result<u64, SavedFault>
+// Brings the tables of format 1 to format 3, and gives the number of the last row.
+fn upgrade_one<S: Alter>(connection: &mut Connection<S>) -> Result<u64, SavedFault>
     requires { connection.old.in_transaction ≡ false }
     ensures ok { HasCleanDisk (state S.Store connection.new)
         → IsOfFormatOne (state S.Store connection.old).now
         → IfOk result (λ n.
-        IsMigrated (state S.Store connection.old) (state S.Store connection.new)
+        IsMigrated (state S.Store connection.old) (state S.Store connection.new) []
         × (n ≡ last_in [] (shown_rows (state S.Store connection.old)))
         × AreBelow (n + 1) (rows_in (state S.Store connection.old))) }
     ensures migrates { HasCleanDisk (state S.Store connection.new)
         → OnOk result ((later : _)
         × IsUnchanged (state S.Store connection.old) (state S.Store later)
-        × Migrates S.Store later (state S.Store connection.new)) }
+        × MigratesOne S.Store later (state S.Store connection.new)) }
     ensures err { HasCleanDisk (state S.Store connection.new)
         → IfErr result (λ e. ((later : _)
         × IsUnchanged (state S.Store connection.old) (state S.Store later)
-        × (why : _) × FailsToMigrate S.Store later why × (e ≡ making_fault why))
+        × (why : _) × FailsToMigrateOne S.Store later why × (e ≡ making_fault why))
         ⊎ ((e ≡ SavedFault.Memory) ⊎ (e ≡ SavedFault.Database))) }
     ensures left { HasCleanDisk (state S.Store connection.new)
         → OnErr result (IsLeft (state S.Store connection.old) (state S.Store connection.new)) }
     ensures mode { connection.new.in_transaction ≡ false }
     ensures crash { Survives (state S.Store connection.old) (state S.Store connection.new)
         (λ db. IsOfFormatOne (state S.Store connection.old).now
-        → HoldsFormatTwo (state S.Store connection.old) db) }
+        → HoldsFormatThree (state S.Store connection.old) [] db) }
 {
     let last = last_number(connection)?;
-    match migrate(connection) {
+    match migrate_one(connection) {
         Ok(()) => Ok(last.unwrap_or(0)),
         Err(error) => Err(making_fault(error)),
     }
 }
 
-// Reads the format and the number of the last row, and brings tables of format 1 to format 2.
+// Brings the tables of format 2 to format 3, and gives the number of the last row.
+fn upgrade_two<S: Alter>(connection: &mut Connection<S>) -> Result<u64, SavedFault>
+    requires { connection.old.in_transaction ≡ false }
+    ensures ok { HasCleanDisk (state S.Store connection.new)
+        → IsOfFormatTwo (state S.Store connection.old).now
+        → IfOk result (λ n.
+        IsMigrated (state S.Store connection.old) (state S.Store connection.new)
+        (checkpoints_in (state S.Store connection.old))
+        × (n ≡ last_in (shown_base (state S.Store connection.old))
+        (shown_rows (state S.Store connection.old)))
+        × AreBelow (n + 1) (rows_in (state S.Store connection.old))) }
+    ensures migrates { HasCleanDisk (state S.Store connection.new)
+        → OnOk result ((later : _)
+        × IsUnchanged (state S.Store connection.old) (state S.Store later)
+        × MigratesTwo S.Store later (state S.Store connection.new)) }
+    ensures err { HasCleanDisk (state S.Store connection.new)
+        → IfErr result (λ e. ((later : _)
+        × IsUnchanged (state S.Store connection.old) (state S.Store later)
+        × (why : _) × FailsToMigrateTwo S.Store later why × (e ≡ making_fault why))
+        ⊎ ((e ≡ SavedFault.Memory) ⊎ (e ≡ SavedFault.Database))) }
+    ensures left { HasCleanDisk (state S.Store connection.new)
+        → OnErr result (IsLeft (state S.Store connection.old) (state S.Store connection.new)) }
+    ensures mode { connection.new.in_transaction ≡ false }
+    ensures crash { Survives (state S.Store connection.old) (state S.Store connection.new)
+        (λ db. IsOfFormatTwo (state S.Store connection.old).now
+        → HoldsFormatThree (state S.Store connection.old)
+        (checkpoints_in (state S.Store connection.old)) db) }
+{
+    let last = last_saved(connection)?;
+    match migrate_two(connection) {
+        Ok(()) => Ok(last),
+        Err(error) => Err(making_fault(error)),
+    }
+}
+
+// Reads the format and the number of the last row, and brings tables of formats 1 and 2 to format 3.
 pub(crate) fn find<S: Alter>(connection: &mut Connection<S>) -> Result<u64, SavedFault>
     requires { connection.old.in_transaction ≡ false }
     ensures found { HasCleanDisk (state S.Store connection.new)
@@ -116,8 +152,10 @@ pub(crate) fn find<S: Alter>(connection: &mut Connection<S>) -> Result<u64, Save
 {
     let format = read_format(connection)?;
     if format == 1 {
-        upgrade(connection)
+        upgrade_one(connection)
+    } else if format == 2 {
+        upgrade_two(connection)
     } else {
-        last_in_two(connection)
+        last_saved(connection)
     }
 }

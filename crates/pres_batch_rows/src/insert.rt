@@ -5,7 +5,7 @@ ghost use Rattle.std.specs.List.{AllByRecursion};
 ghost use Rattle.sqlite.specs.Held.{state};
 ghost use Rattle.sqlite.specs.State.{HasCleanDisk, Survives};
 ghost use Rattle.pres_batch_rows.specs.TableStates.{Awaits, AddsRow, AddsRows, Holds, IsLeft, Lasts, Outlasts};
-ghost use Rattle.pres_batch_rows.specs.RowContents.{HasMoment, saved_of, stored, stored_from, rows_in, checkpoints_in};
+ghost use Rattle.pres_batch_rows.specs.RowContents.{HasMoment, saved_of, stored, stored_from, rows_in, checkpoints_in, answers_in};
 
 use crate::row::SavedRow;
 use pres_faults::SavedFault;
@@ -33,14 +33,15 @@ pub(crate) fn insert<S: Alter>(
         → Survives (state S.Store connection.old) (state S.Store connection.new)
         (Holds (state S.Store connection.old) (checkpoints_in (state S.Store connection.old))
         (rows_in (state S.Store connection.old)
-        ++ stored number (record { moment = moment; body = body.now }) ∷ [])) }
+        ++ stored number (record { moment = moment; body = body.now }) ∷ [])
+        (answers_in (state S.Store connection.old))) }
     ensures durable { HasCleanDisk (state S.Store connection.new)
         → Awaits (state S.Store connection.old) number
         → OnOk result (Lasts (state S.Store connection.new)) }
     ensures outlasts { HasCleanDisk (state S.Store connection.new)
         → Awaits (state S.Store connection.old) number
-        → (base rows : _) → Outlasts base rows (state S.Store connection.old)
-        → Outlasts base rows (state S.Store connection.new) }
+        → (base rows answers : _) → Outlasts base rows answers (state S.Store connection.old)
+        → Outlasts base rows answers (state S.Store connection.new) }
 {
     // it ensures that what is shown was committed, where no transaction is open
     let _alone = connection.is_autocommit();
@@ -81,7 +82,8 @@ pub(crate) fn insert_all<S: Alter>(
         → Survives (state S.Store connection.old) (state S.Store connection.new)
         (Holds (state S.Store connection.old) (checkpoints_in (state S.Store connection.old))
         (rows_in (state S.Store connection.old)
-        ++ stored_from first (map saved_of rows.now))) }
+        ++ stored_from first (map saved_of rows.now))
+        (answers_in (state S.Store connection.old))) }
 
     // what is shown was committed, where no transaction is open
     ensures settled { connection.old.in_transaction ≡ false

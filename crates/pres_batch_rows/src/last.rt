@@ -7,7 +7,7 @@ ghost use Rattle.sqlite.specs.Order.{column, value_cmp};
 ghost use Rattle.sqlite.specs.Held.{state};
 ghost use Rattle.sqlite.specs.State.{HasCleanDisk, IsUnchanged, Survives};
 ghost use Rattle.sqlite.specs.View.{doubt};
-ghost use Rattle.pres_batch_rows.specs.TableStates.{HoldsBatches, IsOfFormatTwo, IsLeft};
+ghost use Rattle.pres_batch_rows.specs.TableStates.{HoldsBatches, HoldsCheckpoint, IsLeft};
 ghost use Rattle.pres_batch_rows.specs.TableOpening.{greatest_in, last_of, last_in};
 ghost use Rattle.pres_batch_rows.specs.RowContents.{AreBelow, rows_in, shown_rows, shown_base, whole_of};
 
@@ -90,7 +90,7 @@ fn greatest(rows: &[Row]) -> Result<u64, SavedFault>
 // The greatest number of a checkpoint, 0 without one.
 fn base_number<S: Alter>(connection: &mut Connection<S>) -> Result<u64, SavedFault>
     ensures ok { HasCleanDisk (state S.Store connection.new)
-        → IsOfFormatTwo (state S.Store connection.old).now
+        → HoldsCheckpoint (state S.Store connection.old).now
         → IfOk result (λ n. n ≡ greatest_in (shown_base (state S.Store connection.old))) }
     ensures bound { IfOk result (λ n. n < 2 ^ 63) }
     ensures named { IfErr result (λ e. (e ≡ SavedFault.Memory) ⊎ (e ≡ SavedFault.Database)) }
@@ -111,10 +111,10 @@ fn base_number<S: Alter>(connection: &mut Connection<S>) -> Result<u64, SavedFau
     greatest(rows.as_slice())
 }
 
-// The number of the last row of tables of format 2.
-pub(crate) fn last_in_two<S: Alter>(connection: &mut Connection<S>) -> Result<u64, SavedFault>
+// The number of the last row, where there is a table of the checkpoint.
+pub(crate) fn last_saved<S: Alter>(connection: &mut Connection<S>) -> Result<u64, SavedFault>
     ensures ok { HasCleanDisk (state S.Store connection.new)
-        → IsOfFormatTwo (state S.Store connection.old).now
+        → HoldsCheckpoint (state S.Store connection.old).now
         → IfOk result (λ n. (n ≡ last_in (shown_base (state S.Store connection.old))
         (shown_rows (state S.Store connection.old)))
         × AreBelow (n + 1) (rows_in (state S.Store connection.old))) }

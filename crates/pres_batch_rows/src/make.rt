@@ -10,8 +10,8 @@ use pres_faults::SavedFault;
 use sqlite::{Alter, Connection, Error, ErrorCode};
 use sqlite_resolve::CompileError;
 
-// Makes the three tables and the row of the format, in one transaction. The format is set to 1 and
-// then to 2, as where tables of format 1 are found.
+// Makes the four tables and the row of the format, in one transaction. The format is set to 1 and
+// then to 3, as where tables of an earlier format are found.
 pub(crate) fn make<S: Alter>(connection: &mut Connection<S>) -> Result<(), Error>
     requires { connection.old.in_transaction ≡ false }
     ensures ok { HasCleanDisk (state S.Store connection.new)
@@ -46,8 +46,12 @@ pub(crate) fn make<S: Alter>(connection: &mut Connection<S>) -> Result<(), Error
         "CREATE TABLE checkpoint(k INTEGER PRIMARY KEY, moment INTEGER NOT NULL, body TEXT NOT NULL)",
         &[],
     )?;
+    tx.execute(
+        "CREATE TABLE answer(i INTEGER PRIMARY KEY, body TEXT NOT NULL)",
+        &[],
+    )?;
     tx.execute("INSERT INTO meta(name, value) VALUES('format', 1)", &[])?;
-    tx.execute("UPDATE meta SET value = 2 WHERE name = 'format'", &[])?;
+    tx.execute("UPDATE meta SET value = 3 WHERE name = 'format'", &[])?;
     tx.commit()
 }
 

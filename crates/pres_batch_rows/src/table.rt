@@ -1,6 +1,6 @@
 //! The table of saved rows.
 
-ghost use Rattle.std.specs.Prelude.{◌≡◌, ◌⊎◌, ◌+◌, ◌<◌, ◌≤◌, ◌++◌, ◌∷◌, [], false, length, Ok, Err, Some, None, if◌then◌else◌, is_ok, map, option_map, IsTrue, IfOk, IfErr, MatchResult, OnOk, OnErr};
+ghost use Rattle.std.specs.Prelude.{◌≡◌, ◌⊎◌, ◌+◌, ◌<◌, ◌≤◌, ◌++◌, ◌∷◌, [], false, length, Ok, Err, Some, None, if◌then◌else◌, is_ok, map, string_bytes, option_map, IsTrue, IfOk, IfErr, MatchResult, OnOk, OnErr};
 ghost use Rattle.sqlite.specs.Held.{state};
 ghost use Rattle.sqlite.specs.State.{HasCleanDisk, IsUnchanged, Survives};
 ghost use Rattle.sqlite.specs.View.{doubt};
@@ -9,10 +9,11 @@ ghost use Rattle.pres_batch_rows.specs.TableStates.{IsOurs, Serves, AddsRow, Add
 ghost use Rattle.pres_batch_rows.specs.TableOpening.{IsFound, OpensAs, FailsToOpen, OpeningLeaves};
 ghost use Rattle.pres_batch_rows.specs.TableCreation.{IsMade, HoldsFormat, Makes, FailsToMake, making_fault};
 ghost use Rattle.pres_batch_rows.specs.Schemas.{no_schema};
-ghost use Rattle.pres_batch_rows.specs.RowContents.{saved_of, saved_rows, shown_rows, shown_base, stored, stored_from, rows_in, checkpoints_in};
-ghost use Rattle.pres_batch_rows.specs.RowIteration.{GoesOver, TakesRows};
+ghost use Rattle.pres_batch_rows.specs.RowContents.{saved_of, saved_rows, saved_answers, shown_rows, shown_base, shown_answers, stored, stored_from, with_answers, rows_in, checkpoints_in, answers_in};
+ghost use Rattle.pres_batch_rows.specs.RowIteration.{GoesOver, GoesOverAnswers, TakesRows};
 ghost use Rattle.pres_batch_rows.specs.SavedCheckpoints.{base_of, saved_base};
 
+use crate::answers::{TakeAnswer, go_over_answers};
 use crate::base::{SavedCheckpoint, read_checkpoint};
 use crate::checkpoint::put_checkpoint;
 use crate::format::find;
@@ -29,8 +30,9 @@ use std::alloc::Global;
 use std::marker::Model;
 
 /// Rows saved in a database, numbered 1, 2, .., each committed as it comes, and a checkpoint in the
-/// place of the first of them. Contracts see the connection and the number of the last row, and speak
-/// of the checkpoint and the rows by what the connection shows.
+/// place of the first of them, with answers, numbered 1, 2, .., which stay as they are once a
+/// checkpoint has added them. Contracts see the connection and the number of the last row, and speak
+/// of the checkpoint, the rows and the answers by what the connection shows.
 ///
 /// After a write whose end the disk didn't confirm, the store may be shut for good: then every call
 /// answers Database, and the next open finds the rows with or without that one.
@@ -93,8 +95,8 @@ impl<S: Alter + Drop> BatchTable<S> {
         }
     }
 
-    /// Finds the tables that `create` made, in format 2, or those of format 1, which are brought to
-    /// format 2 in one transaction with the same rows. NotOurs if the statement that reads the format
+    /// Finds the tables that `create` made, in format 3, or those of format 1 or 2, which are brought to
+    /// format 3 in one transaction, with the same rows, the same checkpoint and no answer. NotOurs if the statement that reads the format
     /// fails to parse or has no answer, or if a table of the name of the new one is there; Version if
     /// the format is another. A refusal leaves the database as it was, whatever it holds, another
     /// program's tables too.
@@ -159,14 +161,16 @@ impl<S: Alter + Drop> BatchTable<S> {
             (checkpoints_in (state S.Store self.old.connection))
             (rows_in (state S.Store self.old.connection)
             ++ stored (self.old.last + 1)
-            (record { moment = moment; body = body.now }) ∷ [])) }
+            (record { moment = moment; body = body.now }) ∷ [])
+            (answers_in (state S.Store self.old.connection))) }
         ensures durable { HasCleanDisk (state S.Store self.new.connection)
             → Serves S.Store self.old
             → OnOk result (Lasts (state S.Store self.new.connection)) }
         ensures outlasts { HasCleanDisk (state S.Store self.new.connection)
             → Serves S.Store self.old
-            → (base rows : _) → Outlasts base rows (state S.Store self.old.connection)
-            → Outlasts base rows (state S.Store self.new.connection) }
+            → (base rows answers : _)
+            → Outlasts base rows answers (state S.Store self.old.connection)
+            → Outlasts base rows answers (state S.Store self.new.connection) }
         ensures stays { HasCleanDisk (state S.Store self.new.connection) → Serves S.Store self.old
             → MayStay (state S.Store self.old.connection) }
         ensures serves { Serves S.Store self.old → Serves S.Store self.new }
@@ -213,14 +217,16 @@ impl<S: Alter + Drop> BatchTable<S> {
             (Holds (state S.Store self.old.connection)
             (checkpoints_in (state S.Store self.old.connection))
             (rows_in (state S.Store self.old.connection)
-            ++ stored_from (self.old.last + 1) (map saved_of rows.now))) }
+            ++ stored_from (self.old.last + 1) (map saved_of rows.now))
+            (answers_in (state S.Store self.old.connection))) }
         ensures durable { HasCleanDisk (state S.Store self.new.connection)
             → Serves S.Store self.old
             → OnOk result (Lasts (state S.Store self.new.connection)) }
         ensures outlasts { HasCleanDisk (state S.Store self.new.connection)
             → Serves S.Store self.old
-            → (base rows : _) → Outlasts base rows (state S.Store self.old.connection)
-            → Outlasts base rows (state S.Store self.new.connection) }
+            → (base rows answers : _)
+            → Outlasts base rows answers (state S.Store self.old.connection)
+            → Outlasts base rows answers (state S.Store self.new.connection) }
         ensures stays { HasCleanDisk (state S.Store self.new.connection) → Serves S.Store self.old
             → MayStay (state S.Store self.old.connection) }
         ensures serves { Serves S.Store self.old → Serves S.Store self.new }
@@ -237,19 +243,29 @@ impl<S: Alter + Drop> BatchTable<S> {
         Ok(())
     }
 
-    /// Puts this checkpoint in the place of the one before it and of all rows, in one transaction: it
-    /// stands for as many batches as the number of the last row, and the next row is numbered on from
-    /// there. A refusal leaves all as it was; a crash leaves the rows before or the checkpoint alone.
-    /// Database where the number of the last row is above 2^53 - 1.
-    pub fn checkpoint(&mut self, moment: Moment, body: &str) -> Result<(), SavedFault>
+    /// Puts this checkpoint in the place of the one before it and of all rows, and adds these answers
+    /// behind those before, numbered on from the last, in one transaction. The checkpoint stands for as
+    /// many batches as the number of the last row, and the next row is numbered on from there. A refusal
+    /// leaves all as it was; a crash leaves what was there before, or all of the new. Database where the
+    /// number of the last row is above 2^53 - 1.
+    pub fn checkpoint(
+        &mut self,
+        moment: Moment,
+        body: &str,
+        answers: &[String],
+    ) -> Result<(), SavedFault>
         ensures ok { HasCleanDisk (state S.Store self.new.connection) → Serves S.Store self.old
             → OnOk result (IsCheckpointed (state S.Store self.old.connection)
             (state S.Store self.new.connection) self.old.last
-            (record { moment = moment; body = body.now })) }
+            (record { moment = moment; body = body.now }) (map string_bytes answers.now)) }
         ensures saved { HasCleanDisk (state S.Store self.new.connection) → Serves S.Store self.old
             → OnOk result ((saved_base (shown_base (state S.Store self.new.connection))
             ≡ Some (Some (self.old.last, record { moment = moment; body = body.now })))
-            × (shown_rows (state S.Store self.new.connection) ≡ [])) }
+            × (shown_rows (state S.Store self.new.connection) ≡ [])
+            × ((before : _)
+            → saved_answers (shown_answers (state S.Store self.old.connection)) ≡ Ok before
+            → saved_answers (shown_answers (state S.Store self.new.connection))
+            ≡ Ok (before ++ map string_bytes answers.now))) }
         ensures last { self.new.last ≡ self.old.last }
         ensures err { HasCleanDisk (state S.Store self.new.connection) → Serves S.Store self.old
             → OnErr result (IsLeft (state S.Store self.old.connection)
@@ -262,7 +278,9 @@ impl<S: Alter + Drop> BatchTable<S> {
         ensures crash { Serves S.Store self.old
             → Survives (state S.Store self.old.connection) (state S.Store self.new.connection)
             (Holds (state S.Store self.old.connection)
-            (stored self.old.last (record { moment = moment; body = body.now }) ∷ []) []) }
+            (stored self.old.last (record { moment = moment; body = body.now }) ∷ []) []
+            (with_answers (answers_in (state S.Store self.old.connection))
+            (map string_bytes answers.now))) }
         ensures durable { HasCleanDisk (state S.Store self.new.connection)
             → Serves S.Store self.old
             → OnOk result (Lasts (state S.Store self.new.connection)) }
@@ -278,7 +296,7 @@ impl<S: Alter + Drop> BatchTable<S> {
         }
         // it ensures that the moment is in range
         let _ = moment.millis();
-        put_checkpoint(&mut self.connection, self.last, moment, body)?;
+        put_checkpoint(&mut self.connection, self.last, moment, body, answers)?;
         Ok(())
     }
 
@@ -369,6 +387,37 @@ impl<S: Alter + Drop> BatchTable<S> {
         };
         self.each(alloc, behind, &mut all)?;
         Ok(all.rows)
+    }
+
+    /// Gives each answer to the taker, in the order of their numbers, one at a time. It ends at the first
+    /// bad row, one that has no text or not the number that is due after those before it (`BadRow(0)`),
+    /// or at the first that is refused. Whatever the store returned, some answers were taken in turn.
+    pub fn each_answer<T: TakeAnswer>(
+        &mut self,
+        alloc: Global,
+        taker: &mut T,
+    ) -> Result<(), SavedFault>
+        ensures goes { HasCleanDisk (state S.Store self.new.connection) → Serves S.Store self.old
+            → GoesOverAnswers T.takes T.refuses
+            (shown_answers (state S.Store self.old.connection)) taker.old taker.new result }
+        ensures taken { OnOk result (TakesRows T.takes
+            (λ bodies. HasCleanDisk (state S.Store self.new.connection) → Serves S.Store self.old
+            → saved_answers (shown_answers (state S.Store self.old.connection)) ≡ Ok bodies)
+            taker.old taker.new) }
+        ensures left { HasCleanDisk (state S.Store self.new.connection) → Serves S.Store self.old
+            → IsLeft (state S.Store self.old.connection) (state S.Store self.new.connection) }
+        ensures same { HasCleanDisk (state S.Store self.new.connection) → Serves S.Store self.old
+            → OnOk result (IsUnchanged (state S.Store self.old.connection)
+            (state S.Store self.new.connection)) }
+        ensures shut { HasCleanDisk (state S.Store self.new.connection) → Serves S.Store self.old
+            → (IsTrue (state S.Store self.old.connection).is_open → ⊥)
+            → is_ok result ≡ false }
+        ensures last { self.new.last ≡ self.old.last }
+        ensures crash { Survives (state S.Store self.old.connection)
+            (state S.Store self.new.connection) (λ _. ⊥) }
+        ensures serves { Serves S.Store self.old → Serves S.Store self.new }
+    {
+        go_over_answers(alloc, &mut self.connection, taker)
     }
 
     /// The connection, with the same rows.

@@ -7,6 +7,7 @@ use Rattle.pres_batch_rows.specs.SavedCheckpoints.{saved_base}
 use Rattle.pres_batch_rows.specs.RowContents.{shown_base}
 use Rattle.pres_batch_rows.proofs.CheckpointStatements.{base_text}
 use Rattle.pres_batch_rows.proofs.Basing.{shows_base, no_item, one_item, more_items}
+use Rattle.pres_batch_rows.proofs.Formats.{holds_three}
 use Rattle.pres_batch_rows.proofs.Inserting.{left_by}
 use Rattle.pres_batch_rows.proofs.Plain.{base_is_read, shown_same, query_fails, commits_none}
 use Rattle.pres_batch_rows.proofs.base.read_checkpoint.Goals as goal
@@ -97,7 +98,7 @@ returns-in-empty-clause-read g c clean k awaits =
     let early : HasCleanDisk old = omega (arith, c.query_all.ensures.survives.clean, clean) in
     let shown = c.in_ok-rows.ensures.ok clean in
     let live = (shown_same base_text base_is_read old new _ shown).0.was_open in
-    let same : saved_base (shown_base old) ≡ saved_base c.as_slice.result.now = sym (shows_base old new _ ((awaits early).ready live).ours shown) ∙ ap saved_base (sym c.as_slice.ensures.value) in
+    let same : saved_base (shown_base old) ≡ saved_base c.as_slice.result.now = sym (shows_base old new _ (holds_three old.now ((awaits early).ready live).ours) shown) ∙ ap saved_base (sym c.as_slice.ensures.value) in
     same ∙ no_item c.as_slice.result.now c.in-empty.len_below
 
 pub returns-in-len1-clause-read : goal.returns-in-len1-clause-read
@@ -107,7 +108,7 @@ returns-in-len1-clause-read g c clean k awaits =
     let early : HasCleanDisk old = omega (arith, c.query_all.ensures.survives.clean, clean) in
     let shown = c.in_ok-rows.ensures.ok clean in
     let live = (shown_same base_text base_is_read old new _ shown).0.was_open in
-    let same : saved_base (shown_base old) ≡ saved_base c.as_slice.result.now = sym (shows_base old new _ ((awaits early).ready live).ours shown) ∙ ap saved_base (sym c.as_slice.ensures.value) in
+    let same : saved_base (shown_base old) ≡ saved_base c.as_slice.result.now = sym (shows_base old new _ (holds_three old.now ((awaits early).ready live).ours) shown) ∙ ap saved_base (sym c.as_slice.ensures.value) in
     same ∙ one_item c.as_slice.result.now c.row-item.result c.in-len1.len_at_least c.in-len1.len_below c.row-item.is ∙ ap (option_map Some) c.in_ok-read_base-in-len1.ensures
 
 pub returns-in_err-read_base-in-len1-clause-read : goal.returns-in_err-read_base-in-len1-clause-read
@@ -117,7 +118,7 @@ returns-in_err-read_base-in-len1-clause-read g c clean k awaits =
     let early : HasCleanDisk old = omega (arith, c.query_all.ensures.survives.clean, clean) in
     let shown = c.in_ok-rows.ensures.ok clean in
     let live = (shown_same base_text base_is_read old new _ shown).0.was_open in
-    let same : saved_base (shown_base old) ≡ saved_base c.as_slice.result.now = sym (shows_base old new _ ((awaits early).ready live).ours shown) ∙ ap saved_base (sym c.as_slice.ensures.value) in
+    let same : saved_base (shown_base old) ≡ saved_base c.as_slice.result.now = sym (shows_base old new _ (holds_three old.now ((awaits early).ready live).ours) shown) ∙ ap saved_base (sym c.as_slice.ensures.value) in
     let p = err_from_is_err_and c.from_residual-in_err-read_base-in-len1.result c.from_residual-in_err-read_base-in-len1.ensures.1 in
     rw (p.1, p.2) (elim c.in_err-read_base-in-len1.ensures [
       | inl memory ↦ inr (inl memory)
@@ -131,6 +132,6 @@ returns-clause-read g c clean k awaits =
     let early : HasCleanDisk old = omega (arith, c.query_all.ensures.survives.clean, clean) in
     let shown = c.in_ok-rows.ensures.ok clean in
     let live = (shown_same base_text base_is_read old new _ shown).0.was_open in
-    let same : saved_base (shown_base old) ≡ saved_base c.as_slice.result.now = sym (shows_base old new _ ((awaits early).ready live).ours shown) ∙ ap saved_base (sym c.as_slice.ensures.value) in
+    let same : saved_base (shown_base old) ≡ saved_base c.as_slice.result.now = sym (shows_base old new _ (holds_three old.now ((awaits early).ready live).ours) shown) ∙ ap saved_base (sym c.as_slice.ensures.value) in
     let many : 2 ≤ length c.as_slice.result.now = omega (arith, c.in_default.len_at_least) in
     inl (ap BadRow c.zero.ensures, same ∙ more_items c.as_slice.result.now many)

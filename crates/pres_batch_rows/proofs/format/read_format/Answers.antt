@@ -22,8 +22,8 @@ returns-in_default-clause-left g c clean alone =
     let settled : IsTrue old.is_open → old.now ≡ old.committed = λ live. c.is_autocommit-alone.ensures.settled (rw (c.is_autocommit-alone.ensures.value, alone)) live in
     left_by old new settled alone (row_left format_text format_is_read old new (Ok c.in-Ok.row) (c.in-Ok.ensures.row clean))
 
-pub returns-then-format-eq2-clause-left : goal.returns-then-format-eq2-clause-left
-returns-then-format-eq2-clause-left g c clean alone =
+pub returns-then-format-eq3-clause-left : goal.returns-then-format-eq3-clause-left
+returns-then-format-eq3-clause-left g c clean alone =
     let old = state g.S.Store c.args.connection.now in
     let new = state g.S.Store c.query_row.new.self in
     let settled : IsTrue old.is_open → old.now ≡ old.committed = λ live. c.is_autocommit-alone.ensures.settled (rw (c.is_autocommit-alone.ensures.value, alone)) live in
@@ -36,8 +36,8 @@ returns-clause-left g c clean alone =
     let settled : IsTrue old.is_open → old.now ≡ old.committed = λ live. c.is_autocommit-alone.ensures.settled (rw (c.is_autocommit-alone.ensures.value, alone)) live in
     left_by old new settled alone (row_left format_text format_is_read old new (Ok c.in-Ok.row) (c.in-Ok.ensures.row clean))
 
-pub returns-then-format-eq2-clause-same : goal.returns-then-format-eq2-clause-same
-returns-then-format-eq2-clause-same g c clean =
+pub returns-then-format-eq3-clause-same : goal.returns-then-format-eq3-clause-same
+returns-then-format-eq3-clause-same g c clean =
     row_same format_text format_is_read (state g.S.Store c.args.connection.now) (state g.S.Store c.query_row.new.self) c.in-Ok.row (c.in-Ok.ensures.row clean)
 
 pub returns-in-Err-clause-crash : goal.returns-in-Err-clause-crash
@@ -46,8 +46,8 @@ returns-in-Err-clause-crash g c = commits_none format_text format_is_read (state
 pub returns-in_default-clause-crash : goal.returns-in_default-clause-crash
 returns-in_default-clause-crash g c = commits_none format_text format_is_read (state g.S.Store c.args.connection.now) (state g.S.Store c.query_row.new.self) c.query_row.ensures.survives
 
-pub returns-then-format-eq2-clause-crash : goal.returns-then-format-eq2-clause-crash
-returns-then-format-eq2-clause-crash g c = commits_none format_text format_is_read (state g.S.Store c.args.connection.now) (state g.S.Store c.query_row.new.self) c.query_row.ensures.survives
+pub returns-then-format-eq3-clause-crash : goal.returns-then-format-eq3-clause-crash
+returns-then-format-eq3-clause-crash g c = commits_none format_text format_is_read (state g.S.Store c.args.connection.now) (state g.S.Store c.query_row.new.self) c.query_row.ensures.survives
 
 pub returns-clause-crash : goal.returns-clause-crash
 returns-clause-crash g c = commits_none format_text format_is_read (state g.S.Store c.args.connection.now) (state g.S.Store c.query_row.new.self) c.query_row.ensures.survives

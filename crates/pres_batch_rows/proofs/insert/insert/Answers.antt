@@ -27,7 +27,7 @@ returns-in_err-statement-clause-crash g c awaits =
     survives_weaker (state g.S.Store c.args.connection.now) (state g.S.Store c.prepare.new.self) _ _ (λ _ db none. absurd none) c.prepare.ensures.survives
 
 pub returns-in_err-statement-clause-outlasts : goal.returns-in_err-statement-clause-outlasts
-returns-in_err-statement-clause-outlasts g c clean awaits base rows last db may =
+returns-in_err-statement-clause-outlasts g c clean awaits base rows answers last db may =
     elim (c.prepare.ensures.survives.crash clean db may) [ inl before ↦ last db before | inr none ↦ absurd none ]
 
 pub returns-in_err-statement-clause-named : goal.returns-in_err-statement-clause-named
@@ -69,7 +69,7 @@ returns-in_err-execute-clause-crash g c awaits =
     kept
 
 pub returns-in_err-execute-clause-outlasts : goal.returns-in_err-execute-clause-outlasts
-returns-in_err-execute-clause-outlasts g c clean awaits base rows last =
+returns-in_err-execute-clause-outlasts g c clean awaits base rows answers last =
     let ek : to_z w64 c.args.number ≡ pos c.args.number = omega (arith, ints, c.requires) in
     let em : to_z w64 c.millis-millis.result ≡ pos c.args.moment = omega (arith, ints, c.millis-millis.ensures.millis, c.millis-millis.ensures.bound) in
     let et : c.as_bytes-text.result.now ≡ c.args.body.now = search rules in
@@ -84,7 +84,7 @@ returns-in_err-execute-clause-outlasts g c clean awaits base rows last =
     survives_weaker mid new _ _ (λ clean db may. subst (λ sql. CommitsBy sql (params_for c.args.number b) mid db) (text (omega (arith, c.execute.ensures.survives.clean, clean))) may) (rw (ek, em, et) at c.execute.ensures.survives) in
     let kept : Survives old new (WithRow old c.args.number b) = survives_then_insert old mid new c.args.number b awaits c.prepare.ensures.survives same settled inserted in
     let early : HasCleanDisk old = omega (arith, kept.clean, clean) in
-    outlasts old new c.args.number b (λ live. g.met.S.Store.stays c.args.connection.now.store live) (λ live. settled (awaits early).alone live) kept clean base rows last
+    outlasts old new c.args.number b (λ live. g.met.S.Store.stays c.args.connection.now.store live) (λ live. settled (awaits early).alone live) kept clean base rows answers last
 
 pub returns-in_err-execute-clause-named : goal.returns-in_err-execute-clause-named
 returns-in_err-execute-clause-named g c = grind (arith, common_steps)
@@ -140,7 +140,7 @@ returns-clause-crash g c awaits =
     kept
 
 pub returns-clause-outlasts : goal.returns-clause-outlasts
-returns-clause-outlasts g c clean awaits base rows last =
+returns-clause-outlasts g c clean awaits base rows answers last =
     let ek : to_z w64 c.args.number ≡ pos c.args.number = omega (arith, ints, c.requires) in
     let em : to_z w64 c.millis-millis.result ≡ pos c.args.moment = omega (arith, ints, c.millis-millis.ensures.millis, c.millis-millis.ensures.bound) in
     let et : c.as_bytes-text.result.now ≡ c.args.body.now = search rules in
@@ -155,4 +155,4 @@ returns-clause-outlasts g c clean awaits base rows last =
     survives_weaker mid new _ _ (λ clean db may. subst (λ sql. CommitsBy sql (params_for c.args.number b) mid db) (text (omega (arith, c.execute.ensures.survives.clean, clean))) may) (rw (ek, em, et) at c.execute.ensures.survives) in
     let kept : Survives old new (WithRow old c.args.number b) = survives_then_insert old mid new c.args.number b awaits c.prepare.ensures.survives same settled inserted in
     let early : HasCleanDisk old = omega (arith, kept.clean, clean) in
-    outlasts old new c.args.number b (λ live. g.met.S.Store.stays c.args.connection.now.store live) (λ live. settled (awaits early).alone live) kept clean base rows last
+    outlasts old new c.args.number b (λ live. g.met.S.Store.stays c.args.connection.now.store live) (λ live. settled (awaits early).alone live) kept clean base rows answers last

@@ -1,7 +1,7 @@
 use Rattle.std.proofs.Common.{◌≡◌}
 use Rattle.sqlite.specs.State.{Survives}
 use Rattle.sqlite.specs.Held.{state}
-use Rattle.pres_batch_rows.proofs.Progress.{SoFar}
+use Rattle.pres_batch_rows.proofs.Progress.{batch_reading, SoFar}
 use Rattle.pres_batch_rows.proofs.take.go_over.Given as goal
 
 abbrev pub invariant-rows : goal.invariant-rows
@@ -10,4 +10,4 @@ invariant-rows g l =
     let now = state g.S.Store l.rows.conn.now in
     (l.rows.conn.ghost_name ≡ l.initial.rows.conn.ghost_name)
     × Survives old now (λ _. ⊥)
-    × SoFar g.S.Store g.T.Take.takes l.fn.connection l.fn.taker l.fn.behind l.rows.conn.now l.taker l.before
+    × SoFar batch_reading g.S.Store g.T.Take.takes l.fn.connection l.fn.taker l.fn.behind l.rows.conn.now l.taker l.before

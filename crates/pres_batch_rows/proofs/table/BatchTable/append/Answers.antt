@@ -28,10 +28,10 @@ pub returns-clause-durable : goal.returns-clause-durable
 returns-clause-durable g c = rw (← c.self.view_is) (λ clean serves. c.in_ok-insert.ensures.durable clean serves)
 
 pub returns-clause-outlasts : goal.returns-clause-outlasts
-returns-clause-outlasts g c = rw (← c.self.view_is) (λ clean serves base rows last. c.insert.ensures.outlasts clean serves base rows last)
+returns-clause-outlasts g c = rw (← c.self.view_is) (λ clean serves base rows answers last. c.insert.ensures.outlasts clean serves base rows answers last)
 
 pub returns-in_err-insert-clause-outlasts : goal.returns-in_err-insert-clause-outlasts
-returns-in_err-insert-clause-outlasts g c = rw (← c.self.view_is) (λ clean serves base rows last. c.insert.ensures.outlasts clean serves base rows last)
+returns-in_err-insert-clause-outlasts g c = rw (← c.self.view_is) (λ clean serves base rows answers last. c.insert.ensures.outlasts clean serves base rows answers last)
 
 pub returns-clause-stays : goal.returns-clause-stays
 returns-clause-stays g c =

@@ -37,19 +37,19 @@ pub returns-clause-outlasts : goal.returns-clause-outlasts
 returns-clause-outlasts g c =
     let old = state g.S.Store c.self.inside.connection in
     let new = state g.S.Store c.insert_all.new.connection in
-    rw (← c.self.view_is) (λ clean serves base rows last.
+    rw (← c.self.view_is) (λ clean serves base rows answers last.
     let kept = c.insert_all.ensures.crash serves in
     let early : HasCleanDisk old = omega (arith, kept.clean, clean) in
-    outlasts_all old new (c.self.inside.last + 1) (map saved_of c.args.rows.now) (λ live. g.met.S.Store.stays c.self.inside.connection.store live) (λ live. c.insert_all.ensures.settled (serves early).alone live) kept clean base rows last)
+    outlasts_all old new (c.self.inside.last + 1) (map saved_of c.args.rows.now) (λ live. g.met.S.Store.stays c.self.inside.connection.store live) (λ live. c.insert_all.ensures.settled (serves early).alone live) kept clean base rows answers last)
 
 pub returns-in_err-insert_all-clause-outlasts : goal.returns-in_err-insert_all-clause-outlasts
 returns-in_err-insert_all-clause-outlasts g c =
     let old = state g.S.Store c.self.inside.connection in
     let new = state g.S.Store c.insert_all.new.connection in
-    rw (← c.self.view_is) (λ clean serves base rows last.
+    rw (← c.self.view_is) (λ clean serves base rows answers last.
     let kept = c.insert_all.ensures.crash serves in
     let early : HasCleanDisk old = omega (arith, kept.clean, clean) in
-    outlasts_all old new (c.self.inside.last + 1) (map saved_of c.args.rows.now) (λ live. g.met.S.Store.stays c.self.inside.connection.store live) (λ live. c.insert_all.ensures.settled (serves early).alone live) kept clean base rows last)
+    outlasts_all old new (c.self.inside.last + 1) (map saved_of c.args.rows.now) (λ live. g.met.S.Store.stays c.self.inside.connection.store live) (λ live. c.insert_all.ensures.settled (serves early).alone live) kept clean base rows answers last)
 
 pub returns-clause-stays : goal.returns-clause-stays
 returns-clause-stays g c =

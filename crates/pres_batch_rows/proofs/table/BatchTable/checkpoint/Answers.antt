@@ -1,12 +1,13 @@
-use Rattle.std.proofs.Common.{◌+◌, ◌≤◌, ◌∷◌, [], map, refl, ap, ◌∙◌, arith}
+use Rattle.std.proofs.Common.{◌≡◌, ℕ, List, Ok, ◌+◌, ◌≤◌, ◌∷◌, ◌++◌, [], map, string_bytes, refl, ap, ◌∙◌, arith}
 use Rattle.sqlite.specs.Effect.{Database}
 use Rattle.sqlite.specs.Held.{state}
 use Rattle.sqlite.specs.State.{HasCleanDisk}
 use Rattle.pres_ids.specs.Numbers.{greatest_number}
-use Rattle.pres_batch_rows.specs.RowContents.{RowContent, stored, shown_row}
+use Rattle.pres_batch_rows.specs.RowContents.{RowContent, stored, with_answers, answers_in, shown_row, shown_answer, shown_answers, saved_answers}
 use Rattle.pres_batch_rows.specs.SavedCheckpoints.{saved_base}
 use Rattle.pres_batch_rows.proofs.Formats.{may_stay, idle_saved}
 use Rattle.pres_batch_rows.proofs.Growing.{reads_base}
+use Rattle.pres_batch_rows.proofs.Telling.{told_rising, saved_texts}
 use Rattle.pres_batch_rows.proofs.table.BatchTable.checkpoint.Goals as goal
 
 pub returns-clause-ok : goal.returns-clause-ok
@@ -27,8 +28,10 @@ returns-clause-serves g c =
     rw (← c.self.view_is) (λ serves clean.
     let early : HasCleanDisk old = omega (arith, (c.put_checkpoint.ensures.crash (k + 1) serves).clean, clean) in
     let saved = c.in_ok-put_checkpoint.ensures.ok clean (k + 1) serves in
-    let two = ((serves early).ready saved.was_open).ours in
-    idle_saved old new (stored k b ∷ []) [] (k + 1) two saved tt tt (refl, tt) tt)
+    let it = ((serves early).ready saved.was_open).ours in
+    let bodies = map string_bytes c.args.answers.now in
+    let answers = told_rising (answers_in old) bodies it.answers_numbered it.answers_rising in
+    idle_saved old new (stored k b ∷ []) [] (with_answers (answers_in old) bodies) (k + 1) it saved tt tt (refl, tt) answers.1 answers.0 tt)
 
 pub returns-clause-stays : goal.returns-clause-stays
 returns-clause-stays g c =
@@ -46,12 +49,16 @@ returns-in_err-put_checkpoint-clause-stays g c =
 
 pub returns-clause-saved : goal.returns-clause-saved
 returns-clause-saved g c =
+    let old = state g.S.Store c.self.inside.connection in
+    let new = state g.S.Store c.put_checkpoint.new.connection in
     let k = c.self.inside.last in
     let b : RowContent = record { moment = c.args.moment; body = c.args.body.now } in
     let low : k ≤ greatest_number = omega (arith, c.if-self-gt-MAX_SAFE_INTEGER.false) in
     rw (← c.self.view_is) (λ clean serves.
     let it = c.in_ok-put_checkpoint.ensures.ok clean (k + 1) serves in
-    (ap (λ rows. saved_base (map shown_row rows)) it.base ∙ reads_base k b low c.millis.ensures.bound c.utf8.body, ap (map shown_row) it.rows))
+    let told : (before : List (List ℕ)) → saved_answers (shown_answers old) ≡ Ok before → saved_answers (shown_answers new) ≡ Ok (before ++ map string_bytes c.args.answers.now) =
+    λ before holds. ap (λ rows. saved_answers (map shown_answer rows)) it.answers ∙ saved_texts (answers_in old) c.args.answers.now before holds in
+    (ap (λ rows. saved_base (map shown_row rows)) it.base ∙ reads_base k b low c.millis.ensures.bound c.utf8.body, ap (map shown_row) it.rows, told))
 
 pub returns-clause-shut : goal.returns-clause-shut
 returns-clause-shut g c = rw (← c.self.view_is) (λ clean serves shut. absurd (shut (c.in_ok-put_checkpoint.ensures.ok clean (c.self.inside.last + 1) serves).was_open))

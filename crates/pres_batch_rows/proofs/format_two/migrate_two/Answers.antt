@@ -7,10 +7,11 @@ use Rattle.sqlite.specs.Held.{state}
 use Rattle.sqlite.specs.State.{HasCleanDisk, Survives}
 use Rattle.sqlite.proofs.StateLemmas.{survives_then}
 use Rattle.sqlite.proofs.Callers.{survives_begin}
-use Rattle.pres_batch_rows.specs.TableStates.{IsOfFormatOne}
-use Rattle.pres_batch_rows.specs.Migrations.{IsMigrated, HoldsFormatTwo, Migrates, FailsToMigrate}
-use Rattle.pres_batch_rows.proofs.Making.{migrates_both, err_weaker}
-use Rattle.pres_batch_rows.proofs.migrate.migrate.Goals as goal
+use Rattle.pres_batch_rows.specs.RowContents.{checkpoints_in}
+use Rattle.pres_batch_rows.specs.TableStates.{IsOfFormatTwo}
+use Rattle.pres_batch_rows.specs.Migrations.{IsMigrated, HoldsFormatThree, MigratesTwo, FailsToMigrateTwo}
+use Rattle.pres_batch_rows.proofs.Making.{migrates_two, err_weaker}
+use Rattle.pres_batch_rows.proofs.format_two.migrate_two.Goals as goal
 
 pub returns-clause-ok : goal.returns-clause-ok
 returns-clause-ok g c clean one_format =
@@ -26,18 +27,19 @@ returns-clause-ok g c clean one_format =
     let one = c.in_ok-execute.ensures.runs (omega (arith, c.execute-2.ensures.survives.clean, late)) (rw begun) in
     let two = c.in_ok-execute-2.ensures.runs late one.1.mode in
     let live : IsTrue old.is_open = rw begun at one.1.was_open in
-    let all = migrates_both start first second c.in_ok-execute.field-0 c.in_ok-execute-2.field-0 (rw begun one_format.schema) (rw begun one_format.format) one.0 two.0 in
-    let finish : OnOk c.commit.result (IsMigrated old (state g.S.Store end)) = on_ok_weaker c.commit.result (λ done. record {
+    let all = migrates_two start first second c.in_ok-execute.field-0 c.in_ok-execute-2.field-0 2 (rw begun one_format.schema) (rw begun one_format.format) one.0 two.0 in
+    let finish : OnOk c.commit.result (IsMigrated old (state g.S.Store end) (checkpoints_in old)) = on_ok_weaker c.commit.result (λ done. record {
       schema = ap (λ (d : Database). d.schema) done.1.now_is ∙ all.0;
       rows = ap (λ (d : Database). d.trees 2) done.1.now_is ∙ rw begun at all.1;
-      base = ap (λ (d : Database). d.trees 3) done.1.now_is ∙ all.2;
+      base = ap (λ (d : Database). d.trees 3) done.1.now_is ∙ rw begun at all.2;
+      answers = ap (λ (d : Database). d.trees 4) done.1.now_is ∙ all.4;
       format = ap (λ (d : Database). d.trees 0) done.1.now_is ∙ all.3;
       committed = done.1.committed_is ∙ sym done.1.now_is;
       mode = done.1.mode;
       was_open = live;
       is_open = done.1.is_open;
     }) (c.commit.ensures.ok ended) in
-    subst (λ h. OnOk c.commit.result (IsMigrated old (state g.S.Store h))) same finish
+    subst (λ h. OnOk c.commit.result (IsMigrated old (state g.S.Store h) (checkpoints_in old))) same finish
 
 pub returns-clause-migrates : goal.returns-clause-migrates
 returns-clause-migrates g c clean =
@@ -51,10 +53,10 @@ returns-clause-migrates g c clean =
     let late : HasCleanDisk (state g.S.Store second) = omega (arith, c.commit.ensures.survives.clean, ended) in
     let one = c.in_ok-execute.ensures.runs (omega (arith, c.execute-2.ensures.survives.clean, late)) (rw begun) in
     let two = c.in_ok-execute-2.ensures.runs late one.1.mode in
-    let finish : OnOk c.commit.result (Migrates g.S.Store was (state g.S.Store end)) = on_ok_weaker c.commit.result (λ done.
+    let finish : OnOk c.commit.result (MigratesTwo g.S.Store was (state g.S.Store end)) = on_ok_weaker c.commit.result (λ done.
     (first, c.in_ok-execute.field-0, rw begun at one, (second, c.in_ok-execute-2.field-0, two, (done.1.now_is, done.1.committed_is))))
     (c.commit.ensures.ok ended) in
-    subst (λ h. OnOk c.commit.result (Migrates g.S.Store was (state g.S.Store h))) same finish
+    subst (λ h. OnOk c.commit.result (MigratesTwo g.S.Store was (state g.S.Store h))) same finish
 
 pub returns-in_err-execute-clause-refused : goal.returns-in_err-execute-clause-refused
 returns-in_err-execute-clause-refused g c clean =
@@ -92,7 +94,7 @@ returns-clause-refused g c clean =
     let late : HasCleanDisk (state g.S.Store second) = omega (arith, c.commit.ensures.survives.clean, ended) in
     let one = c.in_ok-execute.ensures.runs (omega (arith, c.execute-2.ensures.survives.clean, late)) (rw begun) in
     let two = c.in_ok-execute-2.ensures.runs late one.1.mode in
-    err_weaker c.commit.result (FailsToCommit (state g.S.Store second) (state g.S.Store end)) (FailsToMigrate g.S.Store was)
+    err_weaker c.commit.result (FailsToCommit (state g.S.Store second) (state g.S.Store end)) (FailsToMigrateTwo g.S.Store was)
     (λ e failed. inr (inr (first, c.in_ok-execute.field-0, rw begun at one, (second, c.in_ok-execute-2.field-0, two, (end, failed)))))
     (c.commit.ensures.err ended)
 
@@ -106,16 +108,16 @@ returns-clause-crash g c =
     let begun = c.transaction-tx.ensures.begun in
     let end = c.commit.new.self.0 in
     let same : end ≡ c.connection-2-1.given.0 = search rules in
-    let leaves = λ (db : Trees). IsOfFormatOne old.now → HoldsFormatTwo old db in
-    let holds : HasCleanDisk second → IsOfFormatOne old.now → HoldsFormatTwo old second.now.trees = λ late one_format.
+    let leaves = λ (db : Trees). IsOfFormatTwo old.now → HoldsFormatThree old (checkpoints_in old) db in
+    let holds : HasCleanDisk second → IsOfFormatTwo old.now → HoldsFormatThree old (checkpoints_in old) second.now.trees = λ late one_format.
     let one = c.in_ok-execute.ensures.runs (omega (arith, c.execute-2.ensures.survives.clean, late)) (rw begun) in
     let two = c.in_ok-execute-2.ensures.runs late one.1.mode in
     let live : IsTrue old.is_open = rw begun at one.1.was_open in
-    let all = migrates_both start first second c.in_ok-execute.field-0 c.in_ok-execute-2.field-0 (rw begun one_format.schema) (rw begun one_format.format) one.0 two.0 in
-    (live, rw begun at all.1, all.2, all.3) in
+    let all = migrates_two start first second c.in_ok-execute.field-0 c.in_ok-execute-2.field-0 2 (rw begun one_format.schema) (rw begun one_format.format) one.0 two.0 in
+    (live, rw begun at all.1, rw begun at all.2, all.3, all.4) in
     let none = λ (db : Trees). ⊥ in
     let inside = survives_then start first second _ _ none (λ _ db x. x) (λ _ db x. x) c.execute.ensures.survives c.execute-2.ensures.survives in
     let whole = survives_then old second (state g.S.Store end) _ _ leaves (λ _ db x. absurd x)
-    (λ clean db is one_format. subst (HoldsFormatTwo old) (sym is) (holds (omega (arith, c.commit.ensures.survives.clean, clean)) one_format))
+    (λ clean db is one_format. subst (HoldsFormatThree old (checkpoints_in old)) (sym is) (holds (omega (arith, c.commit.ensures.survives.clean, clean)) one_format))
     (survives_begin g.S.Store was second _ (rw begun at inside)) c.commit.ensures.survives in
     subst (λ h. Survives old (state g.S.Store h) leaves) same whole
