@@ -48,7 +48,7 @@ before : {K : Type 0} (cmp : K → K → Ordering) (k : K) (ks : List K) → Dec
 before cmp k [] = ((λ h. tt), (λ h. refl))
 before cmp k (other ∷ ks) = Decides-and (is_lt (cmp k other)) (list_all (λ o. is_lt (cmp k o)) ks) (is_less (cmp k other)) (before cmp k ks)
 
-in_order : {K : Type 0} (cmp : K → K → Ordering) (ks : List K) → Decides (rise cmp ks) (IsStrictlySortedBy cmp ks)
+pub in_order : {K : Type 0} (cmp : K → K → Ordering) (ks : List K) → Decides (rise cmp ks) (IsStrictlySortedBy cmp ks)
 unfolding IsStrictlySortedBy
 in_order cmp [] = ((λ h. tt), (λ h. refl))
 in_order cmp (k ∷ ks) = Decides-and (list_all (λ o. is_lt (cmp k o)) ks) (rise cmp ks) (before cmp k ks) (in_order cmp ks)

@@ -6,3 +6,7 @@ pub mod Nulls
 pub mod OneNull
 pub mod Parts
 pub mod Plans
+pub mod Merging
+pub mod Joining
+pub mod Tables
+pub mod ReaderSteps

@@ -54,7 +54,7 @@ body_same p =
 
 -- ---- the base
 
-ids_same : (clients : List ClientPart) → map (λ c. c.id) (map client_with_one_null clients) ≡ map (λ c. c.id) clients
+pub ids_same : (clients : List ClientPart) → map (λ c. c.id) (map client_with_one_null clients) ≡ map (λ c. c.id) clients
 ids_same [] = refl
 ids_same (c ∷ clients) = ap (λ ids. c.id ∷ ids) (ids_same clients)
 

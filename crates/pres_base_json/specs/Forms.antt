@@ -1,13 +1,18 @@
 -- The body of a checkpoint as JSON: what a base holds, without how many batches its log has and without its moment, which
 -- stand beside the body. Names are in byte order.
-use Rattle.std.specs.Prelude.{ℕ, List, [], ◌∷◌, codes}
+use Rattle.std.specs.Prelude.{ℕ, List, [], ◌∷◌, codes, map}
 use Rattle.serde_json.specs.Data.{Data, string, array, object, Items, no_items, item}
+use Rattle.serde_json.specs.View.{items_of}
 use Rattle.serde_json.specs.Written.{compact_text}
 use Rattle.pres_tree.specs.JsonPrinting.{json_of}
 use Rattle.pres_tree.specs.Scalars.{scalar_printing}
 use Rattle.pres_write.specs.Drafts.{slot_printing}
+use Rattle.pres_write.specs.declared.outcome.Kept.{Kept}
+use Rattle.pres_write.specs.declared.outcome.Kept.TheVariants.{Wrote, Stale}
+use Rattle.pres_ids.specs.Ids.{ClientId}
 use Rattle.pres_ids.specs.Forms.{whole, stamp_json, session_json}
 use Rattle.pres_retry.specs.declared.table.Row.{Row}
+use Rattle.pres_retry.specs.Tables.{Table}
 use Rattle.pres_plan.specs.declared.row.Action.{Action}
 use Rattle.pres_plan.specs.declared.row.Action.TheVariants.{Put, Keep}
 use Rattle.pres_plan.specs.declared.row.PlanRow.{PlanRow}
@@ -53,3 +58,26 @@ base_json p =
 -- its text, without a space
 abbrev pub body_text : BaseParts → List ℕ
 body_text p = compact_text (base_json p)
+
+-- ---- answers apart from a body
+
+-- an answer: the number at which its write was done, alone where it wrote, and before the value that its place held where it
+-- was stale
+abbrev pub kept_json : ℕ → Kept → Data
+kept_json done Wrote = whole done
+kept_json done (Stale held) = array (item (whole done) (item (out_json (Stale held)) no_items))
+
+abbrev pub row_json : Row → Data
+row_json row = kept_json row.done row.kept
+
+-- a client: its id, and the answers to its writes
+abbrev pub client_answers_json : ClientId × List Row → Data
+client_answers_json e = array (item (string e.0) (items_of (map row_json e.1)))
+
+-- the clients of a table
+abbrev pub answers_json : Table → Data
+answers_json = list_json client_answers_json
+
+-- its text, without a space
+abbrev pub answers_text : Table → List ℕ
+answers_text table = compact_text (answers_json table)

@@ -1,18 +1,20 @@
 -- Which text is the body of a checkpoint: exactly one that is printed of a base.
 use Rattle.std.specs.Prelude.{◌≡◌, ℕ, List, codes, map, Option, Some, None, option_and_then, option_map}
 use Rattle.serde_json.specs.Data.{Data, Items, no_items, item}
-use Rattle.serde_json.specs.Find.{as_array}
+use Rattle.serde_json.specs.Find.{as_array, as_str}
 use Rattle.serde_json.specs.Read.{read}
 use Rattle.pres_write.specs.Drafts.{slot_reading}
-use Rattle.pres_ids.specs.Forms.{message_number, message_count, client_of, stamp_in, session_of, pair_of}
+use Rattle.pres_write.specs.declared.outcome.Kept.TheVariants.{Wrote}
+use Rattle.pres_ids.specs.Ids.{ClientId}
+use Rattle.pres_ids.specs.Forms.{message_number, message_count, client_in, client_of, stamp_in, session_of, pair_of}
 use Rattle.pres_retry.specs.declared.table.Row.{Row}
 use Rattle.pres_retry.specs.Tables.{row}
 use Rattle.pres_plan.specs.declared.row.Action.{Action}
 use Rattle.pres_plan.specs.declared.row.Action.TheVariants.{Put, Keep}
 use Rattle.pres_plan.specs.declared.row.PlanRow.{PlanRow}
 use Rattle.pres_wire.specs.Fields.{field_of, path_of}
-use Rattle.pres_wire.specs.DownReads.{given, value_of, out_of, one_null}
-use Rattle.pres_batch_json.specs.Reads.{list_of, rows_below}
+use Rattle.pres_wire.specs.DownReads.{given, value_of, out_of, stale_in, one_null}
+use Rattle.pres_batch_json.specs.Reads.{all_of, list_of, rows_below}
 use Rattle.pres_base.specs.declared.parts.ClientPart.{ClientPart}
 use Rattle.pres_base.specs.declared.parts.SessionPart.{SessionPart}
 use Rattle.pres_base.specs.declared.parts.BaseParts.{BaseParts}
@@ -66,6 +68,29 @@ parts_in batches moment d =
     given (field_of (list_of client_part_in) (codes "clients") d) (λ clients.
     given (field_of (list_of session_part_in) (codes "sessions") d) (λ sessions.
     Some (record { batches = batches; moment = moment; number = number; tree = tree; clients = clients; sessions = sessions })))))
+
+-- ---- answers apart from a body
+
+-- a number alone wrote, and one before the value that a place held was stale
+abbrev pub row_by : Option ℕ → Data → Option Row
+row_by (Some done) d = Some (row done Wrote)
+row_by None d = given (pair_of d) (λ pair. given (message_number pair.0) (λ done. given (stale_in pair.1) (λ kept. Some (row done kept))))
+
+abbrev pub row_in : Data → Option Row
+row_in d = row_by (message_number d) d
+
+-- a text, and one item at least after it
+abbrev pub named_in_items : Items → Option (List ℕ × Items)
+named_in_items no_items = None
+named_in_items (item id no_items) = None
+named_in_items (item id (item first later)) = given (as_str id) (λ text. Some (text, item first later))
+
+abbrev pub named_in : Data → Option (List ℕ × Items)
+named_in d = option_and_then named_in_items (as_array d)
+
+-- a client's id, and one answer at least
+abbrev pub client_answers_in : Data → Option (ClientId × List Row)
+client_answers_in d = given (named_in d) (λ named. given (client_in named.0) (λ client. given (all_of row_in named.1) (λ rows. Some (client, rows))))
 
 -- ---- bodies
 

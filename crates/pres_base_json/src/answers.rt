@@ -76,7 +76,11 @@ fn write_wrote(out: &mut Writer, done: Number) -> Result<(), AllocError>
 }
 
 // Writes the answer to a stale write: `[done,{"stale":value}]`.
-fn write_held_answer(out: &mut Writer, done: Number, held: Option<&Tree>) -> Result<(), AllocError>
+pub(crate) fn write_held_answer(
+    out: &mut Writer,
+    done: Number,
+    held: Option<&Tree>,
+) -> Result<(), AllocError>
     ensures ok { OnOk result (out.new.tokens ≡ out.old.tokens
         ++ tokens_of (answer_json (row done (outcome.Stale (option_copied held.entry))))) }
     ensures before { out.new.before ≡ out.old.before }
