@@ -416,6 +416,14 @@ impl<K: Keeper + Drop, B: Bell + Clone + Drop> Dispatcher<K, B> {
         self.lines.strike(session, why);
     }
 
+    /// Whether batches of at least as many bytes were kept since the keeper's last checkpoint as that
+    /// one wrote.
+    pub fn is_due(&self) -> bool
+        ensures { result ≡ K.due self.now.run.keeper }
+    {
+        self.engine.is_due()
+    }
+
     /// Has the keeper keep the server's base in place of what it keeps, where at least `rise` entries
     /// were answered since the last time, or since what the start found: the number of the last one,
     /// none where it isn't due. Keeper: it isn't kept. Down: there is no server. The server and the

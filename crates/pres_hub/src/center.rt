@@ -432,6 +432,14 @@ impl<L: Ledger, K: Keeper + Drop, B: Bell + Clone + Drop> Core<L, K, B> {
         }
     }
 
+    /// Whether batches of at least as many bytes were kept since the keeper's last checkpoint as that
+    /// one wrote.
+    pub fn is_due(&self) -> bool
+        ensures { result ≡ K.due self.now.run.keeper }
+    {
+        self.dispatcher.is_due()
+    }
+
     /// Has the keeper keep the server's base in place of what it holds, where the number rose by at
     /// least `rise` since the last time, or since the base that the start found, or else since the
     /// first entry: the number, none where it isn't due. It is a step of the keeper alone. Keeper: it

@@ -438,6 +438,14 @@ impl<K: Keeper + Drop> Engine<K> {
         }
     }
 
+    /// Whether batches of at least as many bytes were kept since the keeper's last checkpoint as that
+    /// one wrote.
+    pub fn is_due(&self) -> bool
+        ensures { result ≡ K.due self.now.keeper }
+    {
+        self.keeper.is_due()
+    }
+
     /// The number of the last entry that was answered. When the engine is down, it is the one from
     /// before.
     pub fn number(&self) -> u64

@@ -1,6 +1,6 @@
 //! What keeps the history of a server.
 
-ghost use Rattle.std.specs.Prelude.{◌≡◌, ◌⊎◌, ◌+◌, ◌∷◌, [], false, Some, is_ok, OnOk, OnErr, IfOk, IfErr};
+ghost use Rattle.std.specs.Prelude.{Bool, ◌≡◌, ◌⊎◌, ◌+◌, ◌∷◌, [], false, Some, is_ok, OnOk, OnErr, IfOk, IfErr};
 ghost use Rattle.pres_base.specs.declared.parts.BaseParts.{BaseParts};
 ghost use Rattle.pres_log.specs.Logs.{Log};
 ghost use Rattle.pres_server.specs.Histories.{History, LeadsTo, with_batch, begun_at, with_batches};
@@ -57,6 +57,9 @@ pub trait Keeper {
     // What can be read of what an opening may find after a crash at this moment, where the store gave
     // back what was written.
     ghost may_find: { Self → Readable → Type 0 };
+
+    // Batches of at least as many bytes were kept since its last checkpoint as that one wrote.
+    ghost due: { Self → Bool };
 
     // Whatever a crash leaves from now on begins with this history, or at a sum to which it leads,
     // where the store gave back what was written.
@@ -219,6 +222,11 @@ pub trait Keeper {
             → may_find self.old held }
         ensures outlasts { (history : History) → ready self.old → outlasts self.old history
             → outlasts self.new history };
+
+    /// Whether batches of at least as many bytes were kept since its last checkpoint as that one wrote:
+    /// where each checkpoint waits for that, checkpoints never write more than batches do.
+    fn is_due(&self) -> bool
+        ensures { result ≡ due self.now };
 
     // A history is read to its end.
     ghost kept_is_read: { (kept : Self) (history : History) → keeps kept history

@@ -108,7 +108,7 @@ impl MemKeeper {
 }
 
 impl Keeper for MemKeeper {
-    ghost use Rattle.std.specs.Prelude.{◌≡◌, ⊤};
+    ghost use Rattle.std.specs.Prelude.{◌≡◌, ⊤, true};
     ghost use Rattle.std.proofs.Common.{ap};
     ghost use Rattle.pres_server.specs.BaseSums.{sum_for};
     ghost use Rattle.pres_server.specs.Histories.{begun_at, with_batches};
@@ -129,6 +129,9 @@ impl Keeper for MemKeeper {
     ghost shut = { λ _ _. ⊥ };
 
     ghost leaves = { λ _ _ _. ⊤ };
+
+    // A checkpoint writes nothing.
+    ghost due = { λ _. true };
 
     // Nothing is left to be opened.
     ghost may_find = { λ _ _. ⊥ };
@@ -183,5 +186,9 @@ impl Keeper for MemKeeper {
             Ok(server) => Ok((server, base_number)),
             Err(fault) => Err(bad_batch(fault)),
         }
+    }
+
+    fn is_due(&self) -> bool {
+        true
     }
 }

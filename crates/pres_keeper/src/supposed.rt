@@ -88,6 +88,8 @@ impl<K: Keeper, P: Premise> Keeper for Supposed<K, P> {
 
     ghost may_find = { λ kept held. P.holds × K.may_find kept held };
 
+    ghost due = { λ kept. K.due kept };
+
     ghost outlasts = { λ kept history. P.holds → K.outlasts kept history };
 
     ghost outlasting_is_found = { λ kept history held lasts finds.
@@ -117,5 +119,9 @@ impl<K: Keeper, P: Premise> Keeper for Supposed<K, P> {
 
     fn server(&mut self) -> Result<(Server, u64), SavedFault> {
         self.keeper.server()
+    }
+
+    fn is_due(&self) -> bool {
+        self.keeper.is_due()
     }
 }

@@ -66,6 +66,8 @@ impl<'a, K: Keeper, R: Clock> Keeper for CountedKeeper<'a, K, R> {
 
     ghost may_find = { λ kept held. K.may_find kept held };
 
+    ghost due = { λ kept. K.due kept };
+
     ghost outlasts = { λ kept history. K.outlasts kept history };
 
     ghost outlasting_is_found = { λ kept history held lasts finds.
@@ -111,6 +113,10 @@ impl<'a, K: Keeper, R: Clock> Keeper for CountedKeeper<'a, K, R> {
 
     fn server(&mut self) -> Result<(Server, u64), SavedFault> {
         self.keeper.server()
+    }
+
+    fn is_due(&self) -> bool {
+        self.keeper.is_due()
     }
 }
 

@@ -88,9 +88,9 @@ impl<R: Clock> pres_sock::Clock for WallClock<'_, R> {
 /// connections that are open end, and it prints why. It prints on the error stream when commits begin
 /// to be refused, and when they are taken again.
 ///
-/// The further thread also asks for a checkpoint once the number of the last entry has risen by 10,000,
-/// or by a tenth of it, if that is more, since the last one; and at an end that was requested, after all
-/// connections, if it has risen at all. One that is refused is asked for again a minute later. It is printed too when
+/// The further thread also asks for a checkpoint once the number of the last entry has risen by 10,000
+/// since the last one, and the keeper kept as many bytes of batches as that one wrote; and at an end that
+/// was requested, after all connections, if the number has risen at all. One that is refused is asked for again a minute later. It is printed too when
 /// checkpoints begin to be refused, and when they are taken again.
 ///
 /// A push ends the wait of its connection at once; where the system has no descriptors for that, it
@@ -310,10 +310,9 @@ fn tick_on<L: Ledger, K: Keeper + Drop, R: Wait + Clock>(
         pause = pause.saturating_sub(1);
         match tick(rt, hub, now, &mut due) {
             None => health.end(Halt::Down),
-            Some(number) => if health.halt().is_none() && (is_over || pause == 0) {
+            Some(is_due) => if health.halt().is_none() && (is_over || pause == 0) {
                 let is_asked = is_over && health.is_ending();
-                let rise = if is_asked { 1 } else { due_rise(number) };
-                if !ask_checkpoint(rt, hub, rise, health) {
+                if !ask_checkpoint(rt, hub, due_rise(is_asked, is_due), health) {
                     pause = REFUSED_TICKS;
                 }
             },
@@ -324,16 +323,17 @@ fn tick_on<L: Ledger, K: Keeper + Drop, R: Wait + Clock>(
     }
 }
 
-// Ends the sessions that are to end: the number of the last entry then, none if the hub is down.
+// Ends the sessions that are to end: whether the keeper holds enough for a checkpoint then, none if the
+// hub is down.
 fn tick<L: Ledger, K: Keeper + Drop, R: Wait>(
     rt: &R,
     hub: &Hub<L, K, StreamBell, OpenGate>,
     now: Moment,
     due: &mut Vec<StreamBell>,
-) -> Option<u64> {
+) -> Option<bool> {
     let mut core = hub.enter(rt, 0);
     let ticked = core.tick(now);
-    let number = core.number();
+    let is_due = core.is_due();
     core.take_due(None, due);
     drop(core);
     for bell in due.iter() {
@@ -342,18 +342,21 @@ fn tick<L: Ledger, K: Keeper + Drop, R: Wait>(
     due.clear();
     match ticked {
         Err(HubFault::Down) => None,
-        _ => Some(number),
+        _ => Some(is_due),
     }
 }
 
-// Asks for a checkpoint, which is due if the number of the last entry has risen by this much since the
-// last one: whether it isn't refused.
+// Asks for a checkpoint, where one may be due, if the number of the last entry has risen by this much
+// since the last one: whether it isn't refused.
 fn ask_checkpoint<L: Ledger, K: Keeper + Drop, R: Wait>(
     rt: &R,
     hub: &Hub<L, K, StreamBell, OpenGate>,
-    rise: u64,
+    rise: Option<u64>,
     health: &Health,
 ) -> bool {
+    let Some(rise) = rise else {
+        return true;
+    };
     let is_taken = hub.checkpoint(rt, 0, rise).is_ok();
     health.note_checkpoint(!is_taken);
     is_taken

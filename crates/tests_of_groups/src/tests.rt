@@ -64,6 +64,8 @@ impl Keeper for Refusing {
 
     ghost may_find = { λ _ _. ⊥ };
 
+    ghost due = { λ _. true };
+
     ghost outlasts = { λ k history. BeginsWith history (whole k.kept) };
 
     ghost outlasting_is_found = { λ _ _ _ _ finds. absurd finds };
@@ -101,6 +103,10 @@ impl Keeper for Refusing {
 
     fn server(&mut self) -> Result<(Server, u64), SavedFault> {
         self.kept.server()
+    }
+
+    fn is_due(&self) -> bool {
+        true
     }
 }
 
