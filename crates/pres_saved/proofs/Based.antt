@@ -1,38 +1,49 @@
 -- What is printed of a server's base, and what is read of a checkpoint.
-use Rattle.std.proofs.Common.{◌≡◌, ◌∙◌, ℕ, List, Some, option_map, sym, ap, subst, arith}
+use Rattle.std.proofs.Common.{◌≡◌, ◌∙◌, ℕ, List, Some, sym, ap, subst, arith}
 use Rattle.std.specs.Str.{IsUtf8}
 use Rattle.pres_base.specs.declared.parts.BaseParts.{BaseParts}
 use Rattle.pres_base.specs.Bases.{IsBase}
-use Rattle.pres_base_json.specs.Reads.{IsBody, with_one_null}
+use Rattle.pres_base.specs.AnswersApart.{without_answers, parts_above}
+use Rattle.pres_base.proofs.AnswersApart.{rest_is_base}
+use Rattle.pres_base_json.specs.Forms.{body_text}
+use Rattle.pres_base_json.specs.Reads.{with_one_null}
 use Rattle.pres_base_json.specs.Checks.{base_of_body}
-use Rattle.pres_base_json.proofs.Bodies.{read_to, read_from, one_null_read}
+use Rattle.pres_base_json.specs.Apart.{AreTextsOf, base_of_texts}
+use Rattle.pres_batch_rows.specs.RowContents.{RowContent}
 use Rattle.pres_server.specs.Sums.{Sum}
-use Rattle.pres_server.specs.BaseSums.{sum_for}
-use Rattle.pres_server.proofs.BaseSums.{base_has_sum}
-use Rattle.pres_keeper.specs.Keepers.{HoldsBase, KeepsOneNull}
+use Rattle.pres_server.specs.BaseSums.{sum_for, IsBaseAbove}
+use Rattle.pres_keeper.specs.Keepers.{KeepsOneNull}
 use Rattle.pres_saved.specs.SqlKeepers.{IsBaseReadBack}
-use Rattle.pres_saved.proofs.OneNull.{parts_have, sum_has}
+use Rattle.pres_saved.proofs.Growing.{body_read}
+use Rattle.pres_saved.proofs.OneNull.{sum_has, parts_above_has}
 
--- what holds of a base that is read
-pub body_holds : (batches moment : ℕ) (text : List ℕ) (p : BaseParts) → base_of_body batches moment text ≡ Some p → HoldsBase (sum_for p)
-body_holds batches moment text p found = record {
-  sum = base_has_sum p (read_from batches moment text p found).base;
-  nulls = parts_have p (one_null_read batches moment text (Some p) (sym found));
-}
-
--- what is printed of a base is read as one with its sum
-pub base_back : (p : BaseParts) (sum : Sum) (moment : ℕ) (body : List ℕ) → IsBase p → sum_for p ≡ sum → moment ≡ p.moment → IsBody p.batches p.moment body (with_one_null p) → IsUtf8 body → KeepsOneNull sum
-    → IsBaseReadBack sum (record { moment = moment; body = body })
-base_back p sum moment body base is when printed text nulls =
-    let same = sum_has p base (subst KeepsOneNull (sym is) nulls) in
-    let found : base_of_body p.batches p.moment body ≡ Some p = read_to p.batches p.moment body (with_one_null p) printed ∙ ap Some same in
-    let batches : p.batches ≡ sum.batches = ap (λ (s : Sum). s.batches) is in
+-- what is printed of a base, without its answers up to a number, is read as one with its sum
+pub base_back : (number : ℕ) (sum : Sum) (p : BaseParts) (row : RowContent) (texts : List (List ℕ)) → IsBaseAbove number sum p → row.moment ≡ p.moment → row.body ≡ body_text (without_answers p) → AreTextsOf texts (with_one_null p)
+    → base_of_texts p.batches p.moment row.body texts ≡ Some (with_one_null p) → IsUtf8 row.body → KeepsOneNull sum → IsBaseReadBack number sum row texts
+base_back number sum p row texts made when text have read utf8 nulls =
+    let w = made.whole in
+    let base : IsBase w = made.is_base in
+    let rest = rest_is_base number w base in
+    let low = base.moment in
     let few = base.batches in
     let room = base.room in
-    let low = base.moment in
+    let one : with_one_null p ≡ p =
+    subst (λ (x : BaseParts). with_one_null x ≡ x) (sym made.above) (parts_above_has number w (sum_has w base (subst KeepsOneNull (sym made.has_sum) nulls))) in
+    let same : with_one_null p ≡ parts_above number w = one ∙ made.above in
+    let bare : without_answers p ≡ without_answers w = ap without_answers made.above ∙ rest.same in
+    let moment : p.moment ≡ w.moment = ap (λ (x : BaseParts). x.moment) made.above in
+    let batches : p.batches ≡ sum.batches = ap (λ (x : BaseParts). x.batches) made.above ∙ ap (λ (s : Sum). s.batches) made.has_sum in
+    let whole : w.batches ≡ sum.batches = ap (λ (s : Sum). s.batches) made.has_sum in
+    let answers : AreTextsOf texts (parts_above number w) = subst (AreTextsOf texts) same have in
+    let again : base_of_texts p.batches p.moment row.body texts ≡ Some (parts_above number w) = read ∙ ap Some same in
     record {
-      number = omega (arith, batches, few, room);
-      moment = omega (arith, when, low);
-      text = text;
-      read = (λ i. option_map sum_for (base_of_body (sym batches i) (when i) body)) ∙ ap (option_map sum_for) found ∙ ap Some is;
+      batches = omega (arith, whole, few, room);
+      moment = omega (arith, when, moment, low);
+      text = utf8;
+      base = w;
+      is_base = base;
+      has_sum = made.has_sum;
+      row_is = λ i. record { moment = (when ∙ moment) i; body = (text ∙ ap body_text bare) i };
+      read = (λ i. base_of_body (sym batches i) (when i) row.body) ∙ body_read p.batches p.moment row.body texts (parts_above number w) rest.above answers again ∙ ap Some rest.same;
+      answers = answers;
     }

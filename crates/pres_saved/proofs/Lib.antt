@@ -3,6 +3,10 @@ pub mod Basing
 pub mod Checkpointing
 pub mod Committing
 pub mod Counted
+pub mod Fronts
+pub mod Growing
+pub mod Keeping
+pub mod Knowing
 pub mod OneNull
 pub mod Opening
 pub mod Outlasting
@@ -11,5 +15,6 @@ pub mod Reading
 pub mod Refused
 pub mod Remade
 pub mod Serving
+pub mod TextNulls
 pub mod Watching
 pub mod Written

@@ -9,14 +9,14 @@ use Rattle.sqlite.specs.Held.{state}
 use Rattle.sqlite.specs.State.{State, HasCleanDisk, Survives}
 use Rattle.pres_log.specs.Logs.{Log}
 use Rattle.pres_faults.specs.declared.saved_fault.SavedFault.{SavedFault}
-use Rattle.pres_batch_rows.specs.RowContents.{RowContent, saved_front, saved_row, front_from, front_then, rows_in, checkpoints_in, shown_row, shown_rows, shown_base, stored_from}
-use Rattle.pres_batch_rows.specs.TableStates.{TableState, IsSaved, Lasts, MayStay, Holds}
+use Rattle.pres_batch_rows.specs.RowContents.{RowContent, saved_front, saved_row, front_from, front_then, rows_in, checkpoints_in, answers_in, shown_row, shown_answer, shown_rows, shown_base, shown_answers, stored_from}
+use Rattle.pres_batch_rows.specs.TableStates.{IsSaved, Lasts, MayStay, Holds}
 use Rattle.pres_server.specs.Sums.{Sum}
 use Rattle.pres_server.specs.Histories.{History}
 use Rattle.pres_keeper.specs.Keepers.{Readable, BeginsWith}
 use Rattle.pres_keeper.proofs.Begins.{begins_itself}
 use Rattle.pres_saved.specs.Laws.{kept_whole}
-use Rattle.pres_saved.specs.SqlKeepers.{Works, KeepsHistory, MayFind, OutlastsHistory}
+use Rattle.pres_saved.specs.SqlKeepers.{KeeperState, Works, KeepsHistory, MayFind, OutlastsHistory}
 use Rattle.pres_saved.specs.SavedHistories.{log_front, saved_sum, readable_from, readable_rows}
 use Rattle.pres_saved.proofs.Remade.{front_more, read_batches, read_base}
 
@@ -53,12 +53,12 @@ begins_grown history old new more (inl h) =
     inl (record { more = h.more ++ more.later; base = more.base ∙ h.base; batches = more.batches ∙ ap (λ l. l ++ more.later) h.batches ∙ append_assoc history.log h.more more.later })
 begins_grown history old new more (inr h) = inr (record { more = h.more; sum = h.sum; base = more.base ∙ h.base; leads = h.leads })
 
-begins_with_more : (history : History) (base rows more : List Row) → BeginsWith history (readable_rows base (map shown_row rows)) → BeginsWith history (readable_rows base (map shown_row (rows ++ more)))
-begins_with_more history base rows more begins =
-    subst (λ shown. BeginsWith history (readable_rows base shown)) (sym (map-append shown_row rows more))
-    (begins_grown history (readable_rows base (map shown_row rows)) (readable_rows base (map shown_row rows ++ map shown_row more)) (grows (saved_sum base) (map shown_row rows) (map shown_row more)) begins)
+begins_with_more : (history : History) (base answers rows more : List Row) → BeginsWith history (readable_rows base answers (map shown_row rows)) → BeginsWith history (readable_rows base answers (map shown_row (rows ++ more)))
+begins_with_more history base answers rows more begins =
+    subst (λ shown. BeginsWith history (readable_rows base answers shown)) (sym (map-append shown_row rows more))
+    (begins_grown history (readable_rows base answers (map shown_row rows)) (readable_rows base answers (map shown_row rows ++ map shown_row more)) (grows (saved_sum base answers) (map shown_row rows) (map shown_row more)) begins)
 
-module _ {S : Type 0} (g : Ghosts S) (old new : TableState S) where
+module _ {S : Type 0} (g : Ghosts S) (old new : KeeperState S) where
   abbrev before : State
   before = state g old.connection
 
@@ -67,7 +67,7 @@ module _ {S : Type 0} (g : Ghosts S) (old new : TableState S) where
 
   -- by what a crash leaves
   abbrev read_by : Trees → Readable
-  read_by db = readable_rows (map shown_row (db 3)) (map shown_row (db 2))
+  read_by db = readable_rows (map shown_row (db 3)) (map shown_answer (db 4)) (map shown_row (db 2))
 
   -- ---- a call that commits nothing
 
@@ -87,15 +87,15 @@ module _ {S : Type 0} (g : Ghosts S) (old new : TableState S) where
 
   -- ---- rows that are committed
 
-  pub outlasts_more : (k : ℕ) (all : List RowContent) → Survives before after (Holds before (checkpoints_in before) (rows_in before ++ stored_from k all)) → (HasCleanDisk after → MayStay before) → (history : History) → OutlastsHistory g old history
+  pub outlasts_more : (k : ℕ) (all : List RowContent) → Survives before after (Holds before (checkpoints_in before) (rows_in before ++ stored_from k all) (answers_in before)) → (HasCleanDisk after → MayStay before) → (history : History) → OutlastsHistory g old history
       → OutlastsHistory g new history
   outlasts_more k all survives stays history lasts clean left may =
       let early : HasCleanDisk before = omega (arith, survives.clean, clean) in
       elim (survives.crash clean left may) [
         | inl it ↦ lasts early left it
         | inr more ↦
-            subst (BeginsWith history) (sym (ap₂ (λ base rows. readable_rows (map shown_row base) (map shown_row rows)) more.2 more.1))
-            (begins_with_more history (shown_base before) (rows_in before) (stored_from k all) (lasts early before.now.trees (stays clean more.0)))
+            subst (BeginsWith history) (sym (λ i. readable_rows (map shown_row (more.2 i)) (map shown_answer (more.4 i)) (map shown_row (more.1 i))))
+            (begins_with_more history (shown_base before) (shown_answers before) (rows_in before) (stored_from k all) (lasts early before.now.trees (stays clean more.0)))
       ]
 
   -- ---- what lasts
@@ -103,9 +103,9 @@ module _ {S : Type 0} (g : Ghosts S) (old new : TableState S) where
   -- where a crash leaves just what is shown
   all_lasts : (history : History) → KeepsHistory g new history → Lasts after → (left : Trees) → after.may_leave left → BeginsWith history (read_by left)
   all_lasts history keeps lasts left may =
-      subst (BeginsWith history) (sym (ap read_by (lasts left may) ∙ kept_whole (shown_base after) (shown_rows after) history keeps)) (begins_itself history)
+      subst (BeginsWith history) (sym (ap read_by (lasts left may) ∙ kept_whole (shown_base after) (shown_answers after) (shown_rows after) history keeps)) (begins_itself history)
 
-  pub lasts_committed : (base rows : List Row) (r : Result (Unit {0}) SavedFault) (history : History) → (HasCleanDisk after → OnOk r (IsSaved before after base rows)) → (HasCleanDisk after → OnOk r (Lasts after))
+  pub lasts_committed : (base rows answers : List Row) (r : Result (Unit {0}) SavedFault) (history : History) → (HasCleanDisk after → OnOk r (IsSaved before after base rows answers)) → (HasCleanDisk after → OnOk r (Lasts after))
       → (Works g new → OnOk r (KeepsHistory g new history)) → OnOk r (OutlastsHistory g new history)
-  lasts_committed base rows (Ok _) history saved lasts keeps = λ clean. all_lasts history (keeps (record { clean = clean; is_open = (saved clean).is_open })) (lasts clean)
-  lasts_committed base rows (Err e) history saved lasts keeps = tt
+  lasts_committed base rows answers (Ok _) history saved lasts keeps = λ clean. all_lasts history (keeps (record { clean = clean; is_open = (saved clean).is_open })) (lasts clean)
+  lasts_committed base rows answers (Err e) history saved lasts keeps = tt

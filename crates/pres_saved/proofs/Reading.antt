@@ -12,7 +12,7 @@ use Rattle.pres_log.specs.Logs.{Log, number}
 use Rattle.pres_log.proofs.Entries.{number-push}
 use Rattle.pres_batch_json.specs.Reads.{entries_in}
 use Rattle.pres_base_json.proofs.OneNull.{found_then}
-use Rattle.pres_batch_rows.specs.RowContents.{RowContent, stored, stored_from, rows_in, shown_row, saved_rows, saved_front, shown_rows, shown_base}
+use Rattle.pres_batch_rows.specs.RowContents.{RowContent, stored, stored_from, rows_in, shown_row, shown_answer, saved_row, saved_rows, saved_front, shown_rows, shown_base, shown_answers}
 use Rattle.pres_batch_rows.specs.TableStates.{AddsRows}
 use Rattle.pres_batch_rows.specs.TableOpening.{last_in}
 use Rattle.pres_batch_rows.specs.RowIteration.{TakesAll}
@@ -133,13 +133,13 @@ length_after base (row ∷ more) old new e = let now = length_by base old new (b
 
 -- those that were read are all
 made_all : (base : Sum) (shown : List Row) (log : Log) (was : Read base shown log) → log_after base [] was.rows ≡ Ok log
-made_all base shown log was = ap (log_after base []) (sym (front_all (base.batches + 1) shown was.rows was.all)) ∙ was.made
+made_all base shown log was = ap (log_after base []) (sym (front_all saved_row (base.batches + 1) shown was.rows was.all)) ∙ was.made
 
 -- ---- the parts of a history
 
 -- the base and the batches that are saved
-pub record Parts (base shown : List Row) (history : History) : Type 0 where
-  pub sum : saved_sum base ≡ Some history.base
+pub record Parts (base answers shown : List Row) (history : History) : Type 0 where
+  pub sum : saved_sum base answers ≡ Some history.base
   pub log : rows_log history.base shown ≡ Ok history.log
 
 parts_log : (base : Sum) (shown : List Row) (history : History) (r : Result Log ℕ) → rows_log base shown ≡ r → history_of base r ≡ Ok history → (Some base ≡ Some history.base) × (rows_log history.base shown ≡ Ok history.log)
@@ -153,19 +153,19 @@ parts_from : (o : Option Sum) (shown : List Row) (history : History) → history
 parts_from (Some base) shown history e = parts_log base shown history (rows_log base shown) refl e
 parts_from None shown history e = absurd (no_err 0 history _ refl e)
 
-pub parts_of : (base shown : List Row) (history : History) → saved_history base shown ≡ Ok history → Parts base shown history
-parts_of base shown history e = let both = parts_from (saved_sum base) shown history e in record { sum = both.0; log = both.1 }
+pub parts_of : (base answers shown : List Row) (history : History) → saved_history base answers shown ≡ Ok history → Parts base answers shown history
+parts_of base answers shown history e = let both = parts_from (saved_sum base answers) shown history e in record { sum = both.0; log = both.1 }
 
-pub of_parts : (base shown : List Row) (history : History) → Parts base shown history → saved_history base shown ≡ Ok history
-of_parts base shown history p = ap (λ o. history_from o shown) p.sum ∙ ap (history_of history.base) p.log
+pub of_parts : (base answers shown : List Row) (history : History) → Parts base answers shown history → saved_history base answers shown ≡ Ok history
+of_parts base answers shown history p = ap (λ o. history_from o shown) p.sum ∙ ap (history_of history.base) p.log
 
 -- as many rows as batches
-pub kept_count : (base shown : List Row) (history : History) → saved_history base shown ≡ Ok history → last_in base shown ≡ history.base.batches + length history.log
-kept_count base shown history kept =
-    let p = parts_of base shown history kept in
+pub kept_count : (base answers shown : List Row) (history : History) → saved_history base answers shown ≡ Ok history → last_in base shown ≡ history.base.batches + length history.log
+kept_count base answers shown history kept =
+    let p = parts_of base answers shown history kept in
     let was = read_of history.base shown history.log p.log in
     let many = length_after history.base was.rows [] history.log (made_all history.base shown history.log was) in
-    let last = last_read history.base.batches base shown was.rows (base_top base history.base p.sum) was.all in
+    let last = last_read history.base.batches base shown was.rows (base_top base answers history.base p.sum) was.all in
     omega (arith, many, last)
 
 -- ---- one row more
@@ -181,15 +181,15 @@ rows_next base rows last log b s low text kept count one =
     let many = length_after base was.rows [] log made in
     let now = saved_next rows last s low text base.batches was.rows was.all (omega (arith, many, count)) in
     log_of_read base more (was.rows ++ s ∷ []) (log ++ b ∷ []) now
-    (ap (log_after base []) (front_all (base.batches + 1) more (was.rows ++ s ∷ []) now)
+    (ap (log_after base []) (front_all saved_row (base.batches + 1) more (was.rows ++ s ∷ []) now)
     ∙ then_log base was.rows (s ∷ []) [] log made
     ∙ after_one base log (log ++ b ∷ []) s [] b one refl)
 
-kept_next : (base rows : List Row) (last : ℕ) (history : History) (b : Batch) (s : RowContent) → s.moment ≤ last_moment → IsUtf8 s.body → saved_history base (map shown_row rows) ≡ Ok history → last ≡ history.base.batches + length history.log
-    → batch_in (number_in history) s ≡ Some b → saved_history base (map shown_row (rows ++ stored (last + 1) s ∷ [])) ≡ Ok (with_batch history b)
-kept_next base rows last history b s low text kept count one =
-    let p = parts_of base (map shown_row rows) history kept in
-    of_parts base (map shown_row (rows ++ stored (last + 1) s ∷ [])) (with_batch history b)
+kept_next : (base answers rows : List Row) (last : ℕ) (history : History) (b : Batch) (s : RowContent) → s.moment ≤ last_moment → IsUtf8 s.body → saved_history base answers (map shown_row rows) ≡ Ok history → last ≡ history.base.batches + length history.log
+    → batch_in (number_in history) s ≡ Some b → saved_history base answers (map shown_row (rows ++ stored (last + 1) s ∷ [])) ≡ Ok (with_batch history b)
+kept_next base answers rows last history b s low text kept count one =
+    let p = parts_of base answers (map shown_row rows) history kept in
+    of_parts base answers (map shown_row (rows ++ stored (last + 1) s ∷ [])) (with_batch history b)
     (record { sum = p.sum; log = rows_next history.base rows last history.log b s low text p.log count one })
 
 -- what the rows save comes next in the history
@@ -199,22 +199,22 @@ SaveNext history (s ∷ all) (b ∷ batches) = (s.moment ≤ last_moment) × IsU
 SaveNext history _ _ = ⊥
 
 -- rows after these save the next batches
-pub kept_group : (base rows : List Row) (last : ℕ) (history : History) (all : List RowContent) (batches : Log) → SaveNext history all batches
-    → saved_history base (map shown_row rows) ≡ Ok history → last ≡ history.base.batches + length history.log
-    → saved_history base (map shown_row (rows ++ stored_from (last + 1) all)) ≡ Ok (with_batches history batches)
-kept_group base rows last history [] [] next kept count = ap (λ l. saved_history base (map shown_row l)) (append-nil rows) ∙ kept ∙ ap Ok (sym (no_batches history))
-kept_group base rows last history [] (b ∷ batches) next kept count = absurd next
-kept_group base rows last history (s ∷ all) [] next kept count = absurd next
-kept_group base rows last history (s ∷ all) (b ∷ batches) next kept count =
+pub kept_group : (base answers rows : List Row) (last : ℕ) (history : History) (all : List RowContent) (batches : Log) → SaveNext history all batches
+    → saved_history base answers (map shown_row rows) ≡ Ok history → last ≡ history.base.batches + length history.log
+    → saved_history base answers (map shown_row (rows ++ stored_from (last + 1) all)) ≡ Ok (with_batches history batches)
+kept_group base answers rows last history [] [] next kept count = ap (λ l. saved_history base answers (map shown_row l)) (append-nil rows) ∙ kept ∙ ap Ok (sym (no_batches history))
+kept_group base answers rows last history [] (b ∷ batches) next kept count = absurd next
+kept_group base answers rows last history (s ∷ all) [] next kept count = absurd next
+kept_group base answers rows last history (s ∷ all) (b ∷ batches) next kept count =
     let row = stored (last + 1) s in
-    let one = kept_next base rows last history b s next.0 next.1 kept count next.2 in
+    let one = kept_next base answers rows last history b s next.0 next.1 kept count next.2 in
     let more : last + 1 ≡ history.base.batches + length (history.log ++ b ∷ []) = omega (arith, count, length-append history.log (b ∷ [])) in
-    ap (λ l. saved_history base (map shown_row l)) (sym (append_assoc rows (row ∷ []) (stored_from (last + 1 + 1) all)))
-    ∙ kept_group base (rows ++ row ∷ []) (last + 1) (with_batch history b) all batches next.3 one more
+    ap (λ l. saved_history base answers (map shown_row l)) (sym (append_assoc rows (row ∷ []) (stored_from (last + 1 + 1) all)))
+    ∙ kept_group base answers (rows ++ row ∷ []) (last + 1) (with_batch history b) all batches next.3 one more
     ∙ ap Ok (batches_more history b batches)
 
 -- the rows that were added save the next batches
 pub kept_more : (old new : State) (last : ℕ) (history : History) (all : List RowContent) (batches : Log) → SaveNext history all batches → AddsRows old new (last + 1) all
-    → saved_history (shown_base old) (shown_rows old) ≡ Ok history → last ≡ history.base.batches + length history.log → saved_history (shown_base new) (shown_rows new) ≡ Ok (with_batches history batches)
+    → saved_history (shown_base old) (shown_answers old) (shown_rows old) ≡ Ok history → last ≡ history.base.batches + length history.log → saved_history (shown_base new) (shown_answers new) (shown_rows new) ≡ Ok (with_batches history batches)
 kept_more old new last history all batches next adds kept count =
-    ap₂ (λ base rows. saved_history (map shown_row base) (map shown_row rows)) adds.base adds.rows ∙ kept_group (shown_base old) (rows_in old) last history all batches next kept count
+    (λ i. saved_history (map shown_row (adds.base i)) (map shown_answer (adds.answers i)) (map shown_row (adds.rows i))) ∙ kept_group (shown_base old) (shown_answers old) (rows_in old) last history all batches next kept count

@@ -1,23 +1,23 @@
 -- Why rows are refused, by what going over them came to.
 use Rattle.std.proofs.Common.{refl, sym, ◌∙◌, ap, subst, ◌≡◌, ◌⊎◌, inl, inr, ℕ, ◌+◌, List, [], ◌∷◌, ◌++◌, length, Option, Ok, Err, Some, None, arith}
 use Rattle.std.proofs.lemmas.List.{append_assoc}
-use Rattle.std.specs.Option.{option_and_then}
+use Rattle.std.specs.Option.{option_map}
 use Rattle.sqlite.specs.Order.{Row}
 use Rattle.pres_log.specs.declared.entry.Batch.{Batch}
 use Rattle.pres_log.specs.Logs.{Log, number}
 use Rattle.pres_faults.specs.declared.saved_fault.SavedFault.{SavedFault}
 use Rattle.pres_faults.specs.declared.saved_fault.SavedFault.TheVariants.{Memory, Database, NotOurs, BadRow, Version}
-use Rattle.pres_batch_rows.specs.RowContents.{RowContent, saved_rows, saved_front}
-use Rattle.pres_batch_rows.specs.SavedCheckpoints.{Base, saved_base}
+use Rattle.pres_batch_rows.specs.RowContents.{RowContent, saved_row, saved_rows, saved_front}
 use Rattle.pres_batch_rows.specs.RowIteration.{TakesAll, TakesRows, GoesOver, MeetsBadRow, IsRefused}
 use Rattle.pres_batch_rows.proofs.Loading.{front_all}
 use Rattle.pres_server.specs.Sums.{Sum, sum_from}
 use Rattle.pres_server.specs.SumTurns.{FollowsSum, FollowAll}
 use Rattle.pres_server.specs.Histories.{IsSum, History, LeadsTo}
-use Rattle.pres_keeper.specs.Keepers.{Readable, IsOfStore, IsNoBase, IsFirstUnread, IsUnreadAfter, IsFirstBad, IsBadAfter, IsUnread, IsNoServer, KeepsOneNull, SomeHistory}
+use Rattle.pres_keeper.specs.Keepers.{Readable, IsOfStore, IsNoBase, IsFirstUnread, IsUnreadAfter, IsFirstBad, IsBadAfter, IsUnread, IsNoServer, KeepsOneNull, SomeHistory, base_sum}
 use Rattle.pres_keeper.proofs.Nulls.{number_made, batches_made, nulls_from}
-use Rattle.pres_saved.specs.SavedHistories.{sum_by, saved_sum, batch_in, log_after, front_by, log_front, rows_log, readable_by, rows_readable, readable_from, readable_rows}
+use Rattle.pres_saved.specs.SavedHistories.{saved_sum, batch_in, log_after, front_by, log_front, rows_log, readable_by, rows_readable, readable_from, readable_rows}
 use Rattle.pres_saved.specs.RowReplay.{Since, Extends, HasNoRoom, IsNotTaken, Follows, MayNotFollow, IsNoFollower}
+use Rattle.pres_saved.specs.AnswerReads.{IsNoFront}
 use Rattle.pres_saved.proofs.Counted.{due_is}
 use Rattle.pres_saved.proofs.Reading.{Taken, taken_log, log_of_read, stopped_log, log_unread, log_stopped, length_after}
 use Rattle.pres_saved.proofs.Remade.{made_by, then_front, front_is, front_stops, front_grows, read_batches, read_base}
@@ -29,20 +29,15 @@ of_base held e (inl is) = subst (IsNoBase held) (sym is) (inl refl)
 of_base held e (inr is) = subst (IsNoBase held) (sym is) (inr refl)
 
 -- there is no sum
-unbased : (base shown : List Row) (e : SavedFault) → e ≡ BadRow 0 → saved_sum base ≡ None → IsNoBase (readable_rows base shown) e
-unbased base shown e is none = subst (IsNoBase (readable_rows base shown)) (sym is) (ap (λ o. (readable_from o shown).base) none, refl)
+unbased : (base answers shown : List Row) (e : SavedFault) → e ≡ BadRow 0 → saved_sum base answers ≡ None → IsNoBase (readable_rows base answers shown) e
+unbased base answers shown e is none = subst (IsNoBase (readable_rows base answers shown)) (sym is) (ap (λ o. (readable_from o shown).base) none, refl)
 
--- a bad row, or more than one
-pub row_unbased : (base shown : List Row) (e : SavedFault) → ((e ≡ BadRow 0) × (saved_base base ≡ None)) ⊎ ((e ≡ Memory) ⊎ (e ≡ Database)) → IsNoBase (readable_rows base shown) e
-row_unbased base shown e (inl bad) = unbased base shown e bad.0 (ap (option_and_then sum_by) bad.1)
-row_unbased base shown e (inr store) = of_base (readable_rows base shown) e store
+-- the rows save no base
+pub front_unbased : (base answers shown : List Row) (e : SavedFault) → IsNoFront base answers e → IsNoBase (readable_rows base answers shown) e
+front_unbased base answers shown e (inl store) = of_base (readable_rows base answers shown) e store
+front_unbased base answers shown e (inr bad) = unbased base answers shown e bad.0 (ap (option_map base_sum) bad.1)
 
--- a body that is that of no base
-pub body_unbased : (base shown : List Row) (saved : Base) (e : SavedFault) → saved_base base ≡ Some (Some saved) → (e ≡ Memory) ⊎ ((e ≡ BadRow 0) × (sum_by (Some saved) ≡ None)) → IsNoBase (readable_rows base shown) e
-body_unbased base shown saved e there (inl is) = of_base (readable_rows base shown) e (inl is)
-body_unbased base shown saved e there (inr bad) = unbased base shown e bad.0 (ap (option_and_then sum_by) there ∙ bad.1)
-
--- nor is anything read behind it
+-- nor is anything read after it
 pub base_unread : (held : Readable) (e : SavedFault) → IsNoBase held e → IsUnread held e
 base_unread held (BadRow k) bad = subst (λ (o : Option Sum). IsUnreadAfter o held k) (sym bad.0) bad.1
 base_unread held Memory refused = refused
@@ -177,7 +172,7 @@ module _ (base : Sum) (shown : List Row) (k : IsSum base) where
 
   -- rows that were all read save the batches that they make
   saved_by : (given : List RowContent) (log : Log) → saved_rows base.batches shown ≡ Ok given → log_after base [] given ≡ Ok log → rows_log base shown ≡ Ok log
-  saved_by given log read made = log_of_read base shown given log read (ap (log_after base []) (front_all (base.batches + 1) shown given read) ∙ made)
+  saved_by given log read made = log_of_read base shown given log read (ap (log_after base []) (front_all saved_row (base.batches + 1) shown given read) ∙ made)
 
   pub all_served : (clean serves : Type 0) (old new : Sum) → old ≡ base → TakesRows Follows (λ given. clean → serves → saved_rows base.batches shown ≡ Ok given) old new
       → SomeHistory (λ history. (history.base ≡ base) × (clean → serves → rows_log base shown ≡ Ok history.log)) new

@@ -39,9 +39,9 @@ pub same_batches : (saved : Result History ℕ) (history : History) (log : Log) 
 same_batches saved history log held is = ap (λ (h : History). h.log) (same_history saved (record { base = held.0; log = log }) history held.1 is)
 
 -- its base
-pub same_base : (base shown : List Row) (history : History) (sum : Sum) → saved_sum base ≡ Some sum → saved_history base shown ≡ Ok history → sum ≡ history.base
-same_base base shown history sum is kept = same_Some sum history.base (sym is ∙ (parts_of base shown history kept).sum)
+pub same_base : (base answers shown : List Row) (history : History) (sum : Sum) → saved_sum base answers ≡ Some sum → saved_history base answers shown ≡ Ok history → sum ≡ history.base
+same_base base answers shown history sum is kept = same_Some sum history.base (sym is ∙ (parts_of base answers shown history kept).sum)
 
 -- what is read of its base
-pub readable_base : (base shown : List Row) (sum : Sum) → saved_sum base ≡ Some sum → (readable_rows base shown).base ≡ Some sum
-readable_base base shown sum is = ap (λ (o : Option Sum). (readable_from o shown).base) is ∙ read_base sum shown
+pub readable_base : (base answers shown : List Row) (sum : Sum) → saved_sum base answers ≡ Some sum → (readable_rows base answers shown).base ≡ Some sum
+readable_base base answers shown sum is = ap (λ (o : Option Sum). (readable_from o shown).base) is ∙ read_base sum shown

@@ -1,4 +1,5 @@
 pub mod SavedHistories
+pub mod AnswerReads
 pub mod RowReplay
 pub mod SqlKeepers
 pub mod Laws

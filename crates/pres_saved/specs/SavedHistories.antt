@@ -1,5 +1,5 @@
--- What saved rows stand for: a history. The row of the checkpoint saves its base, and each other row a batch, under the
--- number that is due.
+-- What saved rows stand for: a history. The row of the checkpoint and the texts of answers save its base, and each other row
+-- a batch, under the number that is due.
 use Rattle.std.specs.Prelude.{ℕ, ◌+◌, false, nat_le, if◌then◌else◌, List, [], ◌∷◌, ◌++◌, length, map, Option, Some, None, option_and_then, option_map, Result, Ok, Err}
 use Rattle.std.proofs.Common.{inl, inr}
 use Rattle.sqlite.specs.Order.{Row}
@@ -9,25 +9,36 @@ use Rattle.pres_log.specs.declared.entry.Batch.{Batch}
 use Rattle.pres_log.specs.declared.entry.Entry.{Entry}
 use Rattle.pres_log.specs.Logs.{Log, number}
 use Rattle.pres_batch_json.specs.Reads.{entries_in}
-use Rattle.pres_base_json.specs.Checks.{base_of_body}
+use Rattle.pres_base.specs.declared.parts.BaseParts.{BaseParts}
+use Rattle.pres_base_json.specs.Apart.{base_of_texts}
 use Rattle.pres_batch_rows.specs.TableStates.{IsOurs}
-use Rattle.pres_batch_rows.specs.RowContents.{RowContent, saved_rows, saved_front, shown_row}
+use Rattle.pres_batch_rows.specs.RowContents.{RowContent, saved_rows, saved_front, saved_answers, shown_row, shown_answer}
 use Rattle.pres_batch_rows.specs.SavedCheckpoints.{Base, saved_base}
-use Rattle.pres_server.specs.Sums.{Sum, nothing}
+use Rattle.pres_server.specs.Sums.{Sum}
 use Rattle.pres_server.specs.Histories.{History}
-use Rattle.pres_server.specs.BaseSums.{sum_for}
-use Rattle.pres_keeper.specs.Keepers.{Readable, whole}
+use Rattle.pres_keeper.specs.Keepers.{Readable, whole, base_sum}
 
 -- ---- the base
 
--- the sum of a checkpoint, where it is a base; without one the history begins at nothing
-abbrev pub sum_by : Option Base → Option Sum
-sum_by None = Some nothing
-sum_by (Some saved) = option_map sum_for (base_of_body saved.0 saved.1.moment saved.1.body)
+-- the base of a checkpoint and of texts of answers, where they make one; without a checkpoint there is none, and no answers
+abbrev pub parts_by : Option Base → List (List ℕ) → Option (Option BaseParts)
+parts_by None [] = Some None
+parts_by None (text ∷ texts) = None
+parts_by (Some saved) texts = option_map Some (base_of_texts saved.0 saved.1.moment saved.1.body texts)
 
--- the sum at which a history begins, by the shown rows of the checkpoint; none where there is more than one, or a bad one
-abbrev pub saved_sum : List Row → Option Sum
-saved_sum base = option_and_then sum_by (saved_base base)
+-- the same, where the texts could be read
+abbrev pub parts_with : Option Base → Result (List (List ℕ)) ℕ → Option (Option BaseParts)
+parts_with saved (Ok texts) = parts_by saved texts
+parts_with saved (Err k) = None
+
+-- The base by the shown rows of the checkpoint and of the answers; nothing where there is more than one checkpoint, a bad one,
+-- or an answer that is bad or doesn't fit it.
+abbrev pub saved_parts : List Row → List Row → Option (Option BaseParts)
+saved_parts base answers = option_and_then (λ saved. parts_with saved (saved_answers answers)) (saved_base base)
+
+-- the sum at which a history begins: that of the base, or nothing without one
+abbrev pub saved_sum : List Row → List Row → Option Sum
+saved_sum base answers = option_map base_sum (saved_parts base answers)
 
 -- ---- the batches
 
@@ -67,9 +78,10 @@ abbrev pub history_from : Option Sum → List Row → Result History ℕ
 history_from None shown = Err 0
 history_from (Some base) shown = history_of base (rows_log base shown)
 
--- the history of what the tables show, or the number of the first row that is bad, that of the checkpoint being 0
-abbrev pub saved_history : List Row → List Row → Result History ℕ
-saved_history base shown = history_from (saved_sum base) shown
+-- The history of what the tables show, checkpoint, answers and batches, or the number of the first row that is bad: those of
+-- the checkpoint and of the answers count as 0.
+abbrev pub saved_history : List Row → List Row → List Row → Result History ℕ
+saved_history base answers shown = history_from (saved_sum base answers) shown
 
 -- ---- what can be read
 
@@ -94,11 +106,17 @@ abbrev pub readable_from : Option Sum → List Row → Readable
 readable_from None shown = record { base = None; batches = []; is_all = false }
 readable_from (Some base) shown = rows_readable base shown
 
--- what can be read of what the tables show, nothing where the checkpoint is bad
-abbrev pub readable_rows : List Row → List Row → Readable
-readable_rows base shown = readable_from (saved_sum base) shown
+-- what can be read of what the tables show, nothing where the checkpoint or an answer is bad
+abbrev pub readable_rows : List Row → List Row → List Row → Readable
+readable_rows base answers shown = readable_from (saved_sum base answers) shown
 
 -- the checkpoint of tables that are found: there is none in format 1
 abbrev pub base_found : (db : Database) → IsOurs db → List Row
 base_found db (inl one) = []
-base_found db (inr two) = map shown_row (db.trees 3)
+base_found db (inr later) = map shown_row (db.trees 3)
+
+-- the answers of tables that are found: there are none apart in formats 1 and 2
+abbrev pub answers_found : (db : Database) → IsOurs db → List Row
+answers_found db (inl one) = []
+answers_found db (inr (inl two)) = []
+answers_found db (inr (inr three)) = map shown_answer (db.trees 4)

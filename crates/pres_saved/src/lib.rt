@@ -3,6 +3,7 @@
 #![tactic(auto)]
 
 mod base;
+mod growth;
 pub mod laws;
 mod printing;
 mod replaying;

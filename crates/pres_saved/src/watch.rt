@@ -41,11 +41,11 @@ pub struct Watched<S: Alter, W: Watch> {
 }
 
 impl<S: Alter, W: Watch> Model for Watched<S, W> {
-    ghost use Rattle.pres_batch_rows.specs.TableStates.{TableState, kept_code};
+    ghost use Rattle.pres_saved.specs.SqlKeepers.{KeeperState, keeper_code};
 
-    ghost Value = { TableState S };
+    ghost Value = { KeeperState S };
 
-    ghost coded = { kept_code S.code };
+    ghost coded = { keeper_code S.code };
 
     ghost view = { λ w. w.keeper };
 }
@@ -89,7 +89,7 @@ impl<S: Alter + Drop, W: Watch> Watched<S, W> {
 }
 
 impl<S: Alter + Drop, W: Watch> Keeper for Watched<S, W> {
-    ghost use Rattle.pres_saved.specs.SqlKeepers.{IsReady, Works, WasShut, KeepsHistory, LeavesHistory, MayFind, OutlastsHistory, SavesBatches, SavesBase, readable_in};
+    ghost use Rattle.pres_saved.specs.SqlKeepers.{IsReady, Works, WasShut, KeepsHistory, LeavesHistory, MayFind, OutlastsHistory, SavesBatches, SavesBase, has_grown, readable_in};
     ghost use Rattle.pres_saved.specs.Laws.{keeps_whole, found_first};
 
     ghost ready = { λ kept. IsReady S.Store kept };
@@ -109,6 +109,8 @@ impl<S: Alter + Drop, W: Watch> Keeper for Watched<S, W> {
     ghost leaves = { λ old history new. LeavesHistory S.Store old history new };
 
     ghost may_find = { λ kept held. MayFind S.Store kept held };
+
+    ghost due = { λ kept. has_grown kept };
 
     ghost outlasts = { λ kept history. OutlastsHistory S.Store kept history };
 
@@ -157,5 +159,9 @@ impl<S: Alter + Drop, W: Watch> Keeper for Watched<S, W> {
 
     fn server(&mut self) -> Result<(Server, u64), SavedFault> {
         self.keeper.server()
+    }
+
+    fn is_due(&self) -> bool {
+        self.keeper.is_due()
     }
 }
