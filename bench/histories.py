@@ -1,7 +1,9 @@
-"""What a server's file says, entry by entry: a base, which its checkpoint has, and the batches since."""
+"""What a server's file says, entry by entry: a base, which its checkpoint and its answers have, and the batches since."""
 
 import collections
 import json
+
+from over_tcp import base_of
 
 
 class Violation(Exception):
@@ -27,7 +29,7 @@ class Session:
 class History:
     """What the file says. A Violation where it says what may not be."""
 
-    def __init__(self, checkpoint, rows):
+    def __init__(self, checkpoint, answers, rows):
         self.batches = self.number = self.moment = 0
         self.tree = {}
         self.sessions = {}                                   # by what a message calls them: client, incarnation and attempt
@@ -36,7 +38,7 @@ class History:
         self.again, self.ends = 0, collections.Counter()     # how often a write came again; how many ends, by their reasons
         self.base = 0                                        # the number of the entry at which the rows begin
         if checkpoint is not None:
-            self.begin(*checkpoint)
+            self.begin(*checkpoint, answers)
         self.before = dict(self.newest)                      # the stamps of those sessions that the base knows
         for k, moment, body in rows:
             self.batches += 1
@@ -47,9 +49,9 @@ class History:
                 self.number += 1
                 self.take(entry)
 
-    def begin(self, batches, moment, body):
+    def begin(self, batches, moment, body, answers):
         """Begins at a base."""
-        base = json.loads(body)
+        base = base_of(body, answers)
         check(list(base) == ["clients", "number", "sessions", "tree"], "the body of the checkpoint has the names %s", list(base))
         self.batches, self.moment, self.number, self.base = batches, moment, base["number"], base["number"]
         check(batches <= self.number, "%d batches of %d entries", batches, self.number)

@@ -61,8 +61,8 @@ def free_port():
 
 
 def saved_in(file):
-    """The checkpoint of a server's file that nobody has open, none where it has none, and the rows of its batches since: those of a
-    copy, so that the file stays as it is."""
+    """The checkpoint of a server's file that nobody has open, none where it has none, the texts of its answers, and the rows of its
+    batches since: those of a copy, so that the file stays as it is."""
     with tempfile.TemporaryDirectory(dir=os.path.dirname(file)) as folder:
         copy = os.path.join(folder, "copy")
         for end in ("", "-wal"):
@@ -70,15 +70,26 @@ def saved_in(file):
                 shutil.copyfile(file + end, copy + end)
         with contextlib.closing(sqlite3.connect(copy)) as database:
             checkpoint = database.execute("SELECT k, moment, body FROM checkpoint").fetchone()
-            return checkpoint, database.execute("SELECT k, moment, body FROM batch ORDER BY k").fetchall()
+            answers = [body for body, in database.execute("SELECT body FROM answer ORDER BY i")]
+            return checkpoint, answers, database.execute("SELECT k, moment, body FROM batch ORDER BY k").fetchall()
+
+
+def base_of(body, answers):
+    """The base of a checkpoint's body, with the answers that stand apart from it among the rows of their clients."""
+    base = json.loads(body)
+    rows = {client["id"]: client["rows"] for client in base["clients"]}
+    for text in answers:
+        for client, *found in json.loads(text):
+            rows[client] += [[row, "wrote"] if isinstance(row, int) else row for row in found]
+    return base
 
 
 def writes_in(file):
     """The number of the last entry, and the numbers of the entries of all writes, as the file has them."""
-    checkpoint, rows = saved_in(file)
+    checkpoint, answers, rows = saved_in(file)
     number, writes = 0, []
     if checkpoint is not None:
-        base = json.loads(checkpoint[2])
+        base = base_of(checkpoint[2], answers)
         number, writes = base["number"], sorted(done for client in base["clients"] for done, _ in client["rows"])
     entries = [entry for _, _, body in rows for entry in json.loads(body)]
     return number + len(entries), writes + [number + at for at, entry in enumerate(entries, 1) if entry.get("n")]

@@ -147,11 +147,12 @@ def time_reads(program, folder, rounds, count):
 
 
 def base_of(path):
-    """How many bytes the body of the checkpoint has, and how many rows there are beside it."""
+    """How many bytes the body of the checkpoint and its answers have, and how many rows of batches there are beside them."""
     with contextlib.closing(sqlite3.connect(path)) as database:
         size, = database.execute("SELECT length(CAST(body AS BLOB)) FROM checkpoint").fetchone()
+        answers, = database.execute("SELECT total(length(CAST(body AS BLOB))) FROM answer").fetchone()
         rows, = database.execute("SELECT count(*) FROM batch").fetchone()
-    return size, rows
+    return size + answers, rows
 
 
 def server_of(program, path, rounds):

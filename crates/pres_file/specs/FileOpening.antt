@@ -13,11 +13,11 @@ use Rattle.sqlite.specs.Held.{Held, AreDatabases, state}
 use Rattle.sqlite.specs.Files.{HoldsDatabase, IsEmpty, over_files, file_state}
 use Rattle.pres_server.specs.Sums.{nothing}
 use Rattle.pres_server.specs.Histories.{History, begun_at}
-use Rattle.pres_batch_rows.specs.TableStates.{TableState, IsOurs}
-use Rattle.pres_batch_rows.specs.RowContents.{shown_rows, shown_base}
+use Rattle.pres_batch_rows.specs.TableStates.{IsOurs}
+use Rattle.pres_batch_rows.specs.RowContents.{shown_rows, shown_base, shown_answers}
 use Rattle.pres_batch_rows.specs.Schemas.{no_schema}
-use Rattle.pres_saved.specs.SavedHistories.{saved_history, readable_rows, base_found}
-use Rattle.pres_saved.specs.SqlKeepers.{IsReady, KeepsHistory, MayFind, readable_in}
+use Rattle.pres_saved.specs.SavedHistories.{saved_history, readable_rows, base_found, answers_found}
+use Rattle.pres_saved.specs.SqlKeepers.{KeeperState, IsReady, KeepsHistory, MayFind, readable_in}
 
 -- how many bytes a page of a new file has
 abbrev pub new_page_size : ℕ
@@ -39,29 +39,29 @@ HoldsOurs g connection = (connection.schema ≡ no_schema) ⊎ IsOurs (state g c
 -- are ours. As long as its disk gives back what was written, a new one keeps no checkpoint and no batch, and one over tables of
 -- ours is read as the checkpoint and the rows that were found, and keeps the history that they save; and a disk that was in doubt
 -- stays so.
-pub record KeepsWhatIsThere {S : Type 0} (g : Ghosts S) (connection : Held S) (is_new : Bool) (keeper : TableState S) : Type 0 where
+pub record KeepsWhatIsThere {S : Type 0} (g : Ghosts S) (connection : Held S) (is_new : Bool) (keeper : KeeperState S) : Type 0 where
   pub clean : doubt (state g connection).is_clean ≤ doubt (state g keeper.connection).is_clean
   pub new : IsTrue is_new ↔ (connection.schema ≡ no_schema)
   pub ready : IsTrue is_new ⊎ IsOurs (state g connection).now → IsReady g keeper
   pub empty : IsTrue is_new → HasCleanDisk (state g keeper.connection) → KeepsHistory g keeper (begun_at nothing)
   pub read : is_new ≡ false → HasCleanDisk (state g keeper.connection) → (ours : IsOurs (state g connection).now)
-      → readable_in g keeper ≡ readable_rows (base_found (state g connection).now ours) (shown_rows (state g connection))
+      → readable_in g keeper ≡ readable_rows (base_found (state g connection).now ours) (answers_found (state g connection).now ours) (shown_rows (state g connection))
   pub found : (history : History) → is_new ≡ false → HasCleanDisk (state g keeper.connection) → (ours : IsOurs (state g connection).now)
-      → saved_history (base_found (state g connection).now ours) (shown_rows (state g connection)) ≡ Ok history → KeepsHistory g keeper history
+      → saved_history (base_found (state g connection).now ours) (answers_found (state g connection).now ours) (shown_rows (state g connection)) ≡ Ok history → KeepsHistory g keeper history
 
 -- A connection found what the files held, and the keeper over it is new exactly where that has no table, index or view: then it
 -- keeps no checkpoint and no batch. Where their tables are ours, it is read as the checkpoint and the rows that were found, and
 -- keeps the history that they save.
-pub record KeepsWhatWasFound {S : Type 0} (g : Ghosts S) (image : Image) (is_new : Bool) (keeper : TableState S) : Type 0 where
+pub record KeepsWhatWasFound {S : Type 0} (g : Ghosts S) (image : Image) (is_new : Bool) (keeper : KeeperState S) : Type 0 where
   pub connection : Held S
   pub finds : Finds image (state g connection)
   pub new : IsTrue is_new ↔ (connection.schema ≡ no_schema)
   pub ready : IsTrue is_new ⊎ IsOurs (state g connection).now → IsReady g keeper
   pub empty : IsTrue is_new → KeepsHistory g keeper (begun_at nothing)
   pub read : is_new ≡ false → (ours : IsOurs (state g connection).now)
-      → readable_in g keeper ≡ readable_rows (base_found (state g connection).now ours) (shown_rows (state g connection))
+      → readable_in g keeper ≡ readable_rows (base_found (state g connection).now ours) (answers_found (state g connection).now ours) (shown_rows (state g connection))
   pub found : (history : History) → is_new ≡ false → (ours : IsOurs (state g connection).now)
-      → saved_history (base_found (state g connection).now ours) (shown_rows (state g connection)) ≡ Ok history → KeepsHistory g keeper history
+      → saved_history (base_found (state g connection).now ours) (answers_found (state g connection).now ours) (shown_rows (state g connection)) ≡ Ok history → KeepsHistory g keeper history
 
 -- ---- after a crash
 
@@ -72,7 +72,7 @@ pub record HasSoundOutcomes {D : Type 0} (g : disk.Ghosts D) (it : FileStore D g
 
 -- Files are left by a crash while a keeper is over them, and a connection finds what they hold. What can be read of that is one
 -- of what may be found after a crash at that moment.
-abbrev pub FindsWhatWasLeft : {D E : Type 0} (g : disk.Ghosts D) (h : disk.Ghosts E) → TableState (FileStore D g) → Image → Held (FileStore E h) → Type 0
+abbrev pub FindsWhatWasLeft : {D E : Type 0} (g : disk.Ghosts D) (h : disk.Ghosts E) → KeeperState (FileStore D g) → Image → Held (FileStore E h) → Type 0
 FindsWhatWasLeft g h kept left opened =
     HasSoundOutcomes g kept.connection.store → HasCleanDisk (file_state kept.connection) → (store.state kept.connection.store).may_leave left
-    → Finds left (file_state opened) → ∥ MayFind over_files kept (readable_rows (shown_base (file_state opened)) (shown_rows (file_state opened))) ∥₁
+    → Finds left (file_state opened) → ∥ MayFind over_files kept (readable_rows (shown_base (file_state opened)) (shown_answers (file_state opened)) (shown_rows (file_state opened))) ∥₁

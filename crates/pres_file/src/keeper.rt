@@ -13,7 +13,7 @@ ghost use Rattle.pres_batch_rows.specs.Schemas.{no_schema};
 ghost use Rattle.pres_batch_rows.specs.RowContents.{shown_rows};
 ghost use Rattle.pres_server.specs.Sums.{nothing};
 ghost use Rattle.pres_server.specs.Histories.{begun_at};
-ghost use Rattle.pres_saved.specs.SavedHistories.{saved_history, readable_rows, base_found};
+ghost use Rattle.pres_saved.specs.SavedHistories.{saved_history, readable_rows, base_found, answers_found};
 ghost use Rattle.pres_saved.specs.SqlKeepers.{IsReady, KeepsHistory, readable_in};
 ghost use Rattle.pres_file.specs.FileOpening.{HoldsOurs, KeepsWhatIsThere, KeepsWhatWasFound};
 
@@ -32,7 +32,7 @@ pub struct OpenedFile<S: Alter> {
 }
 
 /// The keeper over the tables of a database, which are made if it holds nothing at all, and brought
-/// to format 2 if they are of format 1. Refused as `SqlKeeper` refuses the database, which comes back
+/// to format 3 if they are of format 1 or 2. Refused as `SqlKeeper` refuses the database, which comes back
 /// as it was, whoever made it: NotOurs if it holds other tables; Version if its format is another.
 pub fn keeper_over<S: Alter + Drop>(
     alloc: Global,
@@ -55,11 +55,13 @@ pub fn keeper_over<S: Alter + Drop>(
         → HasCleanDisk (state S.Store it.keeper.connection)
         → (ours : IsOurs (state S.Store connection).now) → readable_in S.Store it.keeper
         ≡ readable_rows (base_found (state S.Store connection).now ours)
+        (answers_found (state S.Store connection).now ours)
         (shown_rows (state S.Store connection))) }
     ensures found { IfOk result (λ it. (history : _) → it.is_new ≡ false
         → HasCleanDisk (state S.Store it.keeper.connection)
         → (ours : IsOurs (state S.Store connection).now)
         → saved_history (base_found (state S.Store connection).now ours)
+        (answers_found (state S.Store connection).now ours)
         (shown_rows (state S.Store connection)) ≡ Ok history
         → KeepsHistory S.Store it.keeper history) }
     ensures unmade { IfErr result (λ e. connection.schema ≡ no_schema
@@ -135,11 +137,13 @@ fn found<S: Alter + Drop>(
     ensures read { IfOk result (λ it. HasCleanDisk (state S.Store it.keeper.connection)
         → (ours : IsOurs (state S.Store connection).now) → readable_in S.Store it.keeper
         ≡ readable_rows (base_found (state S.Store connection).now ours)
+        (answers_found (state S.Store connection).now ours)
         (shown_rows (state S.Store connection))) }
     ensures found { IfOk result (λ it. (history : _)
         → HasCleanDisk (state S.Store it.keeper.connection)
         → (ours : IsOurs (state S.Store connection).now)
         → saved_history (base_found (state S.Store connection).now ours)
+        (answers_found (state S.Store connection).now ours)
         (shown_rows (state S.Store connection)) ≡ Ok history
         → KeepsHistory S.Store it.keeper history) }
     ensures unfound { IfErr result (λ e. HasCleanDisk (state S.Store e.1)

@@ -15,11 +15,11 @@ use Rattle.sqlite.specs.Held.{Held, state}
 use Rattle.sqlite.specs.State.{State, HasCleanDisk}
 use Rattle.sqlite.specs.Store.{Ghosts}
 use Rattle.sqlite_wal.specs.Recovery.{Image}
-use Rattle.pres_saved.specs.SavedHistories.{readable_rows, base_found}
-use Rattle.pres_saved.specs.SqlKeepers.{readable_in}
-use Rattle.pres_batch_rows.specs.TableStates.{IsOfFormatTwo, IsOurs, IsLeft, TableState, Serves}
+use Rattle.pres_saved.specs.SavedHistories.{answers_found, readable_rows, base_found}
+use Rattle.pres_saved.specs.SqlKeepers.{KeeperState, Serves, readable_in}
+use Rattle.pres_batch_rows.specs.TableStates.{IsOfFormatThree, IsOurs, IsLeft}
 use Rattle.pres_batch_rows.specs.TableOpening.{OpensAs}
-use Rattle.pres_batch_rows.specs.RowContents.{shown_row, shown_rows}
+use Rattle.pres_batch_rows.specs.RowContents.{shown_answer, shown_row, shown_rows}
 
 -- a batch that may not follow is one of those that are read
 is_read : (base : Sum) (log : List Batch) (k : ℕ) → IsFirstIllegalAfter base log k → k ≤ base.batches + length log
@@ -109,23 +109,24 @@ refusal image (fault.Unreadable k) h = h
 refusal image (fault.NotLegal k) h = h
 
 -- what a keeper shows after a call that leaves the database as it was
-pub shows_left : {S : Type 0} (g : Ghosts S) (old new : TableState S) → HasCleanDisk (state g old.connection) → Serves g old → IsLeft (state g old.connection) (state g new.connection)
+pub shows_left : {S : Type 0} (g : Ghosts S) (old new : KeeperState S) → HasCleanDisk (state g old.connection) → Serves g old → IsLeft (state g old.connection) (state g new.connection)
     → ShowsWhileOpen (state g new.connection) (readable_in g old)
 shows_left g old new clean serves left is_open =
     let same = left.same is_open in
-    let two = ((serves clean).ready same.was_open).ours in (
-      inr (subst IsOfFormatTwo (sym same.now) two),
-      ap (λ (d : Database). readable_rows (map shown_row (d.trees 3)) (map shown_row (d.trees 2))) same.now,
+    let three = ((serves clean).ready same.was_open).ours in (
+      inr (inr (subst IsOfFormatThree (sym same.now) three)),
+      ap (λ (d : Database). readable_rows (map shown_row (d.trees 3)) (map shown_answer (d.trees 4)) (map shown_row (d.trees 2))) same.now,
     )
 
 -- a database that is opened was open
 pub was_opened : {S : Type 0} (g : Ghosts S) (c : Held S) (s : State) → OpensAs g c s → IsTrue (state g c).is_open
-was_opened g c s (inl two) = two.2.was_open
-was_opened g c s (inr one) = one.3.0.was_open
+was_opened g c s (inl three) = three.2.was_open
+was_opened g c s (inr (inl one)) = one.3.0.was_open
+was_opened g c s (inr (inr two)) = two.3.0.was_open
 
 -- what a keeper reads is what the connection showed that it was opened over
-pub read_same : {S : Type 0} (g : Ghosts S) (c : Held S) (keeper : TableState S) (held : Readable) (shown : (ours : IsOurs (state g c).now) × (readable_rows (base_found (state g c).now ours) (shown_rows (state g c)) ≡ held))
-    → ((ours : IsOurs (state g c).now) → readable_in g keeper ≡ readable_rows (base_found (state g c).now ours) (shown_rows (state g c))) → readable_in g keeper ≡ held
+pub read_same : {S : Type 0} (g : Ghosts S) (c : Held S) (keeper : KeeperState S) (held : Readable) (shown : (ours : IsOurs (state g c).now) × (readable_rows (base_found (state g c).now ours) (answers_found (state g c).now ours) (shown_rows (state g c)) ≡ held))
+    → ((ours : IsOurs (state g c).now) → readable_in g keeper ≡ readable_rows (base_found (state g c).now ours) (answers_found (state g c).now ours) (shown_rows (state g c))) → readable_in g keeper ≡ held
 read_same g c keeper held shown read = read shown.0 ∙ shown.1
 
 -- no row is said to be bad where memory or the output is refused

@@ -10,11 +10,12 @@ use Rattle.sqlite_trees.specs.Tree.{Trees}
 use Rattle.sqlite_wal.specs.Recovery.{Image}
 use Rattle.pres_file.specs.FileOpening.{KeepsWhatIsThere, new_page_size}
 use Rattle.pres_keeper.specs.Keepers.{Readable, IsFirstIllegalAfter, IsFirstUnread, SomeHistory, base_sum, whole}
-use Rattle.pres_saved.specs.SavedHistories.{readable_rows, base_found}
+use Rattle.pres_saved.specs.SqlKeepers.{KeeperState}
+use Rattle.pres_saved.specs.SavedHistories.{readable_rows, base_found, answers_found}
 use Rattle.pres_server.specs.Sums.{Sum, nothing, sum_from}
 use Rattle.pres_server.specs.SumTurns.{FollowAll}
 use Rattle.pres_server.specs.Histories.{History, begun_at}
-use Rattle.pres_batch_rows.specs.TableStates.{IsOurs, TableState}
+use Rattle.pres_batch_rows.specs.TableStates.{IsOurs}
 use Rattle.pres_batch_rows.specs.RowContents.{shown_row, shown_rows}
 use Rattle.pres_batch_rows.specs.Schemas.{no_schema}
 use Rattle.pres_inspect.specs.declared.checkpoint.Checkpoint.{Checkpoint}
@@ -29,13 +30,13 @@ abbrev pub image_of : Copied → Image
 image_of copied = record { log = copied.log.items; db = copied.database.items }
 
 -- The files hold a database that obeys its own schema. What can be read of its rows has this property, where its tables are
--- those of a server, of format 1 or 2; where it has no table at all, the history that begins at nothing has it.
+-- those of a server, of format 1, 2 or 3; where it has no table at all, the history that begins at nothing has it.
 pub record HoldsRows (image : Image) (P : Readable → Type 0) : Type 0 where
   pub db : Database
   pub sound : IsDatabase db
   pub holds : (trees : Trees) → HoldsDatabase image trees → db.trees ≡ trees
   pub blank : db.schema ≡ no_schema → P (whole (begun_at nothing))
-  pub ours : (ours : IsOurs db) → P (readable_rows (base_found db ours) (map shown_row (db.trees 2)))
+  pub ours : (ours : IsOurs db) → P (readable_rows (base_found db ours) (answers_found db ours) (map shown_row (db.trees 2)))
 
 -- so it is, or the files hold no database: they have no byte, or a first page that was left half made
 abbrev pub Holds : Image → (Readable → Type 0) → Type 0
@@ -87,7 +88,7 @@ pub record IsIllegalAt (k : ℕ) (held : Readable) : Type 0 where
 
 -- while the store is open, the tables are those of a server, and this can be read of them
 abbrev pub ShowsWhileOpen : State → Readable → Type 0
-ShowsWhileOpen s held = IsTrue s.is_open → (ours : IsOurs s.now) × (readable_rows (base_found s.now ours) (shown_rows s) ≡ held)
+ShowsWhileOpen s held = IsTrue s.is_open → (ours : IsOurs s.now) × (readable_rows (base_found s.now ours) (answers_found s.now ours) (shown_rows s) ≡ held)
 
 -- what is wrong with rows of which no server is made: the checkpoint is none, or the number of the first bad row, and why
 abbrev pub IsFlaw : Readable → InspectFault → Type 0
@@ -104,7 +105,7 @@ IsRefusal image (fault.NotLegal k) = Holds image (IsIllegalAt k)
 IsRefusal image e = ⊤
 
 -- a keeper over the database that the files hold, whose disk gives no wrong answer
-pub record IsFoundKeeper {S : Type 0} (g : Ghosts S) (image : Image) (keeper : TableState S) : Type 0 where
+pub record IsFoundKeeper {S : Type 0} (g : Ghosts S) (image : Image) (keeper : KeeperState S) : Type 0 where
   pub connection : Held S
   pub is_new : Bool
   pub finds : IsFoundIn image (state g connection)

@@ -8,10 +8,10 @@ ghost use Rattle.sqlite_pool.specs.Opening.{IsBlankFile};
 ghost use Rattle.sqlite_disk.specs.Memory.{memory_bytes, memory_is_usable};
 ghost use Rattle.pres_file.specs.FileOpening.{new_page_size};
 ghost use Rattle.pres_keeper.specs.Keepers.{Readable, base_sum, whole, IsFirstBad, IsNoLogAfter, IsNoServer, IsUnread};
-ghost use Rattle.pres_saved.specs.SqlKeepers.{readable_in};
+ghost use Rattle.pres_saved.specs.SqlKeepers.{Serves, readable_in};
 ghost use Rattle.pres_server.specs.SumTurns.{FollowAll};
 ghost use Rattle.pres_server.specs.Histories.{History, IsSum, LeadsTo};
-ghost use Rattle.pres_batch_rows.specs.TableStates.{IsLeft, Serves};
+ghost use Rattle.pres_batch_rows.specs.TableStates.{IsLeft};
 ghost use Rattle.pres_inspect.specs.Copies.{image_of, end_of, history_of, HoldsHistory, IsFlaw, IsFoundKeeper, IsFoundOf, IsRefusal, ShowsWhileOpen};
 
 use crate::checkpoint::Checkpoint;

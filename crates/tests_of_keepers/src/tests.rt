@@ -1,5 +1,6 @@
 //! The tests, by what they are about.
 
+mod answers;
 mod callers;
 mod checkpoint_stops;
 mod checkpoints;

@@ -1,13 +1,15 @@
 //! Stops while a checkpoint is made: from some call on each call on one of the two files fails, and
-//! then the machine comes back, with what was synced alone or with all that was written. There are all
-//! batches or none then, and the server is the same: its two sessions are ended, each once.
+//! then the machine comes back, with what was synced alone or with all that was written. There are the
+//! batches and the answers of the checkpoint before it then, or no batch and its answer too, and the
+//! server is the same: its two sessions are ended, each once, and an answer is given once more.
 
 ghost use Rattle.std.specs.Prelude.{IsTrue};
 
+use crate::tests::rows::called;
 use crate::tests::stops::{opened, with_all_written};
-use crate::tests::turns::step;
+use crate::tests::turns::{check, step};
 use crate::tests::upgrades::holding;
-use crate::tests::words::expect_said;
+use crate::tests::words::expect_text;
 use pres_keeper::Keeper;
 use pres_saved::SqlKeeper;
 use sqlite::{Alter, Connection, FileStore, Files};
@@ -15,28 +17,28 @@ use sqlite_disk::{Crash, Disk, Fuse, Memory};
 use std::alloc::Global;
 use std::process::Abort;
 
-// The turns before the checkpoint, a batch each. Two sessions are open after them.
+// The turns before the checkpoint, a batch each, with another checkpoint among them. Two sessions are
+// open after them.
 const TURNS: &str =
     r#"1000 {"m":"hello","s":["alice",1,1]} => {"m":"welcome","ops":0,"s":["alice",1,1],"z":1}
 2000 {"m":"hello","s":["bob",1,1]} => {"m":"welcome","ops":0,"s":["bob",1,1],"z":2}
 3000 {"m":"left","op":{"op":"set","path":"/b","value":true},"q":1,"s":["alice",1,1]} => {"m":"armed","q":1,"r":1,"s":["alice",1,1],"z":3}
-4000 {"m":"op","n":1,"op":{"op":"set","path":"/x","value":7},"q":1,"s":["bob",1,1]} => {"done":4,"m":"reply","n":1,"out":"wrote","q":1,"r":1,"s":["bob",1,1],"z":4}"#;
+4000 {"m":"op","n":1,"op":{"op":"set","path":"/x","value":7},"q":1,"s":["bob",1,1]} => {"done":4,"m":"reply","n":1,"out":"wrote","q":1,"r":1,"s":["bob",1,1],"z":4}
+keep => kept
+4000 {"m":"op","n":2,"op":{"expect":8,"op":"tx","path":"/x","value":9},"q":2,"s":["bob",1,1]} => {"done":5,"m":"reply","n":2,"out":{"stale":7},"q":2,"r":2,"s":["bob",1,1],"z":5}"#;
 
 // What is found afterwards.
-const RESTARTED: &str = r#"server => 4 entries, {"x":7}
-5000 restart alice => {"m":"gone","r":2,"s":["alice",1,1],"why":"restart","z":5}
-5000 restart bob => {"m":"gone","r":2,"s":["bob",1,1],"why":"restart","z":6}
-5000 restart alice => quiet
-5000 restart bob => quiet
-server => 6 entries, {"b":true,"x":7}"#;
+const RESTARTED: &str = r#"server => 5 entries, {"x":7}
+5000 restart alice => {"m":"gone","r":2,"s":["alice",1,1],"why":"restart","z":6}
+5000 restart bob => {"m":"gone","r":3,"s":["bob",1,1],"why":"restart","z":7}
+6000 {"m":"hello","s":["bob",1,2]} => {"m":"welcome","ops":2,"s":["bob",1,2],"z":8}
+6000 {"m":"op","n":2,"op":{"expect":8,"op":"tx","path":"/x","value":9},"q":1,"s":["bob",1,2]} => {"done":5,"m":"reply","n":2,"out":{"stale":7},"q":1,"r":1,"s":["bob",1,2],"z":9}
+server => 9 entries, {"b":true,"x":7}"#;
 
-// Each step over the keeper has to say what it must.
-fn check<K: Keeper>(rt: &impl Abort, alloc: Global, keeper: &mut K, lines: &str) {
-    for line in lines.lines() {
-        let (call, wanted) = line.split_once(" => ").expect(rt, "an answer");
-        expect_said(rt, call, step(rt, alloc, keeper, call), wanted);
-    }
-}
+// The answers of the checkpoint among the turns, and those with the next one's.
+const BEFORE: &str = r#"[["bob",4]], all"#;
+
+const AFTER: &str = r#"[["bob",4]], [["bob",[5,{"stale":7}]]], all"#;
 
 // The connection after the turns over new tables.
 fn turned<S: Alter + Drop>(
@@ -130,8 +132,10 @@ fn run<D: Disk + Drop>(rt: &impl Abort, alloc: Global, files: Files<D>) -> (File
     }
 }
 
-// How many batches are found in a database, whose server has to be the same.
+// How many batches are found in a database, whose answers are those before them, and whose server has
+// to be the same.
 fn found<S: Alter + Drop>(rt: &impl Abort, alloc: Global, connection: Connection<S>) -> usize {
+    let (connection, answers) = called(rt, alloc, connection, "answers");
     if !connection.is_autocommit() {
         panic!(rt; "a transaction is open");
     }
@@ -141,6 +145,7 @@ fn found<S: Alter + Drop>(rt: &impl Abort, alloc: Global, connection: Connection
             let batches = keeper.batches().expect(rt, "rows");
             let count = batches.len();
             drop(batches);
+            expect_text(rt, answers, if count > 0 { BEFORE } else { AFTER });
             check(rt, alloc, &mut keeper, RESTARTED);
             drop(keeper);
             count
@@ -195,7 +200,7 @@ struct Seen {
 // Counts the run. Where the checkpoint was answered to be kept, it is found.
 fn count(rt: &impl Abort, seen: &mut Seen, ran: Ran, batches: usize) {
     match batches {
-        4 if !ran.kept => seen.batches = seen.batches.saturating_add(1),
+        1 if !ran.kept => seen.batches = seen.batches.saturating_add(1),
         0 => seen.base = seen.base.saturating_add(1),
         _ => panic!(rt; "{batches} batches"),
     }

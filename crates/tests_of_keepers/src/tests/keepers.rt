@@ -2,7 +2,7 @@
 //! step and what it must say.
 
 use crate::tests::rows::called;
-use crate::tests::turns::step;
+use crate::tests::turns::{check, step};
 use crate::tests::words::{expect_said, expect_text, refused, run_sql, said};
 use pres_keeper::{Keeper, MemKeeper, Premise, Supposed};
 use pres_saved::SqlKeeper;
@@ -30,6 +30,25 @@ fn row<S: Alter + Drop>(
     let statement = "SELECT k, moment, body FROM batch WHERE k = ?1";
     let text = match connection.query_row(statement, params![number]) {
         Ok(row) => columns(rt, alloc, &row),
+        Err(_) => said(rt, alloc, "no row"),
+    };
+    (connection, text)
+}
+
+// The connection, and the row of answers with the number, as another program reads it.
+fn answer<S: Alter + Drop>(
+    rt: &impl Abort,
+    alloc: Global,
+    mut connection: Connection<S>,
+    number: &str,
+) -> (Connection<S>, String) {
+    let number: i64 = number.parse().expect(rt, "a number");
+    let statement = "SELECT body FROM answer WHERE i = ?1";
+    let text = match connection.query_row(statement, params![number]) {
+        Ok(row) => {
+            let body: String = row.get(0).expect(rt, "a text");
+            format!(in alloc; "({number}, {body})").expect(rt, "memory")
+        }
         Err(_) => said(rt, alloc, "no row"),
     };
     (connection, text)
@@ -88,8 +107,9 @@ fn stepped<S: Alter + Drop>(
 }
 
 // The connection after a step: `create`, `sql` and a statement of another program, which has the
-// database for itself, `row` and its number, `meta`, a call on the table (`open`, `append`,
-// `append_twice`, `append_none`, `load`, `each`, `checkpoint`, `base`), or a step of the keeper over it.
+// database for itself, `row` or `answer` and its number, `meta`, a call on the table (`open`, `append`,
+// `append_twice`, `append_none`, `load`, `each`, `checkpoint`, `base`, `answers`), or a step of the keeper
+// over it.
 fn after<S: Alter + Drop>(
     rt: &impl Abort,
     alloc: Global,
@@ -101,6 +121,7 @@ fn after<S: Alter + Drop>(
         "create" => created(rt, alloc, connection),
         "sql" => run_sql(rt, alloc, connection, rest),
         "row" => row(rt, alloc, connection, rest),
+        "answer" => answer(rt, alloc, connection, rest),
         "meta" => meta(rt, alloc, connection),
         "open"
         | "append"
@@ -109,7 +130,8 @@ fn after<S: Alter + Drop>(
         | "load"
         | "each"
         | "checkpoint"
-        | "base" => called(rt, alloc, connection, call),
+        | "base"
+        | "answers" => called(rt, alloc, connection, call),
         _ => stepped(rt, alloc, connection, call),
     }
 }
@@ -139,10 +161,7 @@ pub(crate) fn check_database(rt: &impl Abort, alloc: Global, lines: &str) {
 // The same over a keeper in memory.
 fn check_memory(rt: &impl Abort, alloc: Global, lines: &str) {
     let mut keeper = MemKeeper::new(alloc);
-    for line in lines.lines() {
-        let (call, wanted) = line.split_once(" => ").expect(rt, "an answer");
-        expect_said(rt, call, step(rt, alloc, &mut keeper, call), wanted);
-    }
+    check(rt, alloc, &mut keeper, lines);
 }
 
 const FAULTS: &str = r#"server => NotOurs
@@ -158,7 +177,7 @@ server => 2 entries, {"a":1}
 create => NotOurs
 sql UPDATE meta SET value = 9 WHERE name = 'format' => run
 server => Version
-sql UPDATE meta SET value = 2 WHERE name = 'format' => run
+sql UPDATE meta SET value = 3 WHERE name = 'format' => run
 sql INSERT INTO batch(k, moment, body) VALUES(3, 1000, '[') => run
 batches => BadRow 3
 server => BadRow 3
@@ -206,11 +225,12 @@ sql INSERT INTO batch(k, moment, body) VALUES(1, 1000, '[{"e":"open","s":["alice
 sql INSERT INTO batch(k, moment, body) VALUES(2, 1000, '[{"e":"op","n":1,"op":{"op":"set","path":"/a","value":1},"out":{"wrote":[["/a",1]]},"q":1,"s":["alice",1,1]}]') => run
 meta => 1
 batches => batches, 1 1000 [{"e":"open","s":["alice",1,1]}], 2 1000 [{"e":"op","n":1,"op":{"op":"set","path":"/a","value":1},"out":{"wrote":[["/a",1]]},"q":1,"s":["alice",1,1]}]
-meta => 2
+meta => 3
 base => no checkpoint
 server => 2 entries, {"a":1}
 keep => kept
-base => 2, 1000 {"clients":[{"id":"alice","last":[1,1],"rows":[[2,"wrote"]]}],"number":2,"sessions":[{"listens":[],"plan":[],"q":1,"r":1,"s":["alice",1,1]}],"tree":{"a":1}}
+answers => [["alice",2]], all
+base => 2, 1000 {"clients":[{"id":"alice","last":[1,1],"rows":[]}],"number":2,"sessions":[{"listens":[],"plan":[],"q":1,"r":1,"s":["alice",1,1]}],"tree":{"a":1}}
 row 1 => no row
 row 2 => no row
 batches => batches

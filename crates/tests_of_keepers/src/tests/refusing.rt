@@ -46,7 +46,7 @@ impl Refusing {
 }
 
 impl Keeper for Refusing {
-    ghost use Rattle.std.specs.Prelude.{◌≡◌, ⊤};
+    ghost use Rattle.std.specs.Prelude.{◌≡◌, ⊤, true};
     ghost use Rattle.std.proofs.Common.{ap};
     ghost use Rattle.pres_server.specs.BaseSums.{sum_for};
     ghost use Rattle.pres_server.specs.Histories.{begun_at, with_batches};
@@ -69,6 +69,8 @@ impl Keeper for Refusing {
     ghost leaves = { λ _ _ _. ⊤ };
 
     ghost may_find = { λ _ _. ⊥ };
+
+    ghost due = { λ _. true };
 
     ghost outlasts = { λ k history. BeginsWith history (whole k.kept) };
 
@@ -107,6 +109,10 @@ impl Keeper for Refusing {
 
     fn server(&mut self) -> Result<(Server, u64), SavedFault> {
         self.kept.server()
+    }
+
+    fn is_due(&self) -> bool {
+        true
     }
 }
 

@@ -2,7 +2,7 @@
 
 use crate::tests::keepers::check_database;
 use crate::tests::words::{expect_text, refused, said};
-use pres_batch_rows::{BatchTable, SavedCheckpoint, SavedRow, Take};
+use pres_batch_rows::{BatchTable, SavedCheckpoint, SavedRow, Take, TakeAnswer};
 use pres_faults::SavedFault;
 use pres_ids::{Count, Number};
 use pres_limits::MAX_SAFE_INTEGER;
@@ -23,10 +23,37 @@ fn listed(rt: &impl Abort, alloc: Global, rows: &[SavedRow]) -> String {
     text
 }
 
-// Takes rows until one says `stop`.
+// Takes rows, or answers, until one says `stop`.
 #[derive(Drop)]
 struct Until {
     taken: String,
+}
+
+impl Until {
+    fn add(&mut self, text: &str) -> Result<(), SavedFault> {
+        if text == "stop" {
+            return Err(SavedFault::Version);
+        }
+        self.taken.push_str(text)?;
+        self.taken.push_str(", ")?;
+        Ok(())
+    }
+
+    // What was taken, and how it ended.
+    fn text(
+        self,
+        rt: &impl Abort,
+        alloc: Global,
+        ended: Result<(), SavedFault>,
+    ) -> String {
+        let Until { mut taken } = self;
+        let end = match ended {
+            Ok(()) => said(rt, alloc, "all"),
+            Err(fault) => refused(rt, alloc, fault),
+        };
+        taken.push_str(end.as_str()).expect(rt, "memory");
+        taken
+    }
 }
 
 impl Take for Until {
@@ -37,12 +64,19 @@ impl Take for Until {
     ghost refuses = { λ _ _ _ _. ⊤ };
 
     fn take(&mut self, row: SavedRow) -> Result<(), SavedFault> {
-        if row.body.as_str() == "stop" {
-            return Err(SavedFault::Version);
-        }
-        self.taken.push_str(row.body.as_str())?;
-        self.taken.push_str(", ")?;
-        Ok(())
+        self.add(row.body.as_str())
+    }
+}
+
+impl TakeAnswer for Until {
+    ghost use Rattle.std.specs.Prelude.{⊤};
+
+    ghost takes = { λ _ _ _. ⊤ };
+
+    ghost refuses = { λ _ _ _ _. ⊤ };
+
+    fn take(&mut self, body: String) -> Result<(), SavedFault> {
+        self.add(body.as_str())
     }
 }
 
@@ -113,15 +147,20 @@ fn load<S: Alter + Drop>(rt: &impl Abort, alloc: Global, table: &mut BatchTable<
     }
 }
 
-// Puts a checkpoint with a moment and a text.
+// Puts a checkpoint with a moment and a text, and the answers that follow, each after ` + `.
 fn checkpoint<S: Alter + Drop>(
     rt: &impl Abort,
     alloc: Global,
     table: &mut BatchTable<S>,
     row: &str,
 ) -> String {
+    let (row, more) = row.split_once(" + ").unwrap_or((row, ""));
     let row = row_of(rt, alloc, row);
-    match table.checkpoint(row.moment, row.body.as_str()) {
+    let mut answers = Vec::new(alloc);
+    for answer in more.split(" + ").filter(|it| !it.is_empty()) {
+        answers.push(said(rt, alloc, answer)).expect(rt, "memory");
+    }
+    match table.checkpoint(row.moment, row.body.as_str(), answers.as_slice()) {
         Ok(()) => said(rt, alloc, "kept"),
         Err(fault) => refused(rt, alloc, fault),
     }
@@ -142,17 +181,22 @@ fn base<S: Alter + Drop>(rt: &impl Abort, alloc: Global, table: &mut BatchTable<
     }
 }
 
-// What was taken, and how it ended.
+// The rows that were taken, and how it ended.
 fn each<S: Alter + Drop>(rt: &impl Abort, alloc: Global, table: &mut BatchTable<S>) -> String {
     let mut until = Until {
         taken: String::new(alloc),
     };
-    let ended = match table.each(alloc, Count::zero(), &mut until) {
-        Ok(()) => said(rt, alloc, "all"),
-        Err(fault) => refused(rt, alloc, fault),
+    let ended = table.each(alloc, Count::zero(), &mut until);
+    until.text(rt, alloc, ended)
+}
+
+// The answers that were taken, and how it ended.
+fn answers<S: Alter + Drop>(rt: &impl Abort, alloc: Global, table: &mut BatchTable<S>) -> String {
+    let mut until = Until {
+        taken: String::new(alloc),
     };
-    until.taken.push_str(ended.as_str()).expect(rt, "memory");
-    until.taken
+    let ended = table.each_answer(alloc, &mut until);
+    until.text(rt, alloc, ended)
 }
 
 // What the table answers to the call.
@@ -172,6 +216,7 @@ fn answer<S: Alter + Drop>(
         "each" => each(rt, alloc, table),
         "checkpoint" => checkpoint(rt, alloc, table, rest),
         "base" => base(rt, alloc, table),
+        "answers" => answers(rt, alloc, table),
         _ => panic!(rt; "no such call"),
     }
 }
@@ -209,7 +254,7 @@ append 9007199254740991 stop => appended
 append 0 d => appended
 each => [{"e":"open","s":["alice",1,1]}], b, Version
 load => rows, 1000 [{"e":"open","s":["alice",1,1]}], 1000 b, 9007199254740991 stop, 0 d
-sql UPDATE meta SET value = 3 WHERE name = 'format' => run
+sql UPDATE meta SET value = 4 WHERE name = 'format' => run
 load => Version
 sql DELETE FROM meta => run
 load => NotOurs"#;
@@ -295,14 +340,81 @@ open => NotOurs
 meta => 1
 sql DROP TABLE checkpoint => run
 open => found
-meta => 2
+meta => 3
 load => rows, 1000 a, 1000 b
 base => no checkpoint
+answers => all
 append 1000 c => appended
-checkpoint 1000 x => kept
+checkpoint 1000 x + y => kept
 load => rows
+answers => y, all
 append 1000 d => appended
 row 4 => (4, 1000, d)"#;
+
+// The checkpoint of format 2 stays as it is, and so does the row after it.
+const FORMAT_TWO: &str =
+    r#"sql CREATE TABLE meta(name TEXT PRIMARY KEY, value INTEGER NOT NULL) => run
+sql CREATE TABLE batch(k INTEGER PRIMARY KEY, moment INTEGER NOT NULL, body TEXT NOT NULL) => run
+sql CREATE TABLE checkpoint(k INTEGER PRIMARY KEY, moment INTEGER NOT NULL, body TEXT NOT NULL) => run
+sql INSERT INTO meta(name, value) VALUES('format', 2) => run
+sql INSERT INTO checkpoint(k, moment, body) VALUES(2, 1000, 'x') => run
+sql INSERT INTO batch(k, moment, body) VALUES(3, 2000, 'c') => run
+sql CREATE TABLE answer(x INTEGER) => run
+open => NotOurs
+meta => 2
+sql DROP TABLE answer => run
+open => found
+meta => 3
+base => 2, 1000 x
+load => rows, 2000 c
+answers => all
+append 3000 d => appended
+row 4 => (4, 3000, d)
+checkpoint 3000 y + z => kept
+base => 4, 3000 y
+answers => z, all
+load => rows"#;
+
+// Each checkpoint adds its answers after those of the ones before it, which stay as they are.
+const ANSWERS: &str = r#"create => created
+answers => all
+append 1000 a => appended
+checkpoint 1000 x + one + two => kept
+answers => one, two, all
+answer 1 => (1, one)
+answer 2 => (2, two)
+checkpoint 1000 x => kept
+answers => one, two, all
+append 2000 b => appended
+checkpoint 2000 y + stop + four => kept
+answer 1 => (1, one)
+answer 2 => (2, two)
+answer 3 => (3, stop)
+answer 4 => (4, four)
+answer 5 => no row
+base => 2, 2000 y
+answers => one, two, Version
+sql UPDATE answer SET body = 'three' WHERE i = 3 => run
+answers => one, two, three, four, all
+sql UPDATE answer SET body = x'74' WHERE i = 3 => run
+answers => one, two, BadRow 0
+sql DELETE FROM answer WHERE i = 3 => run
+answers => one, two, BadRow 0
+sql UPDATE answer SET i = 3 WHERE i = 4 => run
+answers => one, two, four, all
+sql UPDATE answer SET i = 0 WHERE i = 3 => run
+answers => BadRow 0
+sql DELETE FROM answer WHERE i < 2 => run
+answers => BadRow 0
+sql DELETE FROM answer => run
+answers => all
+checkpoint 2000 z + five => kept
+answer 1 => (1, five)"#;
+
+#[test]
+fn each_checkpoint_adds_its_answers(rt: HostRuntime) {
+    check_database(&rt, rt.alloc(), ANSWERS);
+}
 
 #[test]
 fn a_checkpoint_takes_the_place_of_rows(rt: HostRuntime) {
@@ -310,8 +422,9 @@ fn a_checkpoint_takes_the_place_of_rows(rt: HostRuntime) {
 }
 
 #[test]
-fn format_one_becomes_format_two(rt: HostRuntime) {
+fn earlier_formats_become_format_three(rt: HostRuntime) {
     check_database(&rt, rt.alloc(), FORMAT_ONE);
+    check_database(&rt, rt.alloc(), FORMAT_TWO);
 }
 
 #[test]

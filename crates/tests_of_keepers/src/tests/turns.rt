@@ -1,6 +1,6 @@
 //! Turns whose batches are given to a keeper. Each makes its server of what the keeper holds.
 
-use crate::tests::words::{refused, said};
+use crate::tests::words::{expect_said, refused, said};
 use pres_batch_json::print_entries;
 use pres_faults::SavedFault;
 use pres_keeper::{Keeper, MemKeeper, Unsettled, settle};
@@ -253,8 +253,15 @@ fn replayed<K: Keeper>(rt: &impl Abort, alloc: Global, keeper: &mut K) -> String
     }
 }
 
+// Whether a checkpoint is due by what was kept since the last one.
+fn due_text<K: Keeper>(rt: &impl Abort, alloc: Global, keeper: &K) -> String {
+    let word = if keeper.is_due() { "due" } else { "not due" };
+    said(rt, alloc, word)
+}
+
 // What a step says: `stop` and a moment with an input, whose batch is kept but not done; a moment
-// with an input, which says its answers; `server`, `batches`, `again`, `group`, `keep` or `replay`.
+// with an input, which says its answers; `server`, `batches`, `again`, `group`, `keep`, `replay` or
+// `due`.
 pub(crate) fn step<K: Keeper>(
     rt: &impl Abort,
     alloc: Global,
@@ -271,6 +278,15 @@ pub(crate) fn step<K: Keeper>(
         "group" => grouped(rt, alloc, keeper),
         "keep" => kept(rt, alloc, keeper),
         "replay" => replayed(rt, alloc, keeper),
+        "due" => due_text(rt, alloc, keeper),
         _ => turn(rt, alloc, keeper, step, false),
+    }
+}
+
+/// Each step over the keeper has to say what it must.
+pub(crate) fn check<K: Keeper>(rt: &impl Abort, alloc: Global, keeper: &mut K, lines: &str) {
+    for line in lines.lines() {
+        let (call, wanted) = line.split_once(" => ").expect(rt, "an answer");
+        expect_said(rt, call, step(rt, alloc, keeper, call), wanted);
     }
 }

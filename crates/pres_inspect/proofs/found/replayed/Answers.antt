@@ -1,7 +1,6 @@
 use Rattle.std.proofs.Common.{ap, sym, ◌∙◌}
 use Rattle.std.proofs.lemmas.Result.{err_from_is_err_and}
 use Rattle.sqlite.specs.Held.{state}
-use Rattle.pres_keeper.specs.Keepers.{base_sum}
 use Rattle.pres_saved.specs.SqlKeepers.{readable_in}
 use Rattle.pres_inspect.specs.Copies.{checkpoint_in}
 use Rattle.pres_inspect.proofs.Finding.{read_whole}
@@ -23,13 +22,12 @@ returns-clause-held g c =
     let mid = state g.S.Store c.load_base.new.self.connection in
     let now = c.requires.honest c.load_base.new.self.connection in
     let end = c.requires.honest c.replay_since.new.self.connection in
-    let sum = base_sum c.in_ok-base.base in
     let it = c.in_ok-server.ensures.server in
     record {
       history = it.history;
       leads = it.leads;
       held = (
-        λ serves. read_whole old mid sum (c.in_ok-base.ensures.base now serves) (c.in_ok-base.ensures.same now serves) it.history it.held.0 (it.held.1 end (c.in_ok-base.ensures.serves serves)),
+        λ serves. read_whole old mid c.in_ok-base.base (c.in_ok-base.ensures.base now serves) (c.in_ok-base.ensures.same now serves) it.history it.held.0 (it.held.1 end (c.in_ok-base.ensures.serves serves)),
         c.of-checkpoint.ensures ∙ ap checkpoint_in (sym it.held.0),
       );
     }
