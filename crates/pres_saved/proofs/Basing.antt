@@ -1,5 +1,6 @@
 -- The base that the row of a checkpoint and the rows of answers save.
 use Rattle.std.proofs.Common.{◌≡◌, ℕ, ◌&&◌, nat_le, if◌then◌else◌, List, [], ◌∷◌, ◌++◌, map, Option, Some, None, Result, Ok, Err, option_map, refl, sym, ap, subst, ◌∙◌, inl, arith}
+use Rattle.std.specs.Result.{result_unwrap_or}
 use Rattle.std.specs.Option.{option_and_then, unwrap_or}
 use Rattle.std.specs.Str.{IsUtf8, is_utf8}
 use Rattle.std.proofs.lemmas.Option.{cond_some, same_Some}
@@ -29,9 +30,6 @@ use Rattle.pres_saved.proofs.Growing.{texts_grow, saved_again, beside_texts, kno
 pub mapped : {A B : Type 0} (f : A → B) (o : Option A) (b : B) → option_map f o ≡ Some b → (a : A) × (o ≡ Some a) × (f a ≡ b)
 mapped f None b e = absurd (cc)
 mapped f (Some a) b e = (a, refl, same_Some (f a) b e)
-
-pub same_ok : {A E : Type 0} (r : Result A E) (a b : A) → r ≡ Ok a → r ≡ Ok b → a ≡ b
-same_ok r a b is so = cc
 
 -- ---- its parts
 
@@ -113,6 +111,9 @@ saves_sum above sum row k new base answers later found history back is parts up 
     let told = front.told in
     let have = texts_grow above told new found back.base history back.is_base (up told front.texts) begins (subst (LeadsTo history) (sym back.has_sum) leads) back.answers in
     begun_back above sum row k told new later back is (more told front.texts) (saved_again above sum row told new back have)
+
+same_ok : (r : Result (List (List ℕ)) ℕ) (one other : List (List ℕ)) → r ≡ Ok one → r ≡ Ok other → one ≡ other
+same_ok r one other is so = ap (λ (x : Result (List (List ℕ)) ℕ). result_unwrap_or x one) (sym is ∙ so)
 
 -- what the tables know after it, whatever they held
 row_only : (k : ℕ) (row : RowContent) (saved : Option Base) → IsUtf8 row.body → saved_base (shown_row (stored k row) ∷ []) ≡ Some saved → saved ≡ Some (k, row)

@@ -1,197 +1,244 @@
--- What is read of a checkpoint and of the texts of answers beside it.
-use Rattle.std.proofs.Common.{◌≡◌, ◌∙◌, ◌⊎◌, inl, inr, ℕ, ◌<◌, Bool, true, false, List, [], ◌∷◌, ◌++◌, length, Option, Some, None, Result, Ok, Err, option_map, refl, sym, ap, subst, arith}
-use Rattle.std.specs.Option.{option_and_then}
-use Rattle.std.proofs.lemmas.Option.{same_Some, cond_some}
+-- A checkpoint and the texts of answers beside it, read one after the other.
+use Rattle.std.proofs.Common.{◌≡◌, ◌∙◌, ◌⊎◌, inl, inr, ℕ, ◌<◌, Bool, true, List, [], ◌∷◌, ◌++◌, length, Option, Some, None, Result, Ok, Err, option_map, refl, sym, ap, subst, arith}
+use Rattle.std.specs.Option.{option_and_then, IfSome}
+use Rattle.std.specs.Result.{result_unwrap_or}
+use Rattle.std.proofs.lemmas.Option.{same_Some}
 use Rattle.sqlite.specs.Order.{Row}
 use Rattle.pres_faults.specs.declared.saved_fault.SavedFault.{SavedFault}
-use Rattle.pres_faults.specs.declared.saved_fault.SavedFault.TheVariants.{Memory, Database, BadRow}
+use Rattle.pres_faults.specs.declared.saved_fault.SavedFault.TheVariants.{Memory, BadRow}
 use Rattle.pres_base.specs.declared.parts.BaseParts.{BaseParts}
 use Rattle.pres_base.specs.Bases.{IsBase}
 use Rattle.pres_base_json.specs.Reads.{with_one_null}
-use Rattle.pres_base_json.specs.Checks.{is_base, base_of_body}
-use Rattle.pres_base_json.specs.Apart.{Joining, begun, taken, all_taken, finished, with_texts, AreTextsOf}
-use Rattle.pres_base_json.proofs.Checks.{is_base_decides}
-use Rattle.pres_base_json.proofs.OneNull.{found_then}
+use Rattle.pres_base_json.specs.Checks.{base_of_body, is_base}
+use Rattle.pres_base_json.specs.Apart.{Joining, begun, taken, all_taken, finished, with_texts, base_of_texts}
 use Rattle.pres_base_json.proofs.Bodies.{read_from}
 use Rattle.pres_base_json.proofs.Joining.{readers_join, texts_have_answers}
+use Rattle.pres_base_json.proofs.OneNull.{found_then}
 use Rattle.pres_batch_rows.specs.RowContents.{saved_answer, saved_answers, answers_front}
-use Rattle.pres_batch_rows.specs.RowIteration.{TakesAll, GoesOverAnswers}
+use Rattle.pres_batch_rows.specs.RowIteration.{TakesAll, GoesOverAnswers, MeetsBad, IsRefused, StopsEarly}
 use Rattle.pres_batch_rows.specs.SavedCheckpoints.{Base, saved_base}
 use Rattle.pres_batch_rows.proofs.Loading.{front_all}
-use Rattle.pres_server.specs.BaseSums.{sum_for}
+use Rattle.pres_keeper.specs.Keepers.{IsOfStore, HoldsBase, base_sum}
 use Rattle.pres_server.proofs.BaseSums.{base_has_sum}
-use Rattle.pres_keeper.specs.Keepers.{HoldsBase, base_sum}
 use Rattle.pres_keeper.proofs.Nulls.{nothing_base}
 use Rattle.pres_saved.specs.SavedHistories.{parts_by, parts_with, saved_parts}
 use Rattle.pres_saved.specs.SqlKeepers.{number_up_to, AreUpTo}
 use Rattle.pres_saved.specs.AnswerReads.{Reading, reader_for, TakesText, RefusesText, finished_by, body_by, IsBody, IsFront, IsNoFront}
-use Rattle.pres_saved.proofs.Basing.{mapped, same_ok, of_front}
+use Rattle.pres_saved.proofs.Basing.{mapped, of_front}
 use Rattle.pres_saved.proofs.OneNull.{parts_have}
 use Rattle.pres_saved.proofs.TextNulls.{texts_keep}
 
--- ---- texts that are taken
+-- ---- texts that were taken
 
--- there is a text, or there was one
-abbrev pub some_text : List (List ℕ) → Bool → Bool
-some_text [] before = before
-some_text (text ∷ texts) before = true
+-- the reader took them all
+record Took (texts : List (List ℕ)) (j : Joining) (new : Reading) : Type 0 where
+  reader : Joining
+  now : new.reader ≡ Some reader
+  all : all_taken texts j ≡ Some reader
 
--- the reader after them
-pub record Took (texts : List (List ℕ)) (reader : Joining) (before : Bool) (new : Reading) : Type 0 where
-  pub last : Joining
-  pub is : new.reader ≡ Some last
-  pub all : all_taken texts reader ≡ Some last
-  pub has : new.has_taken ≡ some_text texts before
-
-some_true : (texts : List (List ℕ)) → some_text texts true ≡ true
-some_true [] = refl
-some_true (text ∷ texts) = refl
-
-pub took : (texts : List (List ℕ)) (reader : Joining) (before : Bool) (new : Reading) → TakesAll TakesText texts (record { reader = Some reader; has_taken = before }) new → Took texts reader before new
-took [] reader before new t = record { last = reader; is = ap (λ (x : Reading). x.reader) t; all = refl; has = ap (λ (x : Reading). x.has_taken) t }
-took (text ∷ texts) reader before new t =
-    let one = t.1 in
-    let same : one.reader ≡ reader = sym (same_Some reader one.reader one.before) in
-    let rest = took texts one.next true new (subst (λ (x : Reading). TakesAll TakesText texts x new) one.after t.2) in
+took : (texts : List (List ℕ)) (old new : Reading) (j : Joining) → old.reader ≡ Some j → TakesAll TakesText texts old new → Took texts j new
+took [] old new j e t = record { reader = j; now = ap (λ (r : Reading). r.reader) t ∙ e; all = refl }
+took (text ∷ texts) old new j e t =
+    let takes = t.1 in
+    let same : takes.reader ≡ j = same_Some takes.reader j (sym takes.before ∙ e) in
+    let rest = took texts t.0 new takes.next (ap (λ (r : Reading). r.reader) takes.after) t.2 in
     record {
-      last = rest.last;
-      is = rest.is;
-      all = ap (option_and_then (all_taken texts)) (ap (taken text) (sym same) ∙ one.takes) ∙ rest.all;
-      has = rest.has ∙ some_true texts;
+      reader = rest.reader;
+      now = rest.now;
+      all = ap (λ x. option_and_then (all_taken texts) (taken text x)) (sym same) ∙ ap (option_and_then (all_taken texts)) takes.takes ∙ rest.all;
     }
 
--- without a checkpoint none is taken
-none_taken : (texts : List (List ℕ)) (new : Reading) → TakesAll TakesText texts (reader_for None) new → (texts ≡ []) × (new ≡ reader_for None)
-none_taken [] new t = (refl, t)
-none_taken (text ∷ texts) new t = absurd (let e = t.1.before in cc)
+-- without a reader none is taken
+none_taken : (texts : List (List ℕ)) (old new : Reading) → old.reader ≡ None → TakesAll TakesText texts old new → (texts ≡ []) × (new ≡ old)
+none_taken [] old new e t = (refl, t)
+none_taken (text ∷ texts) old new e t = absurd (let is : None ≡ Some t.1.reader = sym e ∙ t.1.before in cc)
 
--- ---- what is made of them
+-- one at least was taken
+has_taken : (text : List ℕ) (texts : List (List ℕ)) (old new : Reading) → TakesAll TakesText (text ∷ texts) old new → new.has_taken ≡ true
+has_taken text [] old new t = ap (λ (r : Reading). r.has_taken) (t.2 ∙ t.1.after)
+has_taken text (next ∷ texts) old new t = has_taken next texts t.0 new t.2
 
--- the base of a reader that took texts, and what its texts made of the base that it began with
-pub made_of : (texts : List (List ℕ)) (p : BaseParts) (last : Joining) → IsBase p → all_taken texts (begun p) ≡ Some last → finished last ≡ with_texts texts p
-made_of texts p last is all = ap (option_and_then finished) (sym all) ∙ readers_join texts p is
+all_taken_more : (given rest : List (List ℕ)) (j k : Joining) → all_taken given j ≡ Some k → all_taken (given ++ rest) j ≡ all_taken rest k
+all_taken_more [] rest j k e = ap (all_taken rest) (same_Some j k e)
+all_taken_more (text ∷ given) rest j k e =
+    let next = found_then (all_taken given) (taken text j) k e in
+    ap (option_and_then (all_taken (given ++ rest))) next.1 ∙ all_taken_more given rest next.0 k next.2
 
-finished_base : (j : Joining) (q : BaseParts) → finished j ≡ Some q → IsBase q
-finished_base j q e = let it = cond_some (is_base j.parts) j.parts q e in (is_base_decides q).0 (ap is_base (sym it.1) ∙ it.0)
+-- ---- what they make of the base of a body
 
--- what holds of the base, whatever the tables hold
-pub front_holds : (body : Option BaseParts) (texts : List (List ℕ)) (new : Reading) (found : Option BaseParts) → ((p : BaseParts) → body ≡ Some p → IsBase p × (with_one_null p ≡ p)) → TakesAll TakesText texts (reader_for body) new → finished_by new.reader ≡ Some found
-    → HoldsBase (base_sum found)
-front_holds None texts new found good t e =
-    let none : None ≡ found = same_Some None found (sym (ap (λ (x : Reading). finished_by x.reader) (none_taken texts new t).1) ∙ e) in
-    subst (λ (o : Option BaseParts). HoldsBase (base_sum o)) none nothing_base
-front_holds (Some p) texts new found good t e =
-    let it = took texts (begun p) false new t in
-    let q = mapped Some (finished it.last) found (ap finished_by (sym it.is) ∙ e) in
-    let base = good p refl in
-    let joined : with_texts texts p ≡ Some q.0 = sym (made_of texts p it.last base.0 it.all) ∙ q.1 in
-    subst (λ (o : Option BaseParts). HoldsBase (base_sum o)) q.2
-    (record { sum = base_has_sum q.0 (finished_base it.last q.0 q.1); nulls = parts_have q.0 (texts_keep texts p q.0 base.1 joined) })
+-- what the texts make of the base
+joins : (texts : List (List ℕ)) (p : BaseParts) (k : Joining) → IsBase p → all_taken texts (begun p) ≡ Some k → with_texts texts p ≡ finished k
+joins texts p k is all = sym (readers_join texts p is) ∙ ap (option_and_then finished) all
 
--- ---- the tables
+-- a base that was read beside no checkpoint, or by the reader that began with the body
+record Finishes (texts : List (List ℕ)) (p : BaseParts) (found : Option BaseParts) : Type 0 where
+  made : BaseParts
+  is : Some made ≡ found
+  read : with_texts texts p ≡ Some made
 
--- the checkpoint of a body
-pub body_saved : (base : List Row) (body : Option BaseParts) → IsBody base body → (saved : Option Base) × (saved_base base ≡ Some saved) × (body_by saved ≡ Some body)
-body_saved base body e = found_then body_by (saved_base base) body e
+finishes : (texts : List (List ℕ)) (p : BaseParts) (new : Reading) (found : Option BaseParts) → IsBase p → TakesAll TakesText texts (reader_for (Some p)) new → finished_by new.reader ≡ Some found → Finishes texts p found
+finishes texts p new found is t e =
+    let k = took texts (reader_for (Some p)) new (begun p) refl t in
+    let done = mapped Some (finished k.reader) found (ap finished_by (sym k.now) ∙ e) in
+    record { made = done.0; is = done.2; read = joins texts p k.reader is k.all ∙ done.1 }
 
--- with texts that were taken it makes the base
-parts_made : (saved : Base) (p : BaseParts) (texts : List (List ℕ)) (last : Joining) → base_of_body saved.0 saved.1.moment saved.1.body ≡ Some p → all_taken texts (begun p) ≡ Some last → parts_by (Some saved) texts ≡ option_map Some (finished last)
-parts_made saved p texts last read all =
-    ap (λ o. option_map Some (option_and_then (with_texts texts) o)) read ∙ ap (option_map Some) (sym (made_of texts p last (read_from saved.0 saved.1.moment saved.1.body p read).base all))
+-- the checkpoint's base, and where it was read
+record Body (base : List Row) (body : Option BaseParts) : Type 0 where
+  saved : Option Base
+  there : saved_base base ≡ Some saved
+  read : body_by saved ≡ Some body
 
--- the parts of a body and texts that were taken, whether they make a base or not
-abbrev Makes : Option Base → Option BaseParts → List (List ℕ) → Reading → Type 0
-Makes saved body texts new = parts_by saved texts ≡ finished_by new.reader
+body_of : (base : List Row) (body : Option BaseParts) → IsBody base body → Body base body
+body_of base body e = let b = found_then body_by (saved_base base) body e in record { saved = b.0; there = b.1; read = b.2 }
 
-makes : (saved : Option Base) (body : Option BaseParts) (texts : List (List ℕ)) (new : Reading) → body_by saved ≡ Some body → TakesAll TakesText texts (reader_for body) new → Makes saved body texts new
-makes None body texts new e t =
-    let none : None ≡ body = same_Some None body e in
-    let it = none_taken texts new (subst (λ (o : Option BaseParts). TakesAll TakesText texts (reader_for o) new) (sym none) t) in
-    ap (parts_by None) it.0 ∙ sym (ap (λ (x : Reading). finished_by x.reader) it.1)
-makes (Some saved) body texts new e t =
-    let p = mapped Some (base_of_body saved.0 saved.1.moment saved.1.body) body e in
-    let it = took texts (begun p.0) false new (subst (λ (o : Option BaseParts). TakesAll TakesText texts (reader_for o) new) (sym p.2) t) in
-    parts_made saved p.0 texts it.last p.1 it.all ∙ sym (ap finished_by it.is)
+-- ---- all was read
 
--- up to which number the texts have all answers
-up_to_by : (saved : Option Base) (body found : Option BaseParts) (texts : List (List ℕ)) (new : Reading) → body_by saved ≡ Some body → TakesAll TakesText texts (reader_for body) new → finished_by new.reader ≡ Some found
-    → AreUpTo (number_up_to new.has_taken found) texts found
-up_to_by None body found texts new e t made =
-    let none : None ≡ body = same_Some None body e in
-    let it = none_taken texts new (subst (λ (o : Option BaseParts). TakesAll TakesText texts (reader_for o) new) (sym none) t) in
-    inl (ap (λ (x : Reading). number_up_to x.has_taken found) it.1, it.0)
-up_to_by (Some saved) body found texts new e t made =
-    let p = mapped Some (base_of_body saved.0 saved.1.moment saved.1.body) body e in
-    let it = took texts (begun p.0) false new (subst (λ (o : Option BaseParts). TakesAll TakesText texts (reader_for o) new) (sym p.2) t) in
-    let q = mapped Some (finished it.last) found (ap finished_by (sym it.is) ∙ made) in
-    let base = (read_from saved.0 saved.1.moment saved.1.body p.0 p.1).base in
-    let joined : with_texts texts p.0 ≡ Some q.0 = sym (made_of texts p.0 it.last base it.all) ∙ q.1 in
-    subst (λ b. AreUpTo (number_up_to b found) texts found) (sym it.has) (subst (λ (o : Option BaseParts). AreUpTo (number_up_to (some_text texts false) o) texts o) q.2 (by texts joined base))
+up_to : (texts : List (List ℕ)) (p : BaseParts) (found : Option BaseParts) (new : Reading) → IsBase p → TakesAll TakesText texts (reader_for (Some p)) new → Finishes texts p found → AreUpTo (number_up_to new.has_taken found) texts found
+up_to [] p found new is t done = inl (ap (λ (r : Reading). number_up_to r.has_taken found) t, refl)
+up_to (text ∷ texts) p found new is t done =
+    let m = done.made in
+    let number : number_up_to new.has_taken found ≡ m.number = (λ i. number_up_to (has_taken text texts (reader_for (Some p)) new t i) (sym done.is i)) in
+    inr (m, sym done.is, number, (texts_have_answers (text ∷ texts) p m is (omega arith) done.read).answers)
+
+same_texts : (answers : List Row) (one other : List (List ℕ)) → saved_answers answers ≡ Ok one → saved_answers answers ≡ Ok other → one ≡ other
+same_texts answers one other is so = ap (λ (r : Result (List (List ℕ)) ℕ). result_unwrap_or r one) (sym is ∙ so)
+
+-- the texts that were read are those that were taken
+front_when : (base answers : List Row) (found : Option BaseParts) (texts : List (List ℕ)) (new : Reading) → saved_parts base answers ≡ Some found → saved_answers answers ≡ Ok texts → AreUpTo (number_up_to new.has_taken found) texts found
+    → IsFront base answers found new.has_taken
+front_when base answers found texts new parts is up = record {
+  parts = parts;
+  up_to = λ others so. subst (λ all. AreUpTo (number_up_to new.has_taken found) all found) (same_texts answers texts others is so) up;
+}
+
+front_by : (base answers : List Row) (body found : Option BaseParts) (texts : List (List ℕ)) (new : Reading) (saved : Option Base) → saved_base base ≡ Some saved → body_by saved ≡ Some body → saved_answers answers ≡ Ok texts
+    → TakesAll TakesText texts (reader_for body) new → finished_by new.reader ≡ Some found → IsFront base answers found new.has_taken
+front_by base answers body found texts new None there read is t e =
+    let none : None ≡ body = same_Some None body read in
+    let took = none_taken texts (reader_for body) new (ap (option_map begun) (sym none)) t in
+    let reader : new.reader ≡ None = ap (λ (r : Reading). r.reader) took.1 ∙ ap (option_map begun) (sym none) in
+    let nothing : None ≡ found = same_Some None found (ap finished_by (sym reader) ∙ e) in
+    let parts = of_front base answers None texts found there is (ap (parts_by None) took.0 ∙ ap Some nothing) in
+    front_when base answers found texts new parts is
+    (inl (ap (λ (r : Reading). number_up_to r.has_taken found) took.1, took.0))
+front_by base answers body found texts new (Some saved) there read is t e =
+    let b = mapped Some (base_of_body saved.0 saved.1.moment saved.1.body) body read in
+    let p = b.0 in
+    let base_is = (read_from saved.0 saved.1.moment saved.1.body p b.1).base in
+    let taken : TakesAll TakesText texts (reader_for (Some p)) new = subst (λ o. TakesAll TakesText texts (reader_for o) new) (sym b.2) t in
+    let done = finishes texts p new found base_is taken e in
+    let made : parts_by (Some saved) texts ≡ Some found =
+    ap (λ o. option_map Some (option_and_then (with_texts texts) o)) b.1 ∙ ap (option_map Some) done.read ∙ ap Some done.is in
+    front_when base answers found texts new (of_front base answers (Some saved) texts found there is made) is (up_to texts p found new base_is taken done)
+
+pub front_found : (base answers : List Row) (body found : Option BaseParts) (texts : List (List ℕ)) (new : Reading) → IsBody base body → saved_answers answers ≡ Ok texts → TakesAll TakesText texts (reader_for body) new
+    → finished_by new.reader ≡ Some found → IsFront base answers found new.has_taken
+front_found base answers body found texts new read is t e = let b = body_of base body read in front_by base answers body found texts new b.saved b.there b.read is t e
+
+-- ---- something was refused
+
+-- the checkpoint isn't read
+pub no_checkpoint : (base answers : List Row) → saved_base base ≡ None → saved_parts base answers ≡ None
+no_checkpoint base answers none = ap (option_and_then (λ (saved : Option Base). parts_with saved (saved_answers answers))) none
+
+no_parts_with : (saved : Base) (r : Result (List (List ℕ)) ℕ) → base_of_body saved.0 saved.1.moment saved.1.body ≡ None → parts_with (Some saved) r ≡ None
+no_parts_with saved (Ok texts) none = ap (λ o. option_map Some (option_and_then (with_texts texts) o)) none
+no_parts_with saved (Err k) none = refl
+
+-- its body is that of no base
+pub no_body : (base answers : List Row) (saved : Base) → saved_base base ≡ Some (Some saved) → base_of_body saved.0 saved.1.moment saved.1.body ≡ None → saved_parts base answers ≡ None
+no_body base answers saved there none = ap (option_and_then (λ (saved : Option Base). parts_with saved (saved_answers answers))) there ∙ no_parts_with saved (saved_answers answers) none
+
+unread_by : (o : Option (Option Base)) (k : ℕ) → option_and_then (λ (saved : Option Base). parts_with saved (Err k)) o ≡ None
+unread_by None k = refl
+unread_by (Some saved) k = refl
+
+-- a row of the answers is bad
+no_answer : (base answers : List Row) (k : ℕ) → saved_answers answers ≡ Err k → saved_parts base answers ≡ None
+no_answer base answers k bad = ap (λ r. option_and_then (λ (saved : Option Base). parts_with saved r) (saved_base base)) bad ∙ unread_by (saved_base base) k
+
+-- the texts don't fit the base of the body
+no_join : (base answers : List Row) (saved : Base) (texts : List (List ℕ)) (p : BaseParts) → saved_base base ≡ Some (Some saved) → saved_answers answers ≡ Ok texts → base_of_body saved.0 saved.1.moment saved.1.body ≡ Some p → with_texts texts p ≡ None
+    → saved_parts base answers ≡ None
+no_join base answers saved texts p there is read none =
+    ap (option_and_then (λ (saved : Option Base). parts_with saved (saved_answers answers))) there ∙ ap (parts_with (Some saved)) is
+    ∙ ap (λ o. option_map Some (option_and_then (with_texts texts) o)) read ∙ ap (option_map Some) none
+
+some_answers : (given rest : List (List ℕ)) (row : List ℕ) → parts_by None (given ++ row ∷ rest) ≡ None
+some_answers [] rest row = refl
+some_answers (text ∷ given) rest row = refl
+
+-- a text was refused, after those before it were taken
+refused_by : (base answers : List Row) (body : Option BaseParts) (given rest : List (List ℕ)) (row : List ℕ) (mid : Reading) (saved : Option Base) → saved_base base ≡ Some saved → body_by saved ≡ Some body
+    → saved_answers answers ≡ Ok (given ++ row ∷ rest) → TakesAll TakesText given (reader_for body) mid → option_and_then (taken row) mid.reader ≡ None → saved_parts base answers ≡ None
+refused_by base answers body given rest row mid None there read is t none =
+    ap (option_and_then (λ (saved : Option Base). parts_with saved (saved_answers answers))) there ∙ ap (parts_with None) is ∙ some_answers given rest row
+refused_by base answers body given rest row mid (Some saved) there read is t none =
+    let b = mapped Some (base_of_body saved.0 saved.1.moment saved.1.body) body read in
+    let p = b.0 in
+    let base_is = (read_from saved.0 saved.1.moment saved.1.body p b.1).base in
+    let k = took given (reader_for (Some p)) mid (begun p) refl (subst (λ o. TakesAll TakesText given (reader_for o) mid) (sym b.2) t) in
+    let stop : taken row k.reader ≡ None = ap (option_and_then (taken row)) (sym k.now) ∙ none in
+    let all : all_taken (given ++ row ∷ rest) (begun p) ≡ None = all_taken_more given (row ∷ rest) (begun p) k.reader k.all ∙ ap (option_and_then (all_taken rest)) stop in
+    no_join base answers saved (given ++ row ∷ rest) p there is b.1 (sym (readers_join (given ++ row ∷ rest) p base_is) ∙ ap (option_and_then finished) all)
+
+-- what a refusal says, where the texts were read or not
+stopped_by : (base answers : List Row) (body : Option BaseParts) (given rest : List (List ℕ)) (row : List ℕ) (mid : Reading) (r : Result (List (List ℕ)) ℕ) → saved_answers answers ≡ r → answers_front answers ≡ given ++ row ∷ rest → IsBody base body
+    → TakesAll TakesText given (reader_for body) mid → option_and_then (taken row) mid.reader ≡ None → saved_parts base answers ≡ None
+stopped_by base answers body given rest row mid (Ok texts) is front read t none =
+    let b = body_of base body read in
+    let same : texts ≡ given ++ row ∷ rest = sym (front_all saved_answer 1 answers texts is) ∙ front in
+    refused_by base answers body given rest row mid b.saved b.there b.read (is ∙ ap Ok same) t none
+stopped_by base answers body given rest row mid (Err k) is front read t none = no_answer base answers k is
+
+-- no text more was read
+pub front_stopped : (base answers : List Row) (body : Option BaseParts) (new : Reading) (e : SavedFault) → IsBody base body → GoesOverAnswers TakesText RefusesText answers (reader_for body) new (Err e) → IsNoFront base answers e
+front_stopped base answers body new e read (inl bad) = inr (bad.why, no_answer base answers bad.k bad.bad)
+front_stopped base answers body new e read (inr (inr stops)) = inl stops.why
+front_stopped base answers body new e read (inr (inl refused)) = by refused.refused
   where
-    by : (texts : List (List ℕ)) {p q : BaseParts} → with_texts texts p ≡ Some q → IsBase p → AreUpTo (number_up_to (some_text texts false) (Some q)) texts (Some q)
-    by [] joined base = inl (refl, refl)
-    by (text ∷ texts) {p} {q} joined base = inr (q, refl, refl, (texts_have_answers (text ∷ texts) p q base (omega arith) joined).answers)
+    by : (e ≡ Memory) ⊎ ((e ≡ BadRow 0) × (option_and_then (taken refused.row) refused.mid.reader ≡ None)) → IsNoFront base answers e
+    by (inl memory) = inl (inl memory)
+    by (inr bad) = inr (bad.0, stopped_by base answers body refused.given refused.rest refused.row refused.mid (saved_answers answers) refl refused.parts read refused.taken bad.1)
 
-module _ (base answers : List Row) (body : Option BaseParts) (is : IsBody base body) where
-  -- the answers were taken one after another
-  abbrev Goes : Reading → Result (Unit {0}) SavedFault → Type 0
-  Goes new r = GoesOverAnswers TakesText RefusesText answers (reader_for body) new r
+some_none : {A P : Type 0} (a : A) → Some a ≡ None → P
+some_none a e = absurd (cc)
 
-  pub front_found : (new : Reading) (found : Option BaseParts) → Goes new (Ok tt) → finished_by new.reader ≡ Some found → IsFront base answers found new.has_taken
-  front_found new found (read, taking) made =
-      let there = body_saved base body is in
-      record {
-        parts = of_front base answers there.0 (answers_front answers) found there.1 read (makes there.0 body (answers_front answers) new there.2 taking ∙ made);
-        up_to = λ texts told.
-            let same : answers_front answers ≡ texts = same_ok (saved_answers answers) (answers_front answers) texts read told in
-            subst (λ l. AreUpTo (number_up_to new.has_taken found) l found) same (up_to_by there.0 body found (answers_front answers) new there.2 taking made);
-      }
+-- they make no base
+not_mapped : {A B : Type 0} (f : A → B) (o : Option A) → option_map f o ≡ None → o ≡ None
+not_mapped f None e = refl
+not_mapped f (Some a) e = absurd (cc)
 
-  -- none, where the texts make none
-  unmade : (told : List (List ℕ)) (saved : Option Base) → saved_base base ≡ Some saved → saved_answers answers ≡ Ok told → parts_by saved told ≡ None → saved_parts base answers ≡ None
-  unmade told saved there read none = ap (option_and_then (λ (saved : Option Base). parts_with saved (saved_answers answers))) there ∙ ap (parts_with saved) read ∙ none
+unfinished_by : (base answers : List Row) (body : Option BaseParts) (texts : List (List ℕ)) (new : Reading) (saved : Option Base) → saved_base base ≡ Some saved → body_by saved ≡ Some body → saved_answers answers ≡ Ok texts
+    → TakesAll TakesText texts (reader_for body) new → finished_by new.reader ≡ None → saved_parts base answers ≡ None
+unfinished_by base answers body texts new None there read is t e =
+    let none : None ≡ body = same_Some None body read in
+    let took = none_taken texts (reader_for body) new (ap (option_map begun) (sym none)) t in
+    let reader : new.reader ≡ None = ap (λ (r : Reading). r.reader) took.1 ∙ ap (option_map begun) (sym none) in
+    some_none None (ap finished_by (sym reader) ∙ e)
+unfinished_by base answers body texts new (Some saved) there read is t e =
+    let b = mapped Some (base_of_body saved.0 saved.1.moment saved.1.body) body read in
+    let p = b.0 in
+    let base_is = (read_from saved.0 saved.1.moment saved.1.body p b.1).base in
+    let k = took texts (reader_for (Some p)) new (begun p) refl (subst (λ o. TakesAll TakesText texts (reader_for o) new) (sym b.2) t) in
+    let none : finished k.reader ≡ None = not_mapped Some (finished k.reader) (ap finished_by (sym k.now) ∙ e) in
+    no_join base answers saved texts p there is b.1 (joins texts p k.reader base_is k.all ∙ none)
 
-  unread : (k : ℕ) → saved_answers answers ≡ Err k → saved_parts base answers ≡ None
-  unread k bad = let there = body_saved base body is in ap (option_and_then (λ (saved : Option Base). parts_with saved (saved_answers answers))) there.1 ∙ ap (parts_with there.0) bad
+pub front_unfinished : (base answers : List Row) (body : Option BaseParts) (texts : List (List ℕ)) (new : Reading) → IsBody base body → saved_answers answers ≡ Ok texts → TakesAll TakesText texts (reader_for body) new → finished_by new.reader ≡ None
+    → saved_parts base answers ≡ None
+front_unfinished base answers body texts new read is t e = let b = body_of base body read in unfinished_by base answers body texts new b.saved b.there b.read is t e
 
-  pub unfinished : (new : Reading) (e : SavedFault) → Goes new (Ok tt) → (e ≡ BadRow 0) × (finished_by new.reader ≡ None) → IsNoFront base answers e
-  unfinished new e (read, taking) bad =
-      let there = body_saved base body is in
-      inr (bad.0, unmade (answers_front answers) there.0 there.1 read (makes there.0 body (answers_front answers) new there.2 taking ∙ bad.1))
+-- ---- what holds of what was read, whatever the store gave
 
-  -- a text that is refused, after those before it
-  stopped : (saved : Option Base) (given rest : List (List ℕ)) (text : List ℕ) (mid : Reading) → body_by saved ≡ Some body → TakesAll TakesText given (reader_for body) mid → option_and_then (taken text) mid.reader ≡ None
-      → parts_by saved (given ++ text ∷ rest) ≡ None
-  stopped None [] rest text mid e t none = refl
-  stopped None (first ∷ given) rest text mid e t none = refl
-  stopped (Some saved) given rest text mid e t none =
-      let p = mapped Some (base_of_body saved.0 saved.1.moment saved.1.body) body e in
-      let it = took given (begun p.0) false mid (subst (λ (o : Option BaseParts). TakesAll TakesText given (reader_for o) mid) (sym p.2) t) in
-      let all : all_taken (given ++ text ∷ rest) (begun p.0) ≡ None =
-      further given (text ∷ rest) (begun p.0) it.last it.all ∙ ap (option_and_then (all_taken rest)) (ap (option_and_then (taken text)) (sym it.is) ∙ none) in
-      let base = (read_from saved.0 saved.1.moment saved.1.body p.0 p.1).base in
-      ap (λ o. option_map Some (option_and_then (with_texts (given ++ text ∷ rest)) o)) p.1
-      ∙ ap (option_map Some) (sym (readers_join (given ++ text ∷ rest) p.0 base) ∙ ap (option_and_then finished) all)
-    where
-      further : (given more : List (List ℕ)) (j last : Joining) → all_taken given j ≡ Some last → all_taken (given ++ more) j ≡ all_taken more last
-      further [] more j last e = ap (all_taken more) (same_Some j last e)
-      further (one ∷ given) more j last e =
-          let mid = found_then (all_taken given) (taken one j) last e in
-          ap (option_and_then (all_taken (given ++ more))) mid.1 ∙ further given more mid.0 last mid.2
+texts_base : (texts : List (List ℕ)) (p made : BaseParts) → IsBase p → with_texts texts p ≡ Some made → IsBase made
+texts_base [] p made is read = subst IsBase (same_Some p made read) is
+texts_base (text ∷ texts) p made is read = (texts_have_answers (text ∷ texts) p made is (omega arith) read).base
 
-  refused_by : (r : Result (List (List ℕ)) ℕ) → saved_answers answers ≡ r → (given rest : List (List ℕ)) (text : List ℕ) (mid : Reading) → answers_front answers ≡ given ++ text ∷ rest → TakesAll TakesText given (reader_for body) mid
-      → option_and_then (taken text) mid.reader ≡ None → saved_parts base answers ≡ None
-  refused_by (Err k) read given rest text mid parts t none = unread k read
-  refused_by (Ok told) read given rest text mid parts t none =
-      let there = body_saved base body is in
-      let all : told ≡ given ++ text ∷ rest = sym (front_all saved_answer 1 answers told read) ∙ parts in
-      unmade told there.0 there.1 read (ap (parts_by there.0) all ∙ stopped there.0 given rest text mid there.2 t none)
-
-  pub refused : (new : Reading) (e : SavedFault) → Goes new (Err e) → IsNoFront base answers e
-  refused new e (inl bad) = inr (bad.why, unread bad.k bad.bad)
-  refused new e (inr (inr early)) = inl early.why
-  refused new e (inr (inl it)) = by it.refused
-    where
-      by : RefusesText it.mid it.row e new → IsNoFront base answers e
-      by (inl memory) = inl (inl memory)
-      by (inr bad) = inr (bad.0, refused_by (saved_answers answers) refl it.given it.rest it.row it.mid it.parts it.taken bad.1)
+pub front_holds : (body found : Option BaseParts) (texts : List (List ℕ)) (new : Reading) → IfSome body IsBase → IfSome body (λ p. with_one_null p ≡ p) → TakesAll TakesText texts (reader_for body) new → finished_by new.reader ≡ Some found → HoldsBase (base_sum found)
+front_holds None found texts new is one t e =
+    let took = none_taken texts (reader_for None) new refl t in
+    subst (λ o. HoldsBase (base_sum o)) (same_Some None found (ap (λ (r : Reading). finished_by r.reader) (sym took.1) ∙ e)) nothing_base
+front_holds (Some p) found texts new is one t e =
+    let done = finishes texts p new found is t e in
+    let m = done.made in
+    subst (λ o. HoldsBase (base_sum o)) done.is (record { sum = base_has_sum m (texts_base texts p m is done.read); nulls = parts_have m (texts_keep texts p m one done.read) })

@@ -5,8 +5,6 @@ pub mod Committing
 pub mod Counted
 pub mod Fronts
 pub mod Growing
-pub mod Keeping
-pub mod Knowing
 pub mod OneNull
 pub mod Opening
 pub mod Outlasting

@@ -4,7 +4,6 @@ ghost use Rattle.std.specs.Prelude.{◌≡◌, ◌⊎◌, false, is_ok, Some, No
 ghost use Rattle.sqlite.specs.Held.{state};
 ghost use Rattle.sqlite.specs.State.{HasCleanDisk, IsUnchanged, Survives};
 ghost use Rattle.pres_faults.specs.declared.saved_fault.SavedFault.TheVariants.{Memory, BadRow};
-ghost use Rattle.pres_base.specs.Bases.{IsBase};
 ghost use Rattle.pres_base_json.specs.Reads.{with_one_null};
 ghost use Rattle.pres_base_json.specs.Checks.{base_of_body};
 ghost use Rattle.pres_batch_rows.specs.TableStates.{Serves, IsLeft};
@@ -133,7 +132,6 @@ fn read_body<S: Alter + Drop>(
     ensures found { HasCleanDisk (state S.Store table.new.connection) → Serves S.Store table.old
         → IfOk result (λ found. IsBody (shown_base (state S.Store table.old.connection)) found.0) }
     ensures nulls { IfOk result (λ found. IfSome found.0 (λ base. with_one_null base ≡ base)) }
-    ensures is_base { IfOk result (λ found. IfSome found.0 IsBase) }
     ensures refused { HasCleanDisk (state S.Store table.new.connection) → Serves S.Store table.old
         → IfErr result (IsNoFront (shown_base (state S.Store table.old.connection))
         (shown_answers (state S.Store table.old.connection))) }

@@ -405,8 +405,8 @@ impl<S: Alter + Drop> Keeper for SqlKeeper<S> {
         kept
     }
 
+    /// Refused as Database where what the keeper holds was never read: the server is made from that.
     fn checkpoint(&mut self, server: &Server) -> Result<(), SavedFault> {
-        // the server was made from what the keeper holds, so the answers were read
         let Some(above) = self.above else {
             return Err(SavedFault::Database);
         };

@@ -8,7 +8,6 @@ use Rattle.pres_batch_rows.proofs.Opening.{ok_so}
 use Rattle.pres_batch_rows.proofs.Progress.{nothing_more}
 use Rattle.pres_keeper.specs.Keepers.{IsUnread, base_sum}
 use Rattle.pres_saved.specs.SqlKeepers.{readable_in}
-use Rattle.pres_saved.proofs.Committing.{knows_left}
 use Rattle.pres_saved.proofs.Basing.{history_here, readable_here}
 use Rattle.pres_saved.proofs.Refused.{base_unread}
 use Rattle.pres_saved.proofs.sql.SqlKeeper.load.Goals as goal
@@ -58,8 +57,3 @@ returns-clause-shut g c = λ serves was.
 pub returns-clause-crash : goal.returns-clause-crash
 returns-clause-crash g c =
     nothing_more (state g.S.Store c.args.self.now.connection) (state g.S.Store c.load_base.new.self.connection) (state g.S.Store c.load_since.new.self.connection) c.load_base.ensures.crash c.load_since.ensures.crash
-
-pub returns-clause-knows : goal.returns-clause-knows
-returns-clause-knows g c = λ serves knows.
-    let it = c.in_ok-base.ensures in
-    knows_left g.S.Store c.load_base.new.self c.load_since.new.self (λ clean. c.load_since.ensures.left clean (it.serves serves)) c.load_since.ensures.crash c.load_since.ensures.above (it.knows serves knows)
